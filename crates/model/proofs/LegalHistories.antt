@@ -1,0 +1,183 @@
+-- What every legal history keeps, and that it determines its state.
+use Rattle.std.proofs.Common.{◌≡◌, ◌≢◌, ℕ, ◌<◌, ◌≤◌, ◌↔◌, Bool, true, false, cond, List, [], ◌∷◌, length, Contains, refl, sym, ap, subst, ◌∙◌, arith, inl, inr, ◌⊎◌}
+use Rattle.std.specs.Prelude.{nat_lt}
+use Rattle.std.specs.List.{AllByRecursion, filter}
+use Rattle.std.proofs.lemmas.Bool.{lt-ltb, ltb-true}
+use Rattle.model.specs.Block.{Block, IsReadAs, block_hash_of}
+use Rattle.model.specs.Chain.{Genesis, IsValidChain, NoneLonger, IsSelection, HaveDistinctHashes, immutable_length, immutable_part, live_blocks, BeginsWith}
+use Rattle.model.specs.History.{State, opening, live_of, Refusal, Known, Clash, Applies, Event, Arrive, Reply, Kept, Refused, OutOfMemory, Keeps, Step, Entry, IsRun, IsLegal, BringsBlock, IsKeptBy, length_with, length_from}
+use Rattle.model.proofs.Lists.{all_from_members, all_filter_narrower, nothing_contained, contains_first, contains_later, contains_cases}
+use Rattle.model.proofs.Chains.{begins_with_itself, begins_earlier}
+use Rattle.model.proofs.Selections.{one_selection, selection_valid, selection_longer, selection_not_shorter, selection_begins, selection_longest}
+use Rattle.model.proofs.BlockTexts.{one_block}
+
+-- ---- live blocks have distinct hashes
+
+pub narrower_distinct : (p q : Block → Bool) (bs : List Block) → ((b : Block) → q b ≡ true → p b ≡ true) → HaveDistinctHashes (filter p bs) → HaveDistinctHashes (filter q bs)
+narrower_distinct p q [] narrower distinct = tt
+narrower_distinct p q (x ∷ xs) narrower distinct = one (p x) (q x) (narrower x) distinct (narrower_distinct p q xs narrower)
+  where
+    one : (b c : Bool) → (c ≡ true → b ≡ true) → HaveDistinctHashes (cond b (x ∷ filter p xs) (filter p xs)) → (HaveDistinctHashes (filter p xs) → HaveDistinctHashes (filter q xs)) → HaveDistinctHashes (cond c (x ∷ filter q xs) (filter q xs))
+    one true true n d more = (all_filter_narrower (λ c. block_hash_of c ≢ block_hash_of x) p q xs narrower d.0, more d.1)
+    one true false n d more = more d.1
+    one false false n d more = more d
+    one false true n d more = absurd (let e : false ≡ true = n refl in cc)
+
+-- a block that is not refused has another hash than the live blocks
+new_hash : (genesis : Genesis) (s : State) (bytes : List ℕ) (b : Block) → IsReadAs b bytes → ((refusal : Refusal) → Applies genesis s bytes refusal → ⊥)
+    → AllByRecursion (λ c. block_hash_of c ≢ block_hash_of b) (live_of genesis s)
+new_hash genesis s bytes b spelled not_refused =
+    all_from_members (λ c. block_hash_of c ≢ block_hash_of b) (live_of genesis s)
+    (λ c member same. not_refused Clash (b, spelled, (c, inl member, same, λ text. not_refused Known (c, member, text))))
+
+-- with a block that is not refused the live blocks have distinct hashes still
+pub distinct_with : (genesis : Genesis) (s : State) (bytes : List ℕ) (b : Block) → HaveDistinctHashes (live_of genesis s) → IsReadAs b bytes
+    → ((refusal : Refusal) → Applies genesis s bytes refusal → ⊥) → HaveDistinctHashes (live_blocks genesis (b ∷ s.kept) s.chain)
+distinct_with genesis s bytes b distinct spelled not_refused = with_test (nat_lt (immutable_length genesis s.chain) b.header.number)
+  where
+    with_test : (t : Bool) → HaveDistinctHashes (cond t (b ∷ live_of genesis s) (live_of genesis s))
+    with_test true = (new_hash genesis s bytes b spelled not_refused, distinct)
+    with_test false = distinct
+
+-- ---- what each step keeps
+
+-- a state as legal histories leave it
+pub record IsSound (genesis : Genesis) (s : State) : Type 0 where
+  pub valid : IsValidChain genesis s.chain
+  pub longest : NoneLonger genesis s.kept s.chain
+  pub distinct : HaveDistinctHashes (live_of genesis s)
+
+no_longer_than_nothing : (genesis : Genesis) → NoneLonger genesis [] []
+no_longer_than_nothing genesis [] candidate = omega arith
+no_longer_than_nothing genesis (b ∷ bs) candidate = absurd (nothing_contained b candidate.members.0)
+
+pub opening_sound : (genesis : Genesis) → IsSound genesis opening
+opening_sound genesis = record {
+  valid = record { linked = tt; sizes = tt; ledger = refl };
+  longest = no_longer_than_nothing genesis;
+  distinct = tt;
+}
+
+keeps_sound : (genesis : Genesis) (s : State) (bytes : List ℕ) (back added : ℕ) (t : State) → IsSound genesis s → Keeps genesis s bytes back added t → IsSound genesis t
+keeps_sound genesis s bytes back added t sound keeps =
+    let more = selection_not_shorter genesis t.kept s.chain t.chain keeps.selection in
+    let distinct : HaveDistinctHashes (live_blocks genesis t.kept s.chain) = subst (λ (bs : List Block). HaveDistinctHashes (live_blocks genesis bs s.chain)) (sym keeps.kept) (distinct_with genesis s bytes keeps.block sound.distinct keeps.read keeps.not_refused) in
+    record {
+      valid = selection_valid genesis t.kept s.chain t.chain sound.valid keeps.selection;
+      longest = selection_longest genesis t.kept s.chain t.chain keeps.selection;
+      distinct = narrower_distinct (λ b. nat_lt (immutable_length genesis s.chain) b.header.number) (λ b. nat_lt (immutable_length genesis t.chain) b.header.number) t.kept
+          (λ b passes. lt-ltb (immutable_length genesis s.chain) b.header.number (let past = ltb-true (immutable_length genesis t.chain) b.header.number passes in omega arith)) distinct;
+    }
+
+pub step_sound : (genesis : Genesis) (s : State) (event : Event) (reply : Reply) (t : State) → IsSound genesis s → Step genesis s event reply t → IsSound genesis t
+step_sound genesis s (Arrive bytes) (Kept back added) t sound step = keeps_sound genesis s bytes back added t sound step
+step_sound genesis s (Arrive bytes) (Refused refusal) t sound step = subst (IsSound genesis) (sym step.1) sound
+step_sound genesis s (Arrive bytes) OutOfMemory t sound step = subst (IsSound genesis) (sym step) sound
+
+pub run_sound : (genesis : Genesis) (s : State) (es : List Entry) (t : State) → IsSound genesis s → IsRun genesis s es t → IsSound genesis t
+run_sound genesis s [] t sound run = subst (IsSound genesis) (sym run) sound
+run_sound genesis s (e ∷ es) t sound run = run_sound genesis run.0 es t (step_sound genesis s e.event e.reply run.0 sound run.1) run.2
+
+pub legal_sound : (genesis : Genesis) (history : List Entry) (s : State) → IsLegal genesis history s → IsSound genesis s
+legal_sound genesis history s legal = run_sound genesis opening history s (opening_sound genesis) legal
+
+-- ---- a history determines its state
+
+keeps_one : (genesis : Genesis) (s : State) (bytes : List ℕ) (back added : ℕ) (t u : State) → IsSound genesis s → Keeps genesis s bytes back added t → Keeps genesis s bytes back added u → t ≡ u
+keeps_one genesis s bytes back added t u sound first second =
+    let blocks : first.block ≡ second.block = one_block first.block second.block bytes first.read.spelled second.read.spelled in
+    let kept : t.kept ≡ u.kept = first.kept ∙ (ap (λ (b : Block). b ∷ s.kept) blocks ∙ sym second.kept) in
+    let distinct : HaveDistinctHashes (live_blocks genesis u.kept s.chain) = subst (λ (bs : List Block). HaveDistinctHashes (live_blocks genesis bs s.chain)) (sym second.kept) (distinct_with genesis s bytes second.block sound.distinct second.read second.not_refused) in
+    let chain : t.chain ≡ u.chain = one_selection genesis u.kept s.chain t.chain u.chain distinct (subst (λ (bs : List Block). IsSelection genesis bs s.chain t.chain) kept first.selection) second.selection in
+    λ i. record { kept = kept i; chain = chain i }
+
+pub step_one : (genesis : Genesis) (s : State) (event : Event) (reply : Reply) (t u : State) → IsSound genesis s → Step genesis s event reply t → Step genesis s event reply u → t ≡ u
+step_one genesis s (Arrive bytes) (Kept back added) t u sound first second = keeps_one genesis s bytes back added t u sound first second
+step_one genesis s (Arrive bytes) (Refused refusal) t u sound first second = first.1 ∙ sym second.1
+step_one genesis s (Arrive bytes) OutOfMemory t u sound first second = first ∙ sym second
+
+pub run_one : (genesis : Genesis) (s : State) (es : List Entry) (t u : State) → IsSound genesis s → IsRun genesis s es t → IsRun genesis s es u → t ≡ u
+run_one genesis s [] t u sound first second = first ∙ sym second
+run_one genesis s (e ∷ es) t u sound first second =
+    let mids : second.0 ≡ first.0 = step_one genesis s e.event e.reply second.0 first.0 sound second.1 first.1 in
+    run_one genesis first.0 es t u (step_sound genesis s e.event e.reply first.0 sound first.1) first.2 (subst (λ (m : State). IsRun genesis m es u) mids second.2)
+
+-- ---- the kept blocks
+
+same_or_later : (genesis : Genesis) (s : State) (event : Event) (reply : Reply) (t : State) (b : Block) → Step genesis s event reply t → Contains s.kept b ⊎ BringsBlock event reply b → Contains t.kept b
+same_or_later genesis s (Arrive bytes) (Kept back added) t b step (inl member) = subst (λ (bs : List Block). Contains bs b) (sym step.kept) (contains_later step.block s.kept b member)
+same_or_later genesis s (Arrive bytes) (Kept back added) t b step (inr spelled) =
+    subst (λ (bs : List Block). Contains bs b) (sym step.kept) (subst (λ (c : Block). Contains (c ∷ s.kept) b) (one_block b step.block bytes spelled.spelled step.read.spelled) (contains_first b s.kept))
+same_or_later genesis s (Arrive bytes) (Refused refusal) t b step (inl member) = subst (λ (u : State). Contains u.kept b) (sym step.1) member
+same_or_later genesis s (Arrive bytes) (Refused refusal) t b step (inr never) = absurd never
+same_or_later genesis s (Arrive bytes) OutOfMemory t b step (inl member) = subst (λ (u : State). Contains u.kept b) (sym step) member
+same_or_later genesis s (Arrive bytes) OutOfMemory t b step (inr never) = absurd never
+
+pub kept_after : (genesis : Genesis) (s : State) (es : List Entry) (t : State) (b : Block) → IsRun genesis s es t → Contains s.kept b ⊎ IsKeptBy es b → Contains t.kept b
+kept_after genesis s [] t b run (inl member) = subst (λ (u : State). Contains u.kept b) (sym run) member
+kept_after genesis s [] t b run (inr never) = absurd never
+kept_after genesis s (e ∷ es) t b run (inl member) = kept_after genesis run.0 es t b run.2 (inl (same_or_later genesis s e.event e.reply run.0 b run.1 (inl member)))
+kept_after genesis s (e ∷ es) t b run (inr (inl brings)) = kept_after genesis run.0 es t b run.2 (inl (same_or_later genesis s e.event e.reply run.0 b run.1 (inr brings)))
+kept_after genesis s (e ∷ es) t b run (inr (inr later)) = kept_after genesis run.0 es t b run.2 (inr later)
+
+came_from : (genesis : Genesis) (s : State) (event : Event) (reply : Reply) (t : State) (b : Block) → Step genesis s event reply t → Contains t.kept b → Contains s.kept b ⊎ BringsBlock event reply b
+came_from genesis s (Arrive bytes) (Kept back added) t b step member =
+    elim (contains_cases step.block s.kept b (subst (λ (bs : List Block). Contains bs b) step.kept member)) [
+      | inl is ↦ inr (subst (λ (c : Block). IsReadAs c bytes) is step.read)
+      | inr later ↦ inl later
+    ]
+came_from genesis s (Arrive bytes) (Refused refusal) t b step member = inl (subst (λ (u : State). Contains u.kept b) step.1 member)
+came_from genesis s (Arrive bytes) OutOfMemory t b step member = inl (subst (λ (u : State). Contains u.kept b) step member)
+
+pub kept_before : (genesis : Genesis) (s : State) (es : List Entry) (t : State) (b : Block) → IsRun genesis s es t → Contains t.kept b → Contains s.kept b ⊎ IsKeptBy es b
+kept_before genesis s [] t b run member = inl (subst (λ (u : State). Contains u.kept b) run member)
+kept_before genesis s (e ∷ es) t b run member =
+    elim (kept_before genesis run.0 es t b run.2 member) [
+      | inl before ↦ elim (came_from genesis s e.event e.reply run.0 b run.1 before) [ inl old ↦ inl old | inr brings ↦ inr (inl brings) ]
+      | inr later ↦ inr (inr later)
+    ]
+
+pub kept_by_history : (genesis : Genesis) (history : List Entry) (s : State) (b : Block) → IsLegal genesis history s → Contains s.kept b ↔ IsKeptBy history b
+kept_by_history genesis history s b legal = (
+  λ member. elim (kept_before genesis opening history s b legal member) [ inl nothing ↦ absurd (nothing_contained b nothing) | inr by_history ↦ by_history ],
+  λ by_history. kept_after genesis opening history s b legal (inr by_history),
+)
+
+-- ---- lengths
+
+step_length : (genesis : Genesis) (s : State) (event : Event) (reply : Reply) (t : State) → Step genesis s event reply t → length t.chain ≡ length_with (length s.chain) reply
+step_length genesis s (Arrive bytes) (Kept back added) t step = let change = step.change in omega arith
+step_length genesis s (Arrive bytes) (Refused refusal) t step = ap (λ (u : State). length u.chain) step.1
+step_length genesis s (Arrive bytes) OutOfMemory t step = ap (λ (u : State). length u.chain) step
+
+pub run_length : (genesis : Genesis) (s : State) (es : List Entry) (t : State) → IsRun genesis s es t → length t.chain ≡ length_from (length s.chain) es
+run_length genesis s [] t run = ap (λ (u : State). length u.chain) run
+run_length genesis s (e ∷ es) t run = run_length genesis run.0 es t run.2 ∙ ap (λ n. length_from n es) (step_length genesis s e.event e.reply run.0 run.1)
+
+pub step_longer : (genesis : Genesis) (s : State) (event : Event) (reply : Reply) (t : State) → Step genesis s event reply t → (t.chain ≡ s.chain) ⊎ (length s.chain < length t.chain)
+step_longer genesis s (Arrive bytes) (Kept back added) t step = selection_longer genesis t.kept s.chain t.chain step.selection
+step_longer genesis s (Arrive bytes) (Refused refusal) t step = inl (ap (λ (u : State). u.chain) step.1)
+step_longer genesis s (Arrive bytes) OutOfMemory t step = inl (ap (λ (u : State). u.chain) step)
+
+-- ---- the immutable part
+
+-- how a later chain stands to an earlier one
+pub record GoesOn (genesis : Genesis) (old new : List Block) : Type 0 where
+  pub not_shorter : length old ≤ length new
+  pub begins : BeginsWith new (immutable_part genesis old)
+
+goes_on_itself : (genesis : Genesis) (chain : List Block) → GoesOn genesis chain chain
+goes_on_itself genesis chain = record { not_shorter = omega arith; begins = begins_with_itself genesis chain }
+
+pub step_goes_on : (genesis : Genesis) (s : State) (event : Event) (reply : Reply) (t : State) → Step genesis s event reply t → GoesOn genesis s.chain t.chain
+step_goes_on genesis s (Arrive bytes) (Kept back added) t step =
+    record { not_shorter = selection_not_shorter genesis t.kept s.chain t.chain step.selection; begins = selection_begins genesis t.kept s.chain t.chain step.selection }
+step_goes_on genesis s (Arrive bytes) (Refused refusal) t step = subst (λ (u : State). GoesOn genesis s.chain u.chain) (sym step.1) (goes_on_itself genesis s.chain)
+step_goes_on genesis s (Arrive bytes) OutOfMemory t step = subst (λ (u : State). GoesOn genesis s.chain u.chain) (sym step) (goes_on_itself genesis s.chain)
+
+pub run_goes_on : (genesis : Genesis) (s : State) (es : List Entry) (t : State) → IsRun genesis s es t → GoesOn genesis s.chain t.chain
+run_goes_on genesis s [] t run = subst (λ (u : State). GoesOn genesis s.chain u.chain) (sym run) (goes_on_itself genesis s.chain)
+run_goes_on genesis s (e ∷ es) t run =
+    let first = step_goes_on genesis s e.event e.reply run.0 run.1 in
+    let rest = run_goes_on genesis run.0 es t run.2 in
+    record { not_shorter = let a = first.not_shorter in let b = rest.not_shorter in omega arith; begins = begins_earlier genesis s.chain run.0.chain t.chain first.not_shorter first.begins rest.begins }

@@ -1,0 +1,14 @@
+pub mod Lists
+pub mod HeadLemmas
+pub mod ItemTexts
+pub mod Members
+pub mod ValueItems
+pub mod ScriptTexts
+pub mod TransactionTexts
+pub mod BlockTexts
+pub mod ExampleValues
+pub mod ExampleTexts
+pub mod Chains
+pub mod Selections
+pub mod Changes
+pub mod LegalHistories

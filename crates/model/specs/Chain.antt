@@ -1,0 +1,124 @@
+-- Valid chains, the immutable part, candidates and the selection rule (the Consensus and Storage Layer
+-- report, chain selection and the chain database).
+use Rattle.std.specs.Prelude.{◌≡◌, ◌≢◌, ℕ, ◌+◌, ◌-◌, ◌≤◌, ◌<◌, List, [], ◌∷◌, length, take, filter, nat_lt, Contains, Option, Some, None, IsSome, option_and_then, unwrap_or}
+use Rattle.std.specs.List.{AllByRecursion}
+use Rattle.std.specs.Ordering.{nat_cmp}
+use Rattle.std.specs.declared.cmp.Ordering.TheVariants.{Greater}
+use Rattle.std.specs.Cmp.Lexicographic.{slice_cmp}
+use Rattle.model.specs.Transaction.{Transaction, Input, Output}
+use Rattle.model.specs.Block.{Block, block_hash_of, body_size_of}
+
+-- what a network agrees on before its first block
+pub record Genesis : Type 0 where
+  pub security_parameter : ℕ  -- k: how many blocks of the selected chain may be left again
+  pub max_volatile : ℕ  -- how many live blocks are kept at most
+  pub max_body_size : ℕ  -- of a block's body, in bytes
+
+-- ---- the ledger of a chain
+
+-- the unspent outputs, each with the input that would spend it, and the fees so far
+pub record Ledger : Type 0 where
+  pub utxo : List (Input × Output)
+  pub fees : ℕ
+
+abbrev pub opening_ledger : Ledger
+opening_ledger = record { utxo = []; fees = 0 }
+
+-- the ledger after a body. There are no rules of transactions yet: none leaves a ledger
+abbrev pub ledger_after : Ledger → List Transaction → Option Ledger
+ledger_after ledger [] = Some ledger
+ledger_after ledger (t ∷ ts) = None
+
+abbrev pub ledger_from : Ledger → List Block → Option Ledger
+ledger_from ledger [] = Some ledger
+ledger_from ledger (b ∷ bs) = option_and_then (λ after. ledger_from after bs) (ledger_after ledger b.transactions)
+
+-- the ledger after all blocks of a chain, where none of them has a fault
+abbrev pub ledger_of : List Block → Option Ledger
+ledger_of chain = ledger_from opening_ledger chain
+
+-- ---- valid chains
+
+-- where a chain ends; genesis has number 0, slot 0 and no hash
+pub record Tip : Type 0 where
+  pub number : ℕ
+  pub slot : ℕ
+  pub hash : Option (List ℕ)
+
+abbrev pub genesis_tip : Tip
+genesis_tip = record { number = 0; slot = 0; hash = None }
+
+abbrev pub tip_at : Block → Tip
+tip_at b = record { number = b.header.number; slot = b.header.slot; hash = Some (block_hash_of b) }
+
+-- the block may come next: the next number, the hash of the block before, a later slot
+pub record Follows (tip : Tip) (b : Block) : Type 0 where
+  pub number : b.header.number ≡ tip.number + 1
+  pub previous : b.header.previous ≡ tip.hash
+  pub slot : tip.slot < b.header.slot
+
+-- each block follows the one before it, the first one the tip
+abbrev pub IsLinked : Tip → List Block → Type 0
+IsLinked tip [] = Unit {0}
+IsLinked tip (b ∷ bs) = Follows tip b × IsLinked (tip_at b) bs
+
+-- blocks that apply one after the other from genesis
+pub record IsValidChain (genesis : Genesis) (chain : List Block) : Type 0 where
+  pub linked : IsLinked genesis_tip chain
+  pub sizes : AllByRecursion (λ b. body_size_of b ≤ genesis.max_body_size) chain
+  pub ledger : IsSome (ledger_of chain)
+
+-- ---- selection
+
+-- how many blocks of a chain are never left again
+abbrev pub immutable_length : Genesis → List Block → ℕ
+immutable_length genesis chain = length chain - genesis.security_parameter
+
+-- a chain without its last k blocks, empty where it has at most k
+abbrev pub immutable_part : Genesis → List Block → List Block
+immutable_part genesis chain = take (immutable_length genesis chain) chain
+
+-- the blocks that may still come into a selected chain: those past the immutable part
+abbrev pub live_blocks : Genesis → List Block → List Block → List Block
+live_blocks genesis kept chain = filter (λ b. nat_lt (immutable_length genesis chain) b.header.number) kept
+
+-- no two blocks of the list have one hash
+abbrev pub HaveDistinctHashes : List Block → Type 0
+HaveDistinctHashes [] = Unit {0}
+HaveDistinctHashes (b ∷ bs) = AllByRecursion (λ c. block_hash_of c ≢ block_hash_of b) bs × HaveDistinctHashes bs
+
+-- the chain begins with this one
+abbrev pub BeginsWith : List Block → List Block → Type 0
+BeginsWith chain part = take (length part) chain ≡ part
+
+-- a valid chain of kept blocks through the immutable tip of the selected chain
+pub record IsCandidate (genesis : Genesis) (kept selected candidate : List Block) : Type 0 where
+  pub valid : IsValidChain genesis candidate
+  pub members : AllByRecursion (Contains kept) candidate
+  pub begins : BeginsWith candidate (immutable_part genesis selected)
+
+abbrev pub NoneLonger : Genesis → List Block → List Block → Type 0
+NoneLonger genesis kept selected =
+    (candidate : List Block) → IsCandidate genesis kept selected candidate → length candidate ≤ length selected
+
+-- where a chain ends that goes on from this tip
+abbrev pub tip_after : Tip → List Block → Tip
+tip_after tip [] = tip
+tip_after tip (b ∷ bs) = tip_after (tip_at b) bs
+
+-- the hash of the last block, and of genesis no bytes
+abbrev pub tip_hash : List Block → List ℕ
+tip_hash chain = unwrap_or (tip_after genesis_tip chain).hash []
+
+-- the longest candidate, and of several the one whose last block has the least hash, compared as bytes
+pub record IsChosen (genesis : Genesis) (kept selected chosen : List Block) : Type 0 where
+  pub candidate : IsCandidate genesis kept selected chosen
+  pub longer : length selected < length chosen
+  pub longest : (other : List Block) → IsCandidate genesis kept selected other → length other ≤ length chosen
+  pub least : (other : List Block) → IsCandidate genesis kept selected other → length other ≡ length chosen
+      → slice_cmp nat_cmp (tip_hash chosen) (tip_hash other) ≢ Greater
+
+-- the selection rule: the chain stays where no candidate is longer, and else becomes the chosen one
+pub data IsSelection (genesis : Genesis) (kept selected : List Block) : List Block → Type 0 where
+  Stays : NoneLonger genesis kept selected → IsSelection genesis kept selected selected
+  Changes : (chosen : List Block) → IsChosen genesis kept selected chosen → IsSelection genesis kept selected chosen

@@ -1,0 +1,140 @@
+-- Histories: which bytes arrived, what was answered, and what is then kept and selected (this project's
+-- own, over the Consensus and Storage Layer report's rules).
+use Rattle.std.specs.Prelude.{◌≡◌, ◌≢◌, ℕ, ◌+◌, ◌-◌, ◌≤◌, ◌<◌, ◌⊎◌, List, [], ◌∷◌, length, take, Contains}
+use Rattle.model.specs.Block.{Block, IsReadAs, block_text, block_hash_of, body_hash_of}
+use Rattle.model.specs.Chain.{Genesis, immutable_length, live_blocks, IsSelection}
+
+-- the blocks that were kept, the newest first, and the selected chain, its first block first
+pub record State : Type 0 where
+  pub kept : List Block
+  pub chain : List Block
+
+abbrev pub opening : State
+opening = record { kept = []; chain = [] }
+
+-- ---- refusals
+
+-- why bytes are refused, in the order in which the reasons are looked for
+pub data Refusal : Type 0 where
+  TooLarge : Refusal
+  Malformed : Refusal
+  BodyHashMismatch : Refusal
+  TooOld : Refusal
+  Known : Refusal
+  Clash : Refusal
+  VolatileFull : Refusal
+
+abbrev pub number_of : Refusal → ℕ
+number_of TooLarge = 1
+number_of Malformed = 2
+number_of BodyHashMismatch = 3
+number_of TooOld = 4
+number_of Known = 5
+number_of Clash = 6
+number_of VolatileFull = 7
+
+-- the bytes are read as a block that has this property
+abbrev pub IsBlockWith : List ℕ → (Block → Type 0) → Type 0
+IsBlockWith bytes P = (b : Block) × IsReadAs b bytes × P b
+
+abbrev pub live_of : Genesis → State → List Block
+live_of genesis s = live_blocks genesis s.kept s.chain
+
+-- the condition of each refusal
+abbrev pub Applies : Genesis → State → List ℕ → Refusal → Type 0
+Applies genesis s bytes TooLarge = 1048576 < length bytes
+Applies genesis s bytes Malformed = (b : Block) → IsReadAs b bytes → ⊥
+Applies genesis s bytes BodyHashMismatch = IsBlockWith bytes (λ b. b.header.body_hash ≢ body_hash_of b.transactions)
+Applies genesis s bytes TooOld = IsBlockWith bytes (λ b. b.header.number ≤ immutable_length genesis s.chain)
+Applies genesis s bytes Known = (b : Block) × Contains (live_of genesis s) b × (block_text b ≡ bytes)
+Applies genesis s bytes Clash = IsBlockWith bytes (λ b. (c : Block) × (Contains (live_of genesis s) c ⊎ Contains s.chain c) × (block_hash_of c ≡ block_hash_of b) × (block_text c ≢ bytes))
+Applies genesis s bytes VolatileFull = genesis.max_volatile ≤ length (live_of genesis s)
+
+-- the first refusal that applies
+pub record IsRefused (genesis : Genesis) (s : State) (bytes : List ℕ) (refusal : Refusal) : Type 0 where
+  pub applies : Applies genesis s bytes refusal
+  pub first : (other : Refusal) → number_of other < number_of refusal → Applies genesis s bytes other → ⊥
+
+-- ---- steps
+
+-- what comes to the node
+pub data Event : Type 0 where
+  Arrive : List ℕ → Event
+
+-- what it answers: that the block is kept, with how many blocks of the old chain were left and how many
+-- of the new one were put on; that the bytes are refused; or that memory ran out
+pub data Reply : Type 0 where
+  Kept : (back added : ℕ) → Reply
+  Refused : Refusal → Reply
+  OutOfMemory : Reply
+
+-- the length of the longest common beginning of two chains
+pub record IsCommonLength (old new : List Block) (n : ℕ) : Type 0 where
+  pub in_old : n ≤ length old
+  pub in_new : n ≤ length new
+  pub common : take n old ≡ take n new
+  pub longest : (m : ℕ) → m ≤ length old → m ≤ length new → take m old ≡ take m new → m ≤ n
+
+-- from the one chain to the other `back` blocks are left and `added` put on
+pub record IsChange (old new : List Block) (back added : ℕ) : Type 0 where
+  pub common : ℕ
+  pub is_common : IsCommonLength old new common
+  pub left : back + common ≡ length old
+  pub put_on : added + common ≡ length new
+
+-- the bytes are read as a block that is kept, and the chain is then selected anew
+pub record Keeps (genesis : Genesis) (s : State) (bytes : List ℕ) (back added : ℕ) (t : State) : Type 0 where
+  pub block : Block
+  pub read : IsReadAs block bytes
+  pub not_refused : (refusal : Refusal) → Applies genesis s bytes refusal → ⊥
+  pub kept : t.kept ≡ block ∷ s.kept
+  pub selection : IsSelection genesis t.kept s.chain t.chain
+  pub change : IsChange s.chain t.chain back added
+
+-- from one state an event may be answered so, and leave the other. What is refused changes nothing, nor
+-- does want of memory
+abbrev pub Step : Genesis → State → Event → Reply → State → Type 0
+Step genesis s (Arrive bytes) (Kept back added) t = Keeps genesis s bytes back added t
+Step genesis s (Arrive bytes) (Refused refusal) t = IsRefused genesis s bytes refusal × (t ≡ s)
+Step genesis s (Arrive bytes) OutOfMemory t = t ≡ s
+
+-- ---- histories
+
+-- an event and its reply
+pub record Entry : Type 0 where
+  pub event : Event
+  pub reply : Reply
+
+-- these events were answered so, one after the other
+abbrev pub IsRun : Genesis → State → List Entry → State → Type 0
+IsRun genesis s [] t = t ≡ s
+IsRun genesis s (e ∷ es) t = (mid : State) × Step genesis s e.event e.reply mid × IsRun genesis mid es t
+
+-- a history from the beginning, and the state that it leaves
+abbrev pub IsLegal : Genesis → List Entry → State → Type 0
+IsLegal genesis history s = IsRun genesis opening history s
+
+-- ---- what a history says by itself
+
+-- a block whose arrival was answered Kept
+abbrev pub BringsBlock : Event → Reply → Block → Type 0
+BringsBlock (Arrive bytes) (Kept back added) b = IsReadAs b bytes
+BringsBlock (Arrive bytes) (Refused refusal) b = ⊥
+BringsBlock (Arrive bytes) OutOfMemory b = ⊥
+
+abbrev pub IsKeptBy : List Entry → Block → Type 0
+IsKeptBy [] b = ⊥
+IsKeptBy (e ∷ es) b = BringsBlock e.event e.reply b ⊎ IsKeptBy es b
+
+-- the length of the selected chain, from the replies alone
+abbrev pub length_with : ℕ → Reply → ℕ
+length_with n (Kept back added) = n - back + added
+length_with n (Refused refusal) = n
+length_with n OutOfMemory = n
+
+abbrev pub length_from : ℕ → List Entry → ℕ
+length_from n [] = n
+length_from n (e ∷ es) = length_from (length_with n e.reply) es
+
+abbrev pub length_after : List Entry → ℕ
+length_after history = length_from 0 history

@@ -1,0 +1,9 @@
+pub mod Cbor
+pub mod Value
+pub mod Script
+pub mod Transaction
+pub mod Block
+pub mod Chain
+pub mod History
+pub mod Codes
+pub mod Examples

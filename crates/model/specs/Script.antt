@@ -1,0 +1,58 @@
+-- Native scripts (Shelley-MA, multi-signature and time locks).
+use Rattle.std.specs.Prelude.{◌≡◌, ℕ, List, [], ◌∷◌, length}
+use Rattle.sha2.specs.Sha256.{sha256}
+use Rattle.model.specs.Cbor.{Item, Items, Unsigned, Bytes, Array, NoItems, NextItem, array_of, text_of, Spells}
+
+mutual
+  -- what a transaction must show to satisfy the script: a signature by the key of this hash, all, one or
+  -- at least so many of these scripts, or an interval of validity that starts at the slot or later, or
+  -- that ends at it or before
+  pub data Script : Type 0 where
+    RequireSignature : List ℕ → Script
+    RequireAllOf : Scripts → Script
+    RequireAnyOf : Scripts → Script
+    RequireMOf : ℕ → Scripts → Script
+    RequireTimeStart : ℕ → Script
+    RequireTimeExpire : ℕ → Script
+
+  pub data Scripts : Type 0 where
+    NoScripts : Scripts
+    NextScript : Script → Scripts → Scripts
+
+-- the item of a script: an array of its kind, 0 to 5, and what the kind has
+abbrev mutual
+  pub item_of_script : Script → Item
+  item_of_script (RequireSignature hash) = array_of (Unsigned 0 ∷ Bytes hash ∷ [])
+  item_of_script (RequireAllOf ss) = array_of (Unsigned 1 ∷ Array (items_of_scripts ss) ∷ [])
+  item_of_script (RequireAnyOf ss) = array_of (Unsigned 2 ∷ Array (items_of_scripts ss) ∷ [])
+  item_of_script (RequireMOf n ss) = array_of (Unsigned 3 ∷ Unsigned n ∷ Array (items_of_scripts ss) ∷ [])
+  item_of_script (RequireTimeStart slot) = array_of (Unsigned 4 ∷ Unsigned slot ∷ [])
+  item_of_script (RequireTimeExpire slot) = array_of (Unsigned 5 ∷ Unsigned slot ∷ [])
+
+  pub items_of_scripts : Scripts → Items
+  items_of_scripts NoScripts = NoItems
+  items_of_scripts (NextScript s ss) = NextItem (item_of_script s) (items_of_scripts ss)
+
+-- each key hash has 32 bytes
+abbrev mutual
+  pub IsScript : Script → Type 0
+  IsScript (RequireSignature hash) = length hash ≡ 32
+  IsScript (RequireAllOf ss) = AreScripts ss
+  IsScript (RequireAnyOf ss) = AreScripts ss
+  IsScript (RequireMOf n ss) = AreScripts ss
+  IsScript (RequireTimeStart slot) = Unit {0}
+  IsScript (RequireTimeExpire slot) = Unit {0}
+
+  pub AreScripts : Scripts → Type 0
+  AreScripts NoScripts = Unit {0}
+  AreScripts (NextScript s ss) = IsScript s × AreScripts ss
+
+-- the bytes are the one text of the script
+pub record SpellsScript (script : Script) (bytes : List ℕ) : Type 0 where
+  pub shape : IsScript script
+  pub text : Spells (item_of_script script) bytes
+
+-- the hash of a script, which is also the policy that it governs: SHA-256 (FIPS 180-4) of a byte 0 and
+-- the script's text
+unfoldable pub script_hash_of : Script → List ℕ
+script_hash_of script = sha256 (0 ∷ text_of (item_of_script script))

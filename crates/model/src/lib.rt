@@ -1,0 +1,21 @@
+//! What the node means: the definitions that every other crate's promises are made of, and their laws.
+//!
+//! The definitions stand in `specs/`, over plain data alone (numbers, lists, options, records). A function
+//! here has no body: its contract is a law of the definitions, which is proved for every value.
+#![tactic(auto)]
+
+mod examples;
+mod histories;
+mod texts;
+
+pub use examples::{
+    lengths_of_later_blocks, no_texts, texts_of_first_blocks, texts_of_maps, texts_of_nested_items,
+    texts_of_numbers, texts_of_scripts,
+};
+pub use histories::{
+    change_counts, immutable_part_grows, kept_blocks, live_hashes_differ, one_selection, one_state,
+    selected_chain,
+};
+pub use texts::{
+    one_text_of_blocks, one_text_of_items, one_text_of_scripts, one_text_of_transactions,
+};
