@@ -53,7 +53,7 @@ one_change old new back added other_back other_added first second =
     (omega arith, omega arith)
 
 -- no change leaves more than k blocks
-pub change_bounded : (genesis : Genesis) (kept old new : List Block) (back added : ℕ) → IsSelection genesis kept old new → IsChange old new back added → back ≤ genesis.security_parameter
+pub change_bounded : (genesis : Genesis) (kept old new : List Block) (back added : ℕ) → IsSelection genesis kept old new → IsChange old new back added → back ≤ genesis.k
 change_bounded genesis kept old new back added selection change =
     let m = immutable_length genesis old in
     let begins : take m new ≡ take m old = ap (λ n. take n new) (sym (length_immutable genesis old)) ∙ selection_begins genesis kept old new selection in
@@ -93,7 +93,7 @@ pub step_no_more : (genesis : Genesis) (s : State) (event : Event) (back added :
 step_no_more genesis s event back added t b c step = change_no_more s.chain t.chain back added b c (change_of genesis s event back added t step).2
 
 pub step_bounded : (genesis : Genesis) (s : State) (event : Event) (back added : ℕ) (t : State) → Step genesis s event (Kept back added) t
-    → back ≤ genesis.security_parameter
+    → back ≤ genesis.k
 step_bounded genesis s event back added t step =
     let change = change_of genesis s event back added t step in change_bounded genesis change.0 s.chain t.chain back added change.1 change.2
 

@@ -1,5 +1,5 @@
 -- Facts about lists: membership under a cons and a filter, facts of each element, beginnings.
-use Rattle.std.proofs.Common.{◌≡◌, ℕ, zero, suc, ◌<◌, ◌≤◌, Bool, true, false, cond, List, [], ◌∷◌, length, get_or, take, drop, Contains, refl, ap, ◌∙◌, arith, inl, inr, ◌⊎◌}
+use Rattle.std.proofs.Common.{◌≡◌, ℕ, zero, suc, ◌<◌, ◌≤◌, Bool, true, false, cond, List, [], ◌∷◌, ◌++◌, length, get_or, take, drop, Contains, refl, ap, ◌∙◌, arith, inl, inr, ◌⊎◌}
 use Rattle.std.specs.List.{AllByRecursion, filter}
 use Rattle.std.proofs.lemmas.List.{length-take}
 use Rattle.std.proofs.lemmas.List.Elements.{All-from_recursion, All-contains}
@@ -11,10 +11,7 @@ all_of_member P xs x all member = All-contains P xs x (All-from_recursion P xs a
 -- what holds of the members holds of each element
 pub all_from_members : {X : Type 0} (P : X → Type 0) (xs : List X) → ((x : X) → Contains xs x → P x) → AllByRecursion P xs
 all_from_members P [] each = tt
-all_from_members P (x ∷ xs) each = (each x (0, omega arith, refl), all_from_members P xs (λ y member. each y (Contains-later x xs y member)))
-  where
-    Contains-later : {X : Type 0} (x : X) (xs : List X) (y : X) → Contains xs y → Contains (x ∷ xs) y
-    Contains-later x xs y member = (suc member.0, omega (arith, member.1), member.2)
+all_from_members P (x ∷ xs) each = (each x (0, omega arith, refl), all_from_members P xs (λ y member. each y (suc member.0, omega (arith, member.1), member.2)))
 
 pub all_weaker : {X : Type 0} (P Q : X → Type 0) (xs : List X) → ((x : X) → P x → Q x) → AllByRecursion P xs → AllByRecursion Q xs
 all_weaker P Q [] weaker all = tt
@@ -23,6 +20,19 @@ all_weaker P Q (x ∷ xs) weaker all = (weaker x all.0, all_weaker P Q xs weaker
 pub all_both : {X : Type 0} (P Q : X → Type 0) (xs : List X) → AllByRecursion P xs → AllByRecursion Q xs → AllByRecursion (λ x. P x × Q x) xs
 all_both P Q [] p q = tt
 all_both P Q (x ∷ xs) p q = ((p.0, q.0), all_both P Q xs p.1 q.1)
+
+pub all_take : {X : Type 0} (P : X → Type 0) (n : ℕ) (xs : List X) → AllByRecursion P xs → AllByRecursion P (take n xs)
+all_take P zero xs all = tt
+all_take P (suc n) [] all = tt
+all_take P (suc n) (x ∷ xs) all = (all.0, all_take P n xs all.1)
+
+pub all_append : {X : Type 0} (P : X → Type 0) (xs ys : List X) → AllByRecursion P xs → AllByRecursion P ys → AllByRecursion P (xs ++ ys)
+all_append P [] ys first second = second
+all_append P (x ∷ xs) ys first second = (first.0, all_append P xs ys first.1 second)
+
+pub all_push : {X : Type 0} (P : X → Type 0) (xs : List X) (x : X) → AllByRecursion P xs → P x → AllByRecursion P (xs ++ x ∷ [])
+all_push P [] y all one = (one, tt)
+all_push P (x ∷ xs) y all one = (all.0, all_push P xs y all.1 one)
 
 pub all_drop : {X : Type 0} (P : X → Type 0) (n : ℕ) (xs : List X) → AllByRecursion P xs → AllByRecursion P (drop n xs)
 all_drop P zero xs all = all
@@ -67,7 +77,3 @@ all_filter_narrower P p q (x ∷ xs) narrower all = one (p x) (q x) (narrower x)
     one true false n a more = more a.1
     one false false n a more = more a
     one false true n a more = absurd (let e : false ≡ true = n refl in cc)
-
--- one beginning within another
-pub same_beginning : {X : Type 0} (m : ℕ) (xs ys : List X) → m ≤ length ys → take m xs ≡ take m ys → m ≤ length xs
-same_beginning m xs ys below same = omega (arith, length-take m xs, length-take m ys, ap length same)

@@ -10,7 +10,7 @@ use Rattle.model.specs.Block.{Block, block_hash_of, body_size_of}
 
 -- what a network agrees on before its first block
 pub record Genesis : Type 0 where
-  pub security_parameter : ℕ  -- k: how many blocks of the selected chain may be left again
+  pub k : ℕ  -- how many blocks of the selected chain may be left again
   pub max_volatile : ℕ  -- how many live blocks are kept at most
   pub max_body_size : ℕ  -- of a block's body, in bytes
 
@@ -72,7 +72,7 @@ pub record IsValidChain (genesis : Genesis) (chain : List Block) : Type 0 where
 
 -- how many blocks of a chain are never left again
 abbrev pub immutable_length : Genesis → List Block → ℕ
-immutable_length genesis chain = length chain - genesis.security_parameter
+immutable_length genesis chain = length chain - genesis.k
 
 -- a chain without its last k blocks, empty where it has at most k
 abbrev pub immutable_part : Genesis → List Block → List Block

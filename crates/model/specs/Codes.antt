@@ -271,8 +271,8 @@ coded_block =
 abbrev pub coded_genesis : Coded Genesis
 coded_genesis =
     code_by (ℕ × (ℕ × ℕ)) (coded× coded_ℕ (coded× coded_ℕ coded_ℕ))
-    (λ g. (g.security_parameter, (g.max_volatile, g.max_body_size)))
-    (λ p. record { security_parameter = p.0; max_volatile = p.1.0; max_body_size = p.1.1 })
+    (λ g. (g.k, (g.max_volatile, g.max_body_size)))
+    (λ p. record { k = p.0; max_volatile = p.1.0; max_body_size = p.1.1 })
     (λ _. refl)
 
 -- the unspent outputs, and the fees so far

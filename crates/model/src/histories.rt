@@ -63,7 +63,7 @@ pub fn change_counts()
         → slice_get s.chain (length s.chain - back) ≡ Some b → slice_get t.chain (length t.chain - added) ≡ Some c → b ≢ c }
     // Never are more than k blocks left.
     ensures bounded { (genesis : Genesis) (s : State) (event : Event) (back added : ℕ) (t : State) → Step genesis s event (Kept back added) t
-        → back ≤ genesis.security_parameter }
+        → back ≤ genesis.k }
     // A chain that stays is answered with 0 and 0; one that changes has more put on than left.
     ensures told { (genesis : Genesis) (s : State) (event : Event) (back added : ℕ) (t : State) → Step genesis s event (Kept back added) t
         → ((t.chain ≡ s.chain) × (back ≡ 0) × (added ≡ 0)) ⊎ (back < added) }

@@ -1,0 +1,2 @@
+pub mod Major
+pub mod Reading

@@ -1,0 +1,79 @@
+//! Identifiers of transactions.
+
+ghost use Rattle.std.specs.Prelude.{◌≡◌, ◌<◌, ℕ, length, slice_index};
+ghost use Rattle.sha2.specs.Sha256.{sha256};
+
+use crate::digest;
+use crate::fault::IdentFault;
+use std::fmt;
+use std::str::FromStr;
+
+/// The identifier of a transaction: the SHA-256 digest of its body's text. Ordered as bytes.
+#[derive(Clone, Copy, Debug, PartialEq, Eq, PartialOrd, Ord, Hash)]
+pub struct TxId {
+    pub bytes: [u8; 32],
+    pub ghost sized: { length bytes ≡ 32 },
+    pub ghost fits: { (i : ℕ) → slice_index bytes i < 256 },
+}
+
+impl TxId {
+    /// The identifier with these bytes.
+    pub fn from_bytes(bytes: [u8; 32]) -> TxId
+        ensures { result.bytes ≡ bytes }
+    {
+        TxId { bytes }
+    }
+
+    /// The identifier of the transaction whose body has this text. Takes time in proportion to the text.
+    pub fn of_body(text: &[u8]) -> TxId
+        ensures { result.bytes ≡ sha256 text.now }
+    {
+        TxId::from_bytes(digest::digest_of(text))
+    }
+
+    /// The 32 bytes.
+    pub fn as_bytes(&self) -> &[u8; 32]
+        ensures { result.now ≡ self.now.bytes }
+    {
+        &self.bytes
+    }
+}
+
+impl TryFrom<&[u8]> for TxId {
+    ghost use Rattle.ident.specs.Bytes.{seen, sized};
+
+    type Error = IdentFault;
+
+    ghost try_from_gives = { λ bytes r. seen (λ id. id.bytes) r ≡ sized bytes.now };
+
+    /// The identifier with the bytes of this slice. Err `WrongLength` where they are not 32.
+    fn try_from(bytes: &[u8]) -> Result<TxId, IdentFault> {
+        Ok(TxId::from_bytes(digest::from_slice(bytes)?))
+    }
+}
+
+impl FromStr for TxId {
+    ghost use Rattle.ident.specs.Bytes.{seen, read_hex};
+
+    type Err = IdentFault;
+
+    ghost from_str_gives = { λ text r. seen (λ id. id.bytes) r ≡ read_hex text };
+
+    /// The identifier that 64 hexadecimal digits spell, in either case. Err, in this order: `OddDigits`, then
+    /// `WrongLength` with half the number of digits, then `NotADigit` with the first character that is none.
+    fn from_str(text: &str) -> Result<TxId, IdentFault> {
+        Ok(TxId::from_bytes(digest::from_hex(text)?))
+    }
+}
+
+impl fmt::Display for TxId {
+    ghost use Rattle.std.specs.Prelude.{Some};
+    ghost use Rattle.hex.specs.Hex.{encode_lower};
+
+    ghost output = { λ id. Some (encode_lower id.bytes) };
+
+    /// Writes the 64 lower case hexadecimal digits.
+    fn fmt<W: fmt::Write>(&self, f: &mut fmt::Formatter<W>) -> fmt::Result {
+        f.write_str(digest::hex_text(&self.bytes, &mut [0; 64]))
+    }
+}
