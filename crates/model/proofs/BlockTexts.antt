@@ -1,9 +1,9 @@
 -- Each block has one text, and no block's text begins another's.
-use Rattle.std.proofs.Common.{◌≡◌, ℕ, List, [], ◌∷◌, ◌++◌, map, Option, Some, None, refl, ap}
+use Rattle.std.proofs.Common.{◌≡◌, ℕ, List, [], ◌∷◌, ◌++◌, map, Option, Some, None, refl, ap, sym}
 use Rattle.std.specs.List.{AllByRecursion}
 use Rattle.model.specs.Cbor.{Item, Unsigned, Bytes, items_of, array_of}
 use Rattle.model.specs.Transaction.{Transaction, item_of_transaction, IsTransaction}
-use Rattle.model.specs.Block.{Header, Block, item_of_previous, item_of_header, item_of_transactions, item_of_block, IsBlock, SpellsBlock}
+use Rattle.model.specs.Block.{Header, Block, item_of_previous, item_of_header, item_of_transactions, item_of_block, IsBlock, SpellsBlock, block_text}
 use Rattle.model.proofs.ItemTexts.{one_item}
 use Rattle.model.proofs.Members.{unsigned_is, bytes_is, array_is, two_are, same_members}
 use Rattle.model.proofs.ScriptTexts.{spellings_apart}
@@ -51,3 +51,8 @@ pub blocks_apart : (a b : Block) (s t x y : List ℕ) → SpellsBlock a s → Sp
 blocks_apart a b s t x y p q e =
     let both = spellings_apart (item_of_block a) (item_of_block b) s t x y p.text q.text e in
     (same_block a b p.shape q.shape both.0, both.1)
+
+-- a block that the bytes spell has them as its text
+pub block_text_is : (b : Block) (bytes : List ℕ) → SpellsBlock b bytes → block_text b ≡ bytes
+unfolding block_text
+block_text_is b bytes spelled = sym spelled.text.spelled

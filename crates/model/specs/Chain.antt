@@ -1,6 +1,6 @@
 -- Valid chains, the immutable part, candidates and the selection rule (the Consensus and Storage Layer
 -- report, chain selection and the chain database).
-use Rattle.std.specs.Prelude.{◌≡◌, ◌≢◌, ℕ, ◌+◌, ◌-◌, ◌≤◌, ◌<◌, List, [], ◌∷◌, length, take, filter, nat_lt, Contains, Option, Some, None, IsSome, option_and_then, unwrap_or}
+use Rattle.std.specs.Prelude.{◌≡◌, ◌≢◌, ℕ, ◌+◌, ◌-◌, ◌≤◌, ◌<◌, List, [], ◌∷◌, length, take, filter, nat_lt, Contains, Option, Some, None, IsSome, option_and_then, unwrap_or, replicate}
 use Rattle.std.specs.List.{AllByRecursion}
 use Rattle.std.specs.Ordering.{nat_cmp}
 use Rattle.std.specs.declared.cmp.Ordering.TheVariants.{Greater}
@@ -109,6 +109,18 @@ tip_after tip (b ∷ bs) = tip_after (tip_at b) bs
 -- the hash of the last block, and of genesis no bytes
 abbrev pub tip_hash : List Block → List ℕ
 tip_hash chain = unwrap_or (tip_after genesis_tip chain).hash []
+
+-- a place on a chain: genesis is number 0 with a hash of 32 zero bytes
+pub record Point : Type 0 where
+  pub number : ℕ
+  pub hash : List ℕ
+
+-- where a chain ends, as a point
+abbrev pub point_of : List Block → Point
+point_of chain = record {
+  number = (tip_after genesis_tip chain).number;
+  hash = unwrap_or (tip_after genesis_tip chain).hash (replicate 32 0);
+}
 
 -- the longest candidate, and of several the one whose last block has the least hash, compared as bytes
 pub record IsChosen (genesis : Genesis) (kept selected chosen : List Block) : Type 0 where

@@ -1,0 +1,86 @@
+-- What reading and the block that was read promise, from what was read.
+use Rattle.std.proofs.Common.{◌≡◌, ℕ, suc, ◌≤◌, Bool, true, false, cond, nat_eq, List, [], ◌∷◌, ◌++◌, length, map, Some, None, refl, sym, ap, subst, ◌∙◌, arith}
+use Rattle.std.specs.Prelude.{◌≢◌, ◌↔◌, IsTrue}
+use Rattle.std.proofs.lemmas.Bool.{eqb-true, eq-eqb}
+use Rattle.std.proofs.lemmas.List.{length-append}
+use Rattle.sha2.specs.Sha256.{sha256}
+use Rattle.model.specs.Cbor.{head, text_of, items_of, items_count}
+use Rattle.model.specs.Transaction.{Transaction, item_of_transaction}
+use Rattle.model.specs.Block.{Header, Block, item_of_header, item_of_transactions, block_hash_of, body_hash_of, body_size_of}
+use Rattle.cbor.proofs.Steps.{IsBytes}
+use Rattle.block.specs.declared.header.Header as code
+use Rattle.block.specs.declared.block.Block.TheInside.{Inside}
+use Rattle.model.specs.Examples.{empty_block}
+use Rattle.block.specs.View.{header_of}
+use Rattle.block.specs.Reading.{block_at}
+use Rattle.block.specs.Read.{IsRead, IsMalformed, IsMismatched}
+use Rattle.block.specs.Held.{block_of, IsHeld}
+use Rattle.block.proofs.Blocks.{block_takes, no_block}
+
+-- ---- reading
+
+-- no block was read
+pub is_malformed : (bytes : List ℕ) → length bytes ≤ 1048576 → None ≡ block_at bytes → IsMalformed bytes
+is_malformed bytes size e = record { size = size; no_block = no_block bytes (sym e) }
+
+-- a block was read, and the digest of its body is what its header names
+pub is_read : (bytes : List ℕ) (header : Header) (digest body : List ℕ) → IsBytes bytes → length bytes ≤ 1048576 → Some (empty_block header) ≡ block_at bytes
+    → digest ≡ sha256 body → body ≡ text_of (item_of_transactions []) → digest ≡ header.body_hash → IsRead (empty_block header) bytes
+unfolding body_hash_of
+is_read bytes header digest body fits size read is spelled same =
+    record { read = block_takes bytes (empty_block header) fits (sym read); size = size; body = sym same ∙ is ∙ ap sha256 spelled }
+
+-- a block was read, and its header names another digest
+pub is_mismatched : (bytes : List ℕ) (header : Header) (digest body : List ℕ) → IsBytes bytes → length bytes ≤ 1048576 → Some (empty_block header) ≡ block_at bytes
+    → digest ≡ sha256 body → body ≡ text_of (item_of_transactions []) → digest ≢ header.body_hash → IsMismatched bytes
+unfolding body_hash_of
+is_mismatched bytes header digest body fits size read is spelled other =
+    record { size = size; block = empty_block header; read = block_takes bytes (empty_block header) fits (sym read); body = λ same. other (is ∙ ap sha256 spelled ∙ sym same) }
+
+-- what is kept of a block that was read
+pub is_held : (b : Inside) (header : code.Header) (bytes header_text body_text : List ℕ) → b.inner.value.header ≡ header → b.inner.value.bytes.items ≡ bytes
+    → b.inner.value.hash.bytes ≡ sha256 header_text → b.inner.value.body_size ≡ length body_text
+    → header_text ≡ text_of (item_of_header (header_of header)) → body_text ≡ text_of (item_of_transactions [])
+    → IsRead (empty_block (header_of header)) bytes → IsHeld b
+unfolding block_hash_of body_size_of
+is_held b header bytes header_text body_text same_header same_bytes hash size header_spelled body_spelled read =
+    let at_header = subst (λ (h : code.Header). IsRead (empty_block (header_of h)) bytes) (sym same_header) read in
+    record {
+      read = subst (λ (xs : List ℕ). IsRead (empty_block (header_of b.inner.value.header)) xs) (sym same_bytes) at_header;
+      hash = hash ∙ ap sha256 header_spelled ∙ ap (λ (h : code.Header). sha256 (text_of (item_of_header (header_of h)))) (sym same_header);
+      body_size = size ∙ ap length body_spelled;
+    }
+
+-- the bytes that are kept are those that were read
+pub read_held : (b : Inside) (bytes : List ℕ) → b.inner.value.bytes.items ≡ bytes → IsHeld b → IsRead (block_of b) bytes
+read_held b bytes same held = subst (IsRead (block_of b)) same held.read
+
+-- ---- the size of an empty body
+
+-- each form of a head has a byte
+some_byte : (p q r s : Bool) (a b c d e : ℕ) (u v w x : List ℕ) → 1 ≤ length (cond p (a ∷ []) (cond q (b ∷ u) (cond r (c ∷ v) (cond s (d ∷ w) (e ∷ x)))))
+some_byte true q r s a b c d e u v w x = omega arith
+some_byte false true r s a b c d e u v w x = omega arith
+some_byte false false true s a b c d e u v w x = omega arith
+some_byte false false false true a b c d e u v w x = omega arith
+some_byte false false false false a b c d e u v w x = omega arith
+
+-- a head has a byte
+head_some : (major n : ℕ) → 1 ≤ length (head major n)
+unfolding head
+head_some major n = search some_byte
+
+-- two texts, of which each has a byte, have two
+two_bytes : (a b c d : List ℕ) → 1 ≤ length a → 1 ≤ length b → length (a ++ ((b ++ c) ++ d)) ≡ 1 → ⊥
+two_bytes a b c d p q e = omega (arith, length-append a ((b ++ c) ++ d), length-append (b ++ c) d, length-append b c)
+
+-- only the body that holds no transaction has one byte
+one_byte : (ts : List Transaction) → length (text_of (item_of_transactions ts)) ≡ 1 → ts ≡ []
+one_byte [] e = refl
+one_byte (t ∷ ts) e = absurd (two_bytes _ _ _ _ (head_some 4 (suc (items_count (items_of (map item_of_transaction ts))))) (head_some 4 3) e)
+
+-- whether a body has one byte says whether it holds no transaction
+pub empty_by_size : (size : ℕ) (b : Block) → size ≡ body_size_of b → IsTrue (nat_eq size 1) ↔ (b.transactions ≡ [])
+unfolding body_size_of head
+empty_by_size size b e =
+    ((λ one. one_byte b.transactions (sym e ∙ eqb-true _ _ one)), (λ empty. eq-eqb _ _ (e ∙ ap (λ (ts : List Transaction). length (text_of (item_of_transactions ts))) empty)))

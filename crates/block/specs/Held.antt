@@ -1,0 +1,17 @@
+-- What a block of the code stands for, and what it keeps.
+use Rattle.std.specs.Prelude.{◌≡◌}
+use Rattle.model.specs.Block.{Block, block_hash_of, body_size_of}
+use Rattle.block.specs.declared.block.Block.TheInside.{Inside}
+use Rattle.model.specs.Examples.{empty_block}
+use Rattle.block.specs.View.{header_of}
+use Rattle.block.specs.Read.{IsRead}
+
+-- the block: its header and, as long as no transaction is read, none
+abbrev pub block_of : Inside → Block
+block_of b = empty_block (header_of b.inner.value.header)
+
+-- the bytes are read as the block, and what is kept beside them is computed from it
+pub record IsHeld (b : Inside) : Type 0 where
+  pub read : IsRead (block_of b) b.inner.value.bytes.items
+  pub hash : b.inner.value.hash.bytes ≡ block_hash_of (block_of b)
+  pub body_size : b.inner.value.body_size ≡ body_size_of (block_of b)

@@ -1,0 +1,5 @@
+pub mod View
+pub mod Reading
+pub mod Read
+pub mod Held
+pub mod Written

@@ -1,0 +1,31 @@
+-- What it means that bytes are read as a block, and each reason why they are not.
+use Rattle.std.specs.Prelude.{◌≡◌, ◌≢◌, ℕ, ◌≤◌, ◌<◌, List, length}
+use Rattle.model.specs.Block.{Block, IsReadAs, body_hash_of}
+use Rattle.block.specs.declared.fault.ReadFault.{ReadFault}
+use Rattle.block.specs.declared.fault.ReadFault.TheVariants.{TooLarge, Malformed, BodyHashMismatch, OutOfMemory}
+
+-- the bytes are read as this block: they spell it, they are not too many, and its body has the hash that
+-- its header names
+pub record IsRead (block : Block) (bytes : List ℕ) : Type 0 where
+  pub read : IsReadAs block bytes
+  pub size : length bytes ≤ 1048576
+  pub body : block.header.body_hash ≡ body_hash_of block.transactions
+
+-- the bytes spell no block
+pub record IsMalformed (bytes : List ℕ) : Type 0 where
+  pub size : length bytes ≤ 1048576
+  pub no_block : (b : Block) → IsReadAs b bytes → ⊥
+
+-- the bytes spell a block whose body has another hash than its header names
+pub record IsMismatched (bytes : List ℕ) : Type 0 where
+  pub size : length bytes ≤ 1048576
+  pub block : Block
+  pub read : IsReadAs block bytes
+  pub body : block.header.body_hash ≢ body_hash_of block.transactions
+
+-- when each fault comes: the first reason that applies, or want of memory
+abbrev pub IsReadFault : List ℕ → ReadFault → Type 0
+IsReadFault bytes TooLarge = 1048576 < length bytes
+IsReadFault bytes Malformed = IsMalformed bytes
+IsReadFault bytes BodyHashMismatch = IsMismatched bytes
+IsReadFault bytes OutOfMemory = Unit {0}

@@ -1,0 +1,9 @@
+-- Why a header has no text.
+use Rattle.model.specs.Block.{Header, IsHeader}
+use Rattle.block.specs.declared.fault.WriteFault.{WriteFault}
+use Rattle.block.specs.declared.fault.WriteFault.TheVariants.{OutOfRange, OutOfMemory}
+
+-- when each fault comes
+abbrev pub IsWriteFault : Header → WriteFault → Type 0
+IsWriteFault header OutOfRange = IsHeader header → ⊥
+IsWriteFault header OutOfMemory = Unit {0}

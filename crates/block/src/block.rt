@@ -1,0 +1,188 @@
+//! Blocks, as they are kept and shared.
+
+ghost use Rattle.std.specs.Prelude.{◌≡◌, ◌↔◌, [], length, option_map, IsTrue, IfOk, IfErr};
+ghost use Rattle.sha2.specs.Sha256.{sha256};
+ghost use Rattle.model.specs.Block.{block_hash_of, body_size_of};
+ghost use Rattle.block.specs.View.{bytes_of, header_of};
+ghost use Rattle.block.specs.Read.{IsRead, IsReadFault};
+
+use crate::fault::ReadFault;
+use crate::header::Header;
+use crate::reading;
+use crate::reading::Parts;
+use ident::{BlockHash, BodyHash, Point};
+use std::alloc::{AllocError, Global};
+use std::fmt;
+use std::marker::Model;
+use std::sync::Arc;
+
+/// The largest size of a block, in bytes.
+pub const MAX_BLOCK_SIZE: usize = 1_048_576;
+
+/// What the owners of a block share.
+#[derive(Drop)]
+struct Inner {
+    bytes: Vec<u8>,
+    hash: BlockHash,
+    header: Header,
+    body_size: usize,
+}
+
+/// A block that was read, with its bytes and its hash. The owners of a block share one allocation.
+#[derive(Drop)]
+pub struct Block {
+    inner: Arc<Inner>,
+}
+
+impl Model for Block {
+    ghost use Rattle.model.specs.Block as model;
+    ghost use Rattle.model.specs.Codes.{coded_block};
+
+    ghost Value = { model.Block };
+
+    ghost coded = { coded_block };
+
+    ghost use Rattle.block.specs.Held.{block_of, IsHeld};
+
+    ghost view = { block_of };
+
+    ghost invariant = { IsHeld };
+}
+
+impl Block {
+    /// The text of the block (RFC 8949, section 4.2.1), at most 1,048,576 bytes. Copies nothing.
+    pub fn bytes(&self) -> &[u8]
+        ensures { IsRead self.now result.now }
+    {
+        &self.inner.bytes
+    }
+
+    /// The hash of the block: the SHA-256 digest (FIPS 180-4) of its header's text. It was computed when
+    /// the block was read.
+    pub fn hash(&self) -> BlockHash
+        ensures { result.bytes ≡ block_hash_of self.now }
+    {
+        self.inner.hash
+    }
+
+    /// The header of the block.
+    pub fn header(&self) -> &Header
+        ensures { header_of result.now ≡ self.now.header }
+    {
+        &self.inner.header
+    }
+
+    /// How many blocks the chain has up to this one, below 2^63.
+    pub fn number(&self) -> u64
+        ensures { result ≡ self.now.header.number }
+    {
+        self.inner.header.number
+    }
+
+    /// The slot of time in which the block was made, below 2^63.
+    pub fn slot(&self) -> u64
+        ensures { result ≡ self.now.header.slot }
+    {
+        self.inner.header.slot
+    }
+
+    /// The hash of the block before, None for the first block of a chain.
+    pub fn previous(&self) -> Option<BlockHash>
+        ensures { option_map bytes_of result ≡ self.now.header.previous }
+    {
+        self.inner.header.previous
+    }
+
+    /// The size of the body's text, in bytes.
+    pub fn body_size(&self) -> usize
+        ensures { result ≡ body_size_of self.now }
+    {
+        self.inner.body_size
+    }
+
+    /// Whether the block has no transactions.
+    pub fn is_empty(&self) -> bool
+        ensures { IsTrue result ↔ (self.now.transactions ≡ []) }
+    {
+        self.body_size() == 1
+    }
+
+    /// The place of the block on its chain: its number and its hash.
+    pub fn point(&self) -> Point
+        ensures number { result.number ≡ self.now.header.number }
+        ensures hash { result.hash.bytes ≡ block_hash_of self.now }
+    {
+        Point {
+            number: self.number(),
+            hash: self.hash(),
+        }
+    }
+
+    /// One more owner of the block, in constant time and with no allocation. Err where 2^63 - 1 owners
+    /// are reached.
+    pub fn try_clone(&self) -> Result<Block, AllocError>
+        ensures { IfOk result (λ b. b ≡ self.now) }
+    {
+        let inner = Arc::try_clone(&self.inner)?;
+        Ok(Block { inner })
+    }
+}
+
+impl fmt::Debug for Block {
+    fn fmt<W: fmt::Write>(&self, f: &mut fmt::Formatter<W>) -> fmt::Result {
+        let header = self.header();
+        write!(f, "Block({header:?})")
+    }
+}
+
+/// Whether two body hashes are the same.
+fn is_same(a: &BodyHash, b: &BodyHash) -> bool
+    ensures { IsTrue result ↔ (a.now.bytes ≡ b.now.bytes) }
+{
+    a == b
+}
+
+/// What the owners of a block share, with a copy of its bytes.
+fn share(alloc: Global, bytes: &[u8], parts: &Parts<'_>) -> Result<Arc<Inner>, AllocError>
+    ensures header { IfOk result (λ inner. inner.value.header ≡ parts.now.header) }
+    ensures bytes { IfOk result (λ inner. inner.value.bytes.items ≡ bytes.now) }
+    ensures hash { IfOk result (λ inner. inner.value.hash.bytes ≡ sha256 parts.now.header_text.now) }
+    ensures body_size { IfOk result (λ inner. inner.value.body_size ≡ length parts.now.body_text.now) }
+{
+    let inner = Inner {
+        bytes: Vec::from_slice(alloc, bytes)?,
+        hash: BlockHash::of_header(parts.header_text),
+        header: parts.header,
+        body_size: parts.body_text.len(),
+    };
+    Ok(Arc::new(alloc, inner)?)
+}
+
+/// The block that the bytes spell (RFC 8949, section 4.2.1), with a copy of them. Else the first of these
+/// faults that applies:
+/// - TooLarge: there are more than 1,048,576 bytes;
+/// - Malformed: the bytes are the text of no block. As long as no transaction is read, the text of a block
+///   with transactions is Malformed too;
+/// - BodyHashMismatch: the header names another hash than the SHA-256 digest (FIPS 180-4) of the body's text;
+/// - OutOfMemory: one of two allocations fails, of which the larger has the size of the bytes.
+///
+/// The cost grows with the bytes: one digest of the body's text, and where the block is read one of the
+/// header's and one copy of the bytes.
+pub fn read(alloc: Global, bytes: &[u8]) -> Result<Block, ReadFault>
+    ensures ok { IfOk result (λ b. IsRead b bytes.now) }
+    ensures fault { IfErr result (λ e. IsReadFault bytes.now e) }
+{
+    if bytes.len() > MAX_BLOCK_SIZE {
+        return Err(ReadFault::TooLarge);
+    }
+    let Some(parts) = reading::parts_of(bytes) else {
+        return Err(ReadFault::Malformed);
+    };
+    if !is_same(&BodyHash::of_body(parts.body_text), &parts.header.body_hash) {
+        return Err(ReadFault::BodyHashMismatch);
+    }
+    let Ok(inner) = share(alloc, bytes, &parts) else {
+        return Err(ReadFault::OutOfMemory);
+    };
+    Ok(Block { inner })
+}

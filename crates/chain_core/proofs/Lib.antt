@@ -1,0 +1,10 @@
+pub mod Sets
+pub mod Candidates
+pub mod Growing
+pub mod Choosing
+pub mod Steps
+pub mod Tips
+pub mod Leasts
+pub mod Refusing
+pub mod Arriving
+pub mod Running

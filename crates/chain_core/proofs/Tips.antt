@@ -1,0 +1,23 @@
+-- The last block of a chain is where it ends.
+use Rattle.std.proofs.Common.{◌≡◌, suc, ◌-◌, List, [], ◌∷◌, length, Some, None, ap, ◌∙◌, arith}
+use Rattle.std.specs.Prelude.{slice_get, unwrap_or, replicate}
+use Rattle.model.specs.Block.{Block, block_hash_of}
+use Rattle.model.specs.Chain.{Tip, tip_at, tip_after, tip_hash, genesis_tip, point_of}
+
+some_same : {X : Type 0} (x y : X) → Some x ≡ Some y → x ≡ y
+some_same x y e = cc
+
+pub tip_of_last : (tip : Tip) (bs : List Block) (b : Block) → slice_get bs (length bs - 1) ≡ Some b → tip_after tip bs ≡ tip_at b
+tip_of_last tip [] b last = absurd (let e : None ≡ Some b = last in cc)
+tip_of_last tip (x ∷ []) b last = ap tip_at (some_same x b last)
+tip_of_last tip (x ∷ y ∷ ys) b last =
+    let step : suc (length (y ∷ ys) - 1) ≡ length (x ∷ y ∷ ys) - 1 = omega arith in
+    tip_of_last (tip_at x) (y ∷ ys) b (ap (slice_get (x ∷ y ∷ ys)) step ∙ last)
+
+-- the hash of a chain's last block
+pub tip_hash_of_last : (bs : List Block) (b : Block) → slice_get bs (length bs - 1) ≡ Some b → tip_hash bs ≡ block_hash_of b
+tip_hash_of_last bs b last = ap (λ (t : Tip). unwrap_or t.hash []) (tip_of_last genesis_tip bs b last)
+
+-- the point of a chain's last block
+pub point_of_last : (bs : List Block) (b : Block) → slice_get bs (length bs - 1) ≡ Some b → point_of bs ≡ record { number = b.header.number; hash = block_hash_of b }
+point_of_last bs b last = ap (λ (t : Tip). record { number = t.number; hash = unwrap_or t.hash (replicate 32 0) }) (tip_of_last genesis_tip bs b last)

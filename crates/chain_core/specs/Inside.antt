@@ -1,0 +1,10 @@
+-- What the fields of a core stand for.
+use Rattle.chain_core.specs.declared.node_core.Core.TheInside.{Inside}
+use Rattle.chain_core.specs.GenesisView.{told_genesis}
+use Rattle.chain_core.specs.Held.{Held, held_of, IsSound}
+
+abbrev pub held : Inside → Held
+held a = held_of (told_genesis a.genesis) a.kept.items a.chain.items
+
+abbrev pub IsSoundInside : Inside → Type 0
+IsSoundInside a = IsSound (told_genesis a.genesis) a.kept.items a.chain.items

@@ -1,0 +1,16 @@
+-- What the core says of a block that was read: a refusal, the first one that applies, or none.
+use Rattle.std.specs.Prelude.{◌≡◌, ◌≢◌, ℕ, List, Option, MatchOption}
+use Rattle.block.specs.Read.{IsRead}
+use Rattle.model.specs.Block.{Block, block_hash_of, block_text}
+use Rattle.model.specs.Chain.{Genesis}
+use Rattle.model.specs.History.{State, Refusal, Applies, IsRefused}
+
+-- the same hash, and another text
+abbrev pub IsClash : Block → Block → Type 0
+IsClash c b = (block_hash_of c ≡ block_hash_of b) × (block_text c ≢ block_text b)
+
+-- the answer of a state to the bytes of a block that was read
+abbrev pub IsJudged : Genesis → State → Block → Option Refusal → Type 0
+IsJudged genesis s b answer = (bytes : List ℕ) → IsRead b bytes → MatchOption answer
+    ((refusal : Refusal) → Applies genesis s bytes refusal → ⊥)
+    (IsRefused genesis s bytes)

@@ -1,0 +1,12 @@
+pub mod Held
+pub mod Forks
+pub mod TipView
+pub mod GenesisView
+pub mod ForksView
+pub mod RefusalView
+pub mod Judging
+pub mod Inside
+pub mod ReplyView
+pub mod PointView
+pub mod EventView
+pub mod Theorem

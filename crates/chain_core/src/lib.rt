@@ -1,0 +1,17 @@
+//! One event, one step: the node's chain, from the bytes of blocks in any order to the selected chain.
+#![tactic(auto)]
+
+mod arrival;
+mod event;
+mod fork;
+mod genesis;
+mod keeping;
+mod node_core;
+mod refusal;
+mod selection;
+mod tip;
+
+pub use arrival::{ArriveReply, Refusal};
+pub use event::{RawEvent, Reply};
+pub use genesis::Genesis;
+pub use node_core::Core;

@@ -1,0 +1,51 @@
+//! Where a chain ends.
+
+ghost use Rattle.std.specs.Prelude.{◌≡◌, ◌++◌};
+ghost use Rattle.model.specs.Chain.{tip_at, tip_after};
+ghost use Rattle.model.specs.Chain as chain;
+ghost use Rattle.chain_core.specs.TipView.{told_tip};
+
+use block::Block;
+use ident::BlockHash;
+
+/// Where a chain ends: the number, slot and hash of its last block, or 0, 0 and none.
+#[derive(Clone, Copy, Debug)]
+pub struct Tip {
+    pub number: u64,
+    pub slot: u64,
+    pub hash: Option<BlockHash>,
+}
+
+impl Tip {
+    /// The end of the chain without a block.
+    pub fn genesis() -> Tip
+        ensures { told_tip result ≡ chain.genesis_tip }
+    {
+        Tip {
+            number: 0,
+            slot: 0,
+            hash: None,
+        }
+    }
+
+    /// The end of a chain that ends in this block.
+    pub fn at(block: &Block) -> Tip
+        ensures { told_tip result ≡ tip_at block.now }
+    {
+        Tip {
+            number: block.number(),
+            slot: block.slot(),
+            hash: Some(block.hash()),
+        }
+    }
+
+    /// The end of a chain that goes on from here by these blocks.
+    pub fn after(self, blocks: &[Block]) -> Tip
+        ensures { told_tip result ≡ tip_after (told_tip self) blocks.now }
+    {
+        match blocks.last() {
+            Some(block) => Tip::at(block),
+            None => self,
+        }
+    }
+}

@@ -1,0 +1,31 @@
+//! Blocks without transactions, by their place on a chain.
+
+use block::{Header, empty_body_hash, read, write_empty};
+use ident::BlockHash;
+use std::alloc::Global;
+use std::test::Fail;
+
+/// A block's text, with what the next block has to know of it.
+#[derive(Drop)]
+pub struct Made {
+    pub text: Vec<u8>,
+    pub number: u64,
+    pub hash: BlockHash,
+}
+
+/// The block without transactions behind the parent, or the first one, in this slot.
+pub fn make(alloc: Global, parent: Option<&Made>, slot: u64) -> Result<Made, Fail> {
+    let (number, previous) = match parent {
+        Some(made) => (made.number.saturating_add(1), Some(made.hash)),
+        None => (1, None),
+    };
+    let header = Header {
+        number,
+        slot,
+        previous,
+        body_hash: empty_body_hash(),
+    };
+    let text = write_empty(alloc, &header)?;
+    let hash = read(alloc, &text)?.hash();
+    Ok(Made { text, number, hash })
+}

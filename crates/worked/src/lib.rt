@@ -1,0 +1,7 @@
+//! Worked examples that go through the whole node: each is a test, with what is to come out written by hand.
+#![tactic(auto)]
+
+#[cfg(test)]
+mod chain_tests;
+#[cfg(test)]
+mod fixture;
