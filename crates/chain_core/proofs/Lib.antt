@@ -8,3 +8,5 @@ pub mod Leasts
 pub mod Refusing
 pub mod Arriving
 pub mod Running
+pub mod Told
+pub mod Following

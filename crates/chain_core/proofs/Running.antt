@@ -4,6 +4,7 @@ use Rattle.std.proofs.lemmas.List.{take_more, length-take}
 use Rattle.model.specs.Chain.{Genesis}
 use Rattle.model.specs.History.{State, opening, Entry, Step, IsRun}
 use Rattle.model.proofs.LegalHistories.{legal_sound}
+use Rattle.model.proofs.Telling.{were_selected}
 use Rattle.chain_core.specs.declared.event.RawEvent.{RawEvent}
 use Rattle.chain_core.specs.declared.event.Reply.{Reply}
 use Rattle.chain_core.specs.EventView.{told_event, told_reply, history_of}
@@ -50,4 +51,4 @@ theorem_of genesis old events replies new opened ran =
     let from : Ran (opening_held genesis) events replies new = subst (λ (h : Held). Ran h events replies new) opened ran in
     let done = from opening (opening_stands genesis) in
     let sound = legal_sound genesis (history_of events replies) done.0 done.1 in
-    record { state = done.0; legal = done.1; stands = done.2; valid = sound.valid; longest = sound.longest }
+    record { state = done.0; legal = done.1; stands = done.2; valid = sound.valid; longest = sound.longest; told = were_selected genesis (history_of events replies) done.0 done.1 }

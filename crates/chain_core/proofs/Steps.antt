@@ -6,6 +6,7 @@ use Rattle.std.proofs.lemmas.Bool.{lt-ltb, ltb-true}
 use Rattle.std.proofs.lemmas.List.Elements.{Contains-append_left, Contains-push, Contains-push_cases, filter-append}
 use Rattle.model.specs.Block.{Block, IsReadAs, block_hash_of}
 use Rattle.model.specs.Chain.{Genesis, IsSelection, Stays, Changes, HaveDistinctHashes, immutable_length, live_blocks}
+use Rattle.model.specs.Follower.{Followers}
 use Rattle.model.specs.History.{State, opening, live_of, Refusal, TooLarge, Malformed, BodyHashMismatch, TooOld, Known, Clash, VolatileFull, Applies, IsRefused, Arrive, Kept, Refused, IsChange, Keeps, Step}
 use Rattle.model.proofs.Lists.{all_from_members, all_weaker, all_push, contains_first, contains_later, contains_cases, contains_filter}
 use Rattle.model.proofs.Selections.{selection_valid, selection_not_shorter}
@@ -23,28 +24,32 @@ pub record SameLive (genesis : Genesis) (chain kept other : List Block) : Type 0
 same_live_back : (genesis : Genesis) (chain kept other : List Block) → SameLive genesis chain kept other → SameLive genesis chain other kept
 same_live_back genesis chain kept other same = record { to = same.back; back = same.to; count = sym same.count }
 
+abbrev pub state_with : List Block → List Block → Followers → State
+state_with kept chain followers = record { kept = kept; chain = chain; followers = followers }
+
+-- no refusal looks at the followers
 abbrev pub state : List Block → List Block → State
-state kept chain = record { kept = kept; chain = chain }
+state kept chain = state_with kept chain []
 
 -- ---- refusals
 
-applies_over : (genesis : Genesis) (chain kept other : List Block) (bytes : List ℕ) (refusal : Refusal) → SameLive genesis chain kept other
-    → Applies genesis (state kept chain) bytes refusal → Applies genesis (state other chain) bytes refusal
-applies_over genesis chain kept other bytes TooLarge same applies = applies
-applies_over genesis chain kept other bytes Malformed same applies = applies
-applies_over genesis chain kept other bytes BodyHashMismatch same applies = applies
-applies_over genesis chain kept other bytes TooOld same applies = applies
-applies_over genesis chain kept other bytes Known same applies = (applies.0, same.to applies.0 applies.1, applies.2)
-applies_over genesis chain kept other bytes Clash same applies =
+applies_over : (genesis : Genesis) (chain kept other : List Block) (bytes : List ℕ) (refusal : Refusal) (f g : Followers) → SameLive genesis chain kept other
+    → Applies genesis (state_with kept chain f) bytes refusal → Applies genesis (state_with other chain g) bytes refusal
+applies_over genesis chain kept other bytes TooLarge f g same applies = applies
+applies_over genesis chain kept other bytes Malformed f g same applies = applies
+applies_over genesis chain kept other bytes BodyHashMismatch f g same applies = applies
+applies_over genesis chain kept other bytes TooOld f g same applies = applies
+applies_over genesis chain kept other bytes Known f g same applies = (applies.0, same.to applies.0 applies.1, applies.2)
+applies_over genesis chain kept other bytes Clash f g same applies =
     let c = applies.2 in
     (applies.0, applies.1, (c.0, elim c.1 [ inl live ↦ inl (same.to c.0 live) | inr in_chain ↦ inr in_chain ], c.2, c.3))
-applies_over genesis chain kept other bytes VolatileFull same applies = let count = same.count in let full : genesis.max_volatile ≤ length (live_blocks genesis kept chain) = applies in omega arith
+applies_over genesis chain kept other bytes VolatileFull f g same applies = let count = same.count in let full : genesis.max_volatile ≤ length (live_blocks genesis kept chain) = applies in omega arith
 
-pub refused_over : (genesis : Genesis) (chain kept other : List Block) (bytes : List ℕ) (refusal : Refusal) → SameLive genesis chain kept other
-    → IsRefused genesis (state kept chain) bytes refusal → IsRefused genesis (state other chain) bytes refusal
-refused_over genesis chain kept other bytes refusal same refused = record {
-  applies = applies_over genesis chain kept other bytes refusal same refused.applies;
-  first = λ q lower applies. refused.first q lower (applies_over genesis chain other kept bytes q (same_live_back genesis chain kept other same) applies);
+pub refused_over : (genesis : Genesis) (chain kept other : List Block) (bytes : List ℕ) (refusal : Refusal) (f g : Followers) → SameLive genesis chain kept other
+    → IsRefused genesis (state_with kept chain f) bytes refusal → IsRefused genesis (state_with other chain g) bytes refusal
+refused_over genesis chain kept other bytes refusal f g same refused = record {
+  applies = applies_over genesis chain kept other bytes refusal f g same refused.applies;
+  first = λ q lower applies. refused.first q lower (applies_over genesis chain other kept bytes q g f (same_live_back genesis chain kept other same) applies);
 }
 
 -- ---- a block that is kept
@@ -124,24 +129,24 @@ same_live_after genesis kept other old new b same longer distinct distinct_too =
 
 -- A block that is not refused is kept: the step of each state with the same live blocks, and what stands
 -- for the state after it.
-pub record KeptStep (genesis : Genesis) (kept chain : List Block) (b : Block) (bytes : List ℕ) (new : List Block) (back added : ℕ) (other : List Block) : Type 0 where
-  pub step : Keeps genesis (state other chain) bytes back added (state (b ∷ other) new)
+pub record KeptStep (genesis : Genesis) (kept chain : List Block) (b : Block) (bytes : List ℕ) (new : List Block) (back added : ℕ) (other : List Block) (followers : Followers) : Type 0 where
+  pub step : Keeps genesis (state_with other chain followers) bytes back added (state_with (b ∷ other) new followers)
   pub same : SameLive genesis new (kept ++ b ∷ []) (b ∷ other)
   pub chain_kept : AllByRecursion (Contains (b ∷ other)) new
 
-pub kept_step : (genesis : Genesis) (kept chain : List Block) (b : Block) (bytes : List ℕ) (new : List Block) (back added : ℕ) (other : List Block) → IsSound genesis kept chain
+pub kept_step : (genesis : Genesis) (kept chain : List Block) (b : Block) (bytes : List ℕ) (new : List Block) (back added : ℕ) (other : List Block) (followers : Followers) → IsSound genesis kept chain
     → SameLive genesis chain kept other → AllByRecursion (Contains other) chain → IsReadAs b bytes → ((refusal : Refusal) → Applies genesis (state kept chain) bytes refusal → ⊥)
-    → IsSelection genesis (kept ++ b ∷ []) chain new → IsChange chain new back added → KeptStep genesis kept chain b bytes new back added other
-kept_step genesis kept chain b bytes new back added other sound same chain_kept read not_refused selection change =
+    → IsSelection genesis (kept ++ b ∷ []) chain new → IsChange chain new back added → KeptStep genesis kept chain b bytes new back added other followers
+kept_step genesis kept chain b bytes new back added other followers sound same chain_kept read not_refused selection change =
     let all = kept ++ b ∷ [] in
     let in_all : AllByRecursion (Contains all) chain = all_weaker (Contains kept) (Contains all) chain (λ c member. Contains-append_left kept (b ∷ []) c member) sound.members in
     let in_others : AllByRecursion (Contains (b ∷ other)) chain = all_weaker (Contains other) (Contains (b ∷ other)) chain (λ c member. contains_later b other c member) chain_kept in
     let longer = selection_not_shorter genesis all chain new selection in
-    let refuses_none : (refusal : Refusal) → Applies genesis (state other chain) bytes refusal → ⊥ =
-    λ refusal applies. not_refused refusal (applies_over genesis chain other kept bytes refusal (same_live_back genesis chain kept other same) applies) in
+    let refuses_none : (refusal : Refusal) → Applies genesis (state_with other chain followers) bytes refusal → ⊥ =
+    λ refusal applies. not_refused refusal (applies_over genesis chain other kept bytes refusal followers [] (same_live_back genesis chain kept other same) applies) in
     let other_distinct : HaveDistinctHashes (live_blocks genesis other chain) =
     distinct_by_count (live_blocks genesis kept chain) (live_blocks genesis other chain) sound.distinct same.to same.back (let count = same.count in omega arith) in
-    let both_distinct : HaveDistinctHashes (live_blocks genesis (b ∷ other) chain) = distinct_with genesis (state other chain) bytes b other_distinct read refuses_none in
+    let both_distinct : HaveDistinctHashes (live_blocks genesis (b ∷ other) chain) = distinct_with genesis (state_with other chain followers) bytes b other_distinct read refuses_none in
     let out : (c : Block) → Contains (live_blocks genesis all chain) c → Contains (b ∷ other) c =
     λ c live. let found = filter_member (λ d. nat_lt (immutable_length genesis chain) d.header.number) all c live in
     elim (Contains-push_cases kept b c found.0) [
@@ -156,7 +161,7 @@ kept_step genesis kept chain b bytes new back added other sound same chain_kept 
     ] in
     let selection_too = selection_over genesis all (b ∷ other) chain new out in' in_all in_others selection in
     record {
-      step = record { block = b; read = read; not_refused = refuses_none; kept = refl; selection = selection_too; change = change };
+      step = record { block = b; read = read; not_refused = refuses_none; kept = refl; followers = refl; selection = selection_too; change = change };
       same = same_live_after genesis kept other chain new b same longer
           (narrower_live genesis all chain new longer (distinct_pushed genesis kept chain bytes b sound.distinct read not_refused))
           (narrower_live genesis (b ∷ other) chain new longer both_distinct);
@@ -165,8 +170,8 @@ kept_step genesis kept chain b bytes new back added other sound same chain_kept 
 
 -- ---- over every state that the core stands for
 
-same_live_of : (genesis : Genesis) (kept chain : List Block) (s : State) → Stands (held_of genesis kept chain) s → SameLive genesis chain kept s.kept
-same_live_of genesis kept chain s stands =
+same_live_of : (genesis : Genesis) (kept chain : List Block) (followers : Followers) (s : State) → Stands (held_of genesis kept chain followers) s → SameLive genesis chain kept s.kept
+same_live_of genesis kept chain followers s stands =
     let live : live_of genesis s ≡ live_blocks genesis s.kept chain = ap (λ (c : List Block). live_blocks genesis s.kept c) (sym stands.chain) in
     record {
       to = λ b member. subst (λ (bs : List Block). Contains bs b) live ((stands.members b).0 member);
@@ -174,35 +179,35 @@ same_live_of genesis kept chain s stands =
       count = stands.count ∙ ap length live;
     }
 
-as_state : (genesis : Genesis) (kept chain : List Block) (s : State) → Stands (held_of genesis kept chain) s → state s.kept chain ≡ s
-as_state genesis kept chain s stands = λ i. record { kept = s.kept; chain = stands.chain i }
+as_state : (genesis : Genesis) (kept chain : List Block) (followers : Followers) (s : State) → Stands (held_of genesis kept chain followers) s → state_with s.kept chain followers ≡ s
+as_state genesis kept chain followers s stands = λ i. record { kept = s.kept; chain = stands.chain i; followers = stands.followers i }
 
-stands_again : (genesis : Genesis) (kept new other : List Block) → SameLive genesis new kept other → AllByRecursion (Contains other) new → Stands (held_of genesis kept new) (state other new)
-stands_again genesis kept new other same chain_kept =
-    record { chain = refl; members = λ b. (same.to b, same.back b); count = same.count; chain_kept = chain_kept }
+stands_again : (genesis : Genesis) (kept new other : List Block) (followers : Followers) → SameLive genesis new kept other → AllByRecursion (Contains other) new → Stands (held_of genesis kept new followers) (state_with other new followers)
+stands_again genesis kept new other followers same chain_kept =
+    record { chain = refl; followers = refl; members = λ b. (same.to b, same.back b); count = same.count; chain_kept = chain_kept }
 
 -- a refusal is one of each state
-pub refused_step : (genesis : Genesis) (kept chain : List Block) (bytes : List ℕ) (refusal : Refusal) (s : State) → IsRefused genesis (state kept chain) bytes refusal
-    → Stands (held_of genesis kept chain) s → (t : State) × Step genesis s (Arrive bytes) (Refused refusal) t × Stands (held_of genesis kept chain) t
-refused_step genesis kept chain bytes refusal s refused stands =
-    (s, (subst (λ (u : State). IsRefused genesis u bytes refusal) (as_state genesis kept chain s stands) (refused_over genesis chain kept s.kept bytes refusal (same_live_of genesis kept chain s stands) refused), refl), stands)
+pub refused_step : (genesis : Genesis) (kept chain : List Block) (bytes : List ℕ) (refusal : Refusal) (followers : Followers) (s : State) → IsRefused genesis (state kept chain) bytes refusal
+    → Stands (held_of genesis kept chain followers) s → (t : State) × Step genesis s (Arrive bytes) (Refused refusal) t × Stands (held_of genesis kept chain followers) t
+refused_step genesis kept chain bytes refusal followers s refused stands =
+    (s, (subst (λ (u : State). IsRefused genesis u bytes refusal) (as_state genesis kept chain followers s stands) (refused_over genesis chain kept s.kept bytes refusal [] followers (same_live_of genesis kept chain followers s stands) refused), refl), stands)
 
 -- a block that is kept is kept by each state
-pub kept_step_of : (genesis : Genesis) (kept chain : List Block) (b : Block) (bytes : List ℕ) (new : List Block) (back added : ℕ) (s : State) → IsSound genesis kept chain
+pub kept_step_of : (genesis : Genesis) (kept chain : List Block) (b : Block) (bytes : List ℕ) (new : List Block) (back added : ℕ) (followers : Followers) (s : State) → IsSound genesis kept chain
     → IsReadAs b bytes → ((refusal : Refusal) → Applies genesis (state kept chain) bytes refusal → ⊥)
     → IsSelection genesis (kept ++ b ∷ []) chain new → IsChange chain new back added
-    → Stands (held_of genesis kept chain) s → (t : State) × Step genesis s (Arrive bytes) (Kept back added) t × Stands (held_of genesis (kept ++ b ∷ []) new) t
-kept_step_of genesis kept chain b bytes new back added s sound read not_refused selection change stands =
+    → Stands (held_of genesis kept chain followers) s → (t : State) × Step genesis s (Arrive bytes) (Kept back added) t × Stands (held_of genesis (kept ++ b ∷ []) new followers) t
+kept_step_of genesis kept chain b bytes new back added followers s sound read not_refused selection change stands =
     let chain_kept : AllByRecursion (Contains s.kept) chain = subst (AllByRecursion (Contains s.kept)) (sym stands.chain) stands.chain_kept in
-    let is = kept_step genesis kept chain b bytes new back added s.kept sound (same_live_of genesis kept chain s stands) chain_kept read not_refused selection change in (
-      state (b ∷ s.kept) new,
-      subst (λ (u : State). Keeps genesis u bytes back added (state (b ∷ s.kept) new)) (as_state genesis kept chain s stands) is.step,
-      stands_again genesis (kept ++ b ∷ []) new (b ∷ s.kept) is.same is.chain_kept,
+    let is = kept_step genesis kept chain b bytes new back added s.kept followers sound (same_live_of genesis kept chain followers s stands) chain_kept read not_refused selection change in (
+      state_with (b ∷ s.kept) new followers,
+      subst (λ (u : State). Keeps genesis u bytes back added (state_with (b ∷ s.kept) new followers)) (as_state genesis kept chain followers s stands) is.step,
+      stands_again genesis (kept ++ b ∷ []) new (b ∷ s.kept) followers is.same is.chain_kept,
     )
 
 -- a new core stands for the opening state, and is sound
 pub opening_stands : (genesis : Genesis) → Stands (opening_held genesis) opening
-opening_stands genesis = record { chain = refl; members = λ b. ((λ member. member), (λ member. member)); count = refl; chain_kept = tt }
+opening_stands genesis = record { chain = refl; followers = refl; members = λ b. ((λ member. member), (λ member. member)); count = refl; chain_kept = tt }
 
 pub opening_is_sound : (genesis : Genesis) → IsSound genesis [] []
 opening_is_sound genesis = record { valid = record { linked = tt; sizes = tt; ledger = refl }; members = tt; distinct = tt }

@@ -1,36 +1,43 @@
 -- What the core keeps of a state, and which states of the definitions it stands for.
 use Rattle.std.specs.Prelude.{◌≡◌, ◌↔◌, List, [], length, Contains, refl}
 use Rattle.std.specs.List.{AllByRecursion}
-use Rattle.std.specs.Coded.{Coded, code_by, coded×, coded_list}
+use Rattle.std.specs.Coded.{Coded, code_by, coded×, coded_list, coded_option}
 use Rattle.model.specs.Block.{Block}
 use Rattle.model.specs.Chain.{Genesis, IsValidChain, HaveDistinctHashes, live_blocks}
+use Rattle.model.specs.Follower.{Followers}
 use Rattle.model.specs.History.{State, live_of}
 use Rattle.model.specs.Codes.{coded_genesis, coded_block}
 
--- the genesis, the selected chain and the live blocks: nothing of kept blocks below the immutable tip
+-- the genesis, the selected chain, the live blocks and the followers: nothing of kept blocks below the immutable
+-- tip
 pub record Held : Type 0 where
   pub genesis : Genesis
   pub chain : List Block
   pub live : List Block
+  pub followers : Followers
 
 abbrev pub coded_held : Coded Held
-coded_held = code_by (Genesis × (List Block × List Block)) (coded× coded_genesis (coded× (coded_list coded_block) (coded_list coded_block))) (λ h. (h.genesis, (h.chain, h.live))) (λ p. record { genesis = p.0; chain = p.1.0; live = p.1.1 }) (λ _. refl)
+coded_held =
+    code_by (Genesis × (List Block × (List Block × Followers)))
+    (coded× coded_genesis (coded× (coded_list coded_block) (coded× (coded_list coded_block) (coded_list (coded_option (coded_list coded_block))))))
+    (λ h. (h.genesis, (h.chain, (h.live, h.followers)))) (λ p. record { genesis = p.0; chain = p.1.0; live = p.1.1.0; followers = p.1.1.1 }) (λ _. refl)
 
--- The core stands for each state with this chain whose live blocks are those held, as members and in
+-- The core stands for each state with this chain and these followers whose live blocks are those held, as members and in
 -- number. Nothing is said of the other kept blocks.
 pub record Stands (held : Held) (s : State) : Type 0 where
   pub chain : held.chain ≡ s.chain
+  pub followers : held.followers ≡ s.followers
   pub members : (b : Block) → Contains held.live b ↔ Contains (live_of held.genesis s) b
   pub count : length held.live ≡ length (live_of held.genesis s)
   pub chain_kept : AllByRecursion (Contains s.kept) s.chain
 
 -- a core before anything came
 abbrev pub opening_held : Genesis → Held
-opening_held genesis = record { genesis = genesis; chain = []; live = [] }
+opening_held genesis = record { genesis = genesis; chain = []; live = []; followers = [] }
 
--- what is held of kept blocks and a chain
-abbrev pub held_of : Genesis → List Block → List Block → Held
-held_of genesis kept chain = record { genesis = genesis; chain = chain; live = live_blocks genesis kept chain }
+-- what is held of kept blocks, a chain and followers
+abbrev pub held_of : Genesis → List Block → List Block → Followers → Held
+held_of genesis kept chain followers = record { genesis = genesis; chain = chain; live = live_blocks genesis kept chain; followers = followers }
 
 -- what the fields of a core are: the chain is valid and of kept blocks, and no two live blocks have one hash
 pub record IsSound (genesis : Genesis) (kept chain : List Block) : Type 0 where

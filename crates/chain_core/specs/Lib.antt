@@ -10,3 +10,4 @@ pub mod ReplyView
 pub mod PointView
 pub mod EventView
 pub mod Theorem
+pub mod FollowerView

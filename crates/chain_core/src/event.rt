@@ -1,19 +1,28 @@
 //! Events and their replies.
 
 use crate::arrival::ArriveReply;
+use crate::follower::{FollowerId, Instruction, NextFault, OpenFault};
 
 /// What comes to the node.
 #[derive(Debug, Drop)]
 pub enum RawEvent {
     /// Bytes of a block arrive.
     Arrive(Vec<u8>),
+    /// A follower is opened.
+    Open,
+    /// A follower is to be told what comes next.
+    Next(FollowerId),
 }
 
 /// What the node answers to an event.
-#[derive(Clone, Copy, Debug, PartialEq, Eq)]
+#[derive(Debug, Drop, PartialEq, Eq)]
 pub enum Reply {
     /// To bytes of a block.
     Arrive(ArriveReply),
-    /// Memory ran out, and nothing changed.
+    /// To the opening of a follower.
+    Open(Result<FollowerId, OpenFault>),
+    /// To a follower that asks what comes next.
+    Next(Result<Option<Instruction>, NextFault>),
+    /// To bytes of a block where memory ran out, and nothing changed.
     OutOfMemory,
 }

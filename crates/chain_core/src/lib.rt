@@ -3,6 +3,7 @@
 
 mod arrival;
 mod event;
+mod follower;
 mod fork;
 mod genesis;
 mod keeping;
@@ -13,5 +14,6 @@ mod tip;
 
 pub use arrival::{ArriveReply, Refusal};
 pub use event::{RawEvent, Reply};
+pub use follower::{FollowerId, Instruction, NextFault, OpenFault};
 pub use genesis::Genesis;
 pub use node_core::Core;

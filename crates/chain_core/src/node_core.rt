@@ -2,6 +2,9 @@
 
 use crate::arrival::{ArriveReply, Refusal};
 use crate::event::{RawEvent, Reply};
+use crate::follower::{
+    FollowerId, Instruction, NextFault, OpenFault, open_follower, tell_follower,
+};
 use crate::genesis::Genesis;
 use crate::keeping::keep;
 use crate::refusal::refusal_of;
@@ -10,13 +13,14 @@ use ident::Point;
 use std::alloc::{AllocError, Global};
 use std::marker::Model;
 
-/// The core keeps one plain list of all kept blocks, and the selected chain.
+/// The core keeps one plain list of all kept blocks, the selected chain, and what each follower was told.
 #[derive(Drop)]
 pub struct Core {
     alloc: Global,
     genesis: Genesis,
     kept: Vec<Block>,
     chain: Vec<Block>,
+    followers: Vec<Vec<Block>>,
 }
 
 impl Model for Core {
@@ -36,11 +40,11 @@ impl Model for Core {
 impl Core {
     ghost use Rattle.std.specs.Prelude.{◌≡◌, IfOk, OnErr, length};
     ghost use Rattle.model.specs.Chain.{point_of};
-    ghost use Rattle.model.specs.History.{State, Arrive, Step, IsRun};
+    ghost use Rattle.model.specs.History.{State, Arrive, Open, Next, Step, IsRun};
     ghost use Rattle.chain_core.specs.GenesisView.{told_genesis};
     ghost use Rattle.chain_core.specs.PointView.{told_point};
     ghost use Rattle.chain_core.specs.ReplyView.{told_arrival};
-    ghost use Rattle.chain_core.specs.EventView.{told_event, told_reply, history_of};
+    ghost use Rattle.chain_core.specs.EventView.{told_event, told_reply, told_open, told_next, history_of};
     ghost use Rattle.chain_core.specs.Theorem.{ChainTheorem};
     ghost use Rattle.chain_core.specs.Held.{opening_held, Stands};
 
@@ -53,6 +57,7 @@ impl Core {
             genesis,
             kept: Vec::new(alloc),
             chain: Vec::new(alloc),
+            followers: Vec::new(alloc),
         }
     }
 
@@ -92,6 +97,29 @@ impl Core {
         })
     }
 
+    /// Opens a follower of the least number that is free, 0 to 1,023. It was told nothing, and stands at genesis. Where
+    /// there are 1,024, or memory runs out, nothing changes.
+    pub fn open(&mut self) -> Result<FollowerId, OpenFault>
+        ensures step { (s : State) → Stands self.old s → (t : State) × Step self.old.genesis s Open (told_open result) t × Stands self.new t }
+        ensures genesis { self.new.genesis ≡ self.old.genesis }
+        ensures err { OnErr result (self.new ≡ self.old) }
+    {
+        open_follower(self.alloc, &mut self.followers)
+    }
+
+    /// What the follower of this number is told next: to put on the next block of the selected chain, where what it was
+    /// told is a proper beginning of that, and else nothing. A follower whose chain was left stays where it is, for now.
+    ///
+    /// Where no such follower is open, or memory runs out, nothing changes. Takes no memory where it answers nothing.
+    /// Compares what was told with the chain, block by block, and copies the bytes of the block.
+    pub fn next(&mut self, id: FollowerId) -> Result<Option<Instruction>, NextFault>
+        ensures step { (s : State) → Stands self.old s → (t : State) × Step self.old.genesis s (Next id.number) (told_next result) t × Stands self.new t }
+        ensures genesis { self.new.genesis ≡ self.old.genesis }
+        ensures err { OnErr result (self.new ≡ self.old) }
+    {
+        tell_follower(self.alloc, &self.chain, &mut self.followers, id)
+    }
+
     /// Answers one event.
     fn answer(&mut self, event: &RawEvent) -> Reply
         ensures step { (s : State) → Stands self.old s → (t : State) × Step self.old.genesis s (told_event event.now) (told_reply result) t × Stands self.new t }
@@ -102,6 +130,8 @@ impl Core {
                 Ok(reply) => Reply::Arrive(reply),
                 Err(AllocError) => Reply::OutOfMemory,
             },
+            RawEvent::Open => Reply::Open(self.open()),
+            RawEvent::Next(id) => Reply::Next(self.next(*id)),
         }
     }
 

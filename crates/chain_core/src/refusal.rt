@@ -1,6 +1,6 @@
 //! Why a block that was read is not kept.
 
-ghost use Rattle.std.specs.Prelude.{◌≡◌, ◌↔◌, ◌≤◌, ◌<◌, ◌≢◌, ℕ, List, IsTrue, MatchOption, Any, option_map, length, filter, nat_lt};
+ghost use Rattle.std.specs.Prelude.{[], ◌≡◌, ◌↔◌, ◌≤◌, ◌<◌, ◌≢◌, ℕ, List, IsTrue, MatchOption, Any, option_map, length, filter, nat_lt};
 ghost use Rattle.block.specs.Read.{IsRead};
 ghost use Rattle.model.specs.Block.{Block as Told, block_hash_of, block_text};
 ghost use Rattle.model.specs.Chain.{live_blocks};
@@ -16,7 +16,7 @@ use crate::selection::immutable_length;
 use block::Block;
 
 /// Whether the bytes are the same.
-fn same_bytes(bytes: &[u8], other: &[u8]) -> bool
+pub fn same_bytes(bytes: &[u8], other: &[u8]) -> bool
     ensures { IsTrue result ↔ (bytes.now ≡ other.now) }
 {
     bytes == other
@@ -89,7 +89,7 @@ pub fn refusal_of(
     chain: &[Block],
     block: &Block,
 ) -> Option<Refusal>
-    ensures { IsJudged (told_genesis genesis.now) (record { kept = kept.now; chain = chain.now }) block.now (option_map told_refusal result) }
+    ensures { IsJudged (told_genesis genesis.now) (record { kept = kept.now; chain = chain.now; followers = [] }) block.now (option_map told_refusal result) }
 {
     let immutable = immutable_length(genesis, chain) as u64;
     if block.number() <= immutable {

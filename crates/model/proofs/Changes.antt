@@ -83,6 +83,7 @@ change_told genesis kept old new back added selection change =
 change_of : (genesis : Genesis) (s : State) (event : Event) (back added : ℕ) (t : State) → Step genesis s event (Kept back added) t
     → (kept : List Block) × IsSelection genesis kept s.chain t.chain × IsChange s.chain t.chain back added
 change_of genesis s (Arrive bytes) back added t step = (t.kept, step.selection, step.change)
+change_of genesis s event back added t step = absurd step
 
 pub step_shares : (genesis : Genesis) (s : State) (event : Event) (back added : ℕ) (t : State) → Step genesis s event (Kept back added) t
     → (back ≤ length s.chain) × (added ≤ length t.chain) × (take (length s.chain - back) s.chain ≡ take (length t.chain - added) t.chain)

@@ -1,11 +1,12 @@
 -- What every legal history keeps, and that it determines its state.
-use Rattle.std.proofs.Common.{◌≡◌, ◌≢◌, ℕ, ◌<◌, ◌≤◌, ◌↔◌, Bool, true, false, cond, List, [], ◌∷◌, length, Contains, refl, sym, ap, subst, ◌∙◌, arith, inl, inr, ◌⊎◌}
-use Rattle.std.specs.Prelude.{nat_lt}
+use Rattle.std.proofs.Common.{◌≡◌, ◌≢◌, ℕ, ◌<◌, ◌≤◌, ◌↔◌, Bool, true, false, cond, List, [], ◌∷◌, ◌++◌, Some, length, Contains, refl, sym, ap, subst, ◌∙◌, arith, inl, inr, ◌⊎◌}
+use Rattle.std.specs.Prelude.{nat_lt, slice_set}
 use Rattle.std.specs.List.{AllByRecursion, filter}
 use Rattle.std.proofs.lemmas.Bool.{lt-ltb, ltb-true}
 use Rattle.model.specs.Block.{Block, IsReadAs, block_hash_of}
 use Rattle.model.specs.Chain.{Genesis, IsValidChain, NoneLonger, IsSelection, HaveDistinctHashes, immutable_length, immutable_part, live_blocks, BeginsWith}
-use Rattle.model.specs.History.{State, opening, live_of, Refusal, Known, Clash, Applies, Event, Arrive, Reply, Kept, Refused, OutOfMemory, Keeps, Step, Entry, IsRun, IsLegal, BringsBlock, IsKeptBy, length_with, length_from}
+use Rattle.model.specs.Follower.{Instruction, Stay, AddBlock, RollBack, IsReplayed}
+use Rattle.model.specs.History.{State, opening, live_of, Refusal, Known, Clash, Applies, Event, Arrive, Open, Next, Reply, Kept, Refused, Opened, TooManyFollowers, Instructed, UnknownFollower, OutOfMemory, Keeps, Instructs, Step, Entry, IsRun, IsLegal, BringsBlock, IsKeptBy, length_with, length_from}
 use Rattle.model.proofs.Lists.{all_from_members, all_filter_narrower, nothing_contained, contains_first, contains_later, contains_cases}
 use Rattle.model.proofs.Chains.{begins_with_itself, begins_earlier}
 use Rattle.model.proofs.Selections.{one_selection, selection_valid, selection_longer, selection_not_shorter, selection_begins, selection_longest}
@@ -69,10 +70,41 @@ keeps_sound genesis s bytes back added t sound keeps =
           (λ b passes. lt-ltb (immutable_length genesis s.chain) b.header.number (let past = ltb-true (immutable_length genesis t.chain) b.header.number passes in omega arith)) distinct;
     }
 
+-- a step that neither keeps a block nor changes the chain
+pub record IsQuiet (s : State) (event : Event) (reply : Reply) (t : State) : Type 0 where
+  pub kept : t.kept ≡ s.kept
+  pub chain : t.chain ≡ s.chain
+  pub counted : (n : ℕ) → length_with n reply ≡ n
+  pub brings_none : (b : Block) → BringsBlock event reply b → ⊥
+
+-- a step keeps a block, or is quiet
+pub data Kind (genesis : Genesis) (s : State) : Event → Reply → State → Type 0 where
+  Keeping : (bytes : List ℕ) (back added : ℕ) (t : State) → Keeps genesis s bytes back added t → Kind genesis s (Arrive bytes) (Kept back added) t
+  Quiet : (event : Event) (reply : Reply) (t : State) → IsQuiet s event reply t → Kind genesis s event reply t
+
+pub kind_of : (genesis : Genesis) (s : State) (event : Event) (reply : Reply) (t : State) → Step genesis s event reply t → Kind genesis s event reply t
+kind_of genesis s (Arrive bytes) (Kept back added) t step = Keeping bytes back added t step
+kind_of genesis s (Arrive bytes) (Refused refusal) t step = Quiet (Arrive bytes) (Refused refusal) t (record { kept = ap (λ (u : State). u.kept) step.1; chain = ap (λ (u : State). u.chain) step.1; counted = λ n. refl; brings_none = λ b no'. no' })
+kind_of genesis s Open (Opened id) t step = Quiet Open (Opened id) t (record { kept = ap (λ (u : State). u.kept) step.after; chain = ap (λ (u : State). u.chain) step.after; counted = λ n. refl; brings_none = λ b no'. no' })
+kind_of genesis s Open TooManyFollowers t step = Quiet Open TooManyFollowers t (record { kept = ap (λ (u : State). u.kept) step.1; chain = ap (λ (u : State). u.chain) step.1; counted = λ n. refl; brings_none = λ b no'. no' })
+kind_of genesis s (Next id) (Instructed instruction) t step = Quiet (Next id) (Instructed instruction) t (record { kept = ap (λ (u : State). u.kept) step.after; chain = ap (λ (u : State). u.chain) step.after; counted = λ n. refl; brings_none = λ b no'. no' })
+kind_of genesis s (Next id) UnknownFollower t step = Quiet (Next id) UnknownFollower t (record { kept = ap (λ (u : State). u.kept) step.1; chain = ap (λ (u : State). u.chain) step.1; counted = λ n. refl; brings_none = λ b no'. no' })
+kind_of genesis s event OutOfMemory t step = Quiet event OutOfMemory t (record { kept = ap (λ (u : State). u.kept) step; chain = ap (λ (u : State). u.chain) step; counted = λ n. refl; brings_none = λ b no'. no' })
+kind_of genesis s event reply t step = absurd step
+
+quiet_sound : (genesis : Genesis) (s : State) (event : Event) (reply : Reply) (t : State) → IsSound genesis s → IsQuiet s event reply t → IsSound genesis t
+quiet_sound genesis s event reply t sound quiet = record {
+  valid = subst (IsValidChain genesis) (sym quiet.chain) sound.valid;
+  longest = subst (λ (bs : List Block). NoneLonger genesis bs t.chain) (sym quiet.kept) (subst (λ (c : List Block). NoneLonger genesis s.kept c) (sym quiet.chain) sound.longest);
+  distinct = subst (λ (bs : List Block). HaveDistinctHashes (live_blocks genesis bs t.chain)) (sym quiet.kept) (subst (λ (c : List Block). HaveDistinctHashes (live_blocks genesis s.kept c)) (sym quiet.chain) sound.distinct);
+}
+
+kind_sound : (genesis : Genesis) (s : State) (event : Event) (reply : Reply) (t : State) → IsSound genesis s → Kind genesis s event reply t → IsSound genesis t
+kind_sound genesis s event reply t sound (Keeping bytes back added u keeps) = keeps_sound genesis s bytes back added u sound keeps
+kind_sound genesis s event reply t sound (Quiet e r u quiet) = quiet_sound genesis s e r u sound quiet
+
 pub step_sound : (genesis : Genesis) (s : State) (event : Event) (reply : Reply) (t : State) → IsSound genesis s → Step genesis s event reply t → IsSound genesis t
-step_sound genesis s (Arrive bytes) (Kept back added) t sound step = keeps_sound genesis s bytes back added t sound step
-step_sound genesis s (Arrive bytes) (Refused refusal) t sound step = subst (IsSound genesis) (sym step.1) sound
-step_sound genesis s (Arrive bytes) OutOfMemory t sound step = subst (IsSound genesis) (sym step) sound
+step_sound genesis s event reply t sound step = kind_sound genesis s event reply t sound (kind_of genesis s event reply t step)
 
 pub run_sound : (genesis : Genesis) (s : State) (es : List Entry) (t : State) → IsSound genesis s → IsRun genesis s es t → IsSound genesis t
 run_sound genesis s [] t sound run = subst (IsSound genesis) (sym run) sound
@@ -89,12 +121,32 @@ keeps_one genesis s bytes back added t u sound first second =
     let kept : t.kept ≡ u.kept = first.kept ∙ (ap (λ (b : Block). b ∷ s.kept) blocks ∙ sym second.kept) in
     let distinct : HaveDistinctHashes (live_blocks genesis u.kept s.chain) = subst (λ (bs : List Block). HaveDistinctHashes (live_blocks genesis bs s.chain)) (sym second.kept) (distinct_with genesis s bytes second.block sound.distinct second.read second.not_refused) in
     let chain : t.chain ≡ u.chain = one_selection genesis u.kept s.chain t.chain u.chain distinct (subst (λ (bs : List Block). IsSelection genesis bs s.chain t.chain) kept first.selection) second.selection in
-    λ i. record { kept = kept i; chain = chain i }
+    let followers : t.followers ≡ u.followers = first.followers ∙ sym second.followers in
+    λ i. record { kept = kept i; chain = chain i; followers = followers i }
+
+some_same : {X : Type 0} (x y : X) → Some x ≡ Some y → x ≡ y
+some_same x y e = cc
+
+replayed_one : (old : List Block) (instruction : Instruction) (a b : List Block) → IsReplayed old instruction a → IsReplayed old instruction b → a ≡ b
+replayed_one old Stay a b first second = first ∙ sym second
+replayed_one old (AddBlock bytes) a b first second = first.2 ∙ (ap (λ (c : Block). old ++ c ∷ []) (one_block first.0 second.0 bytes first.1.spelled second.1.spelled) ∙ sym second.2)
+replayed_one old (RollBack point) a b first second = first.0 ∙ sym second.0
+
+instructs_one : (s : State) (id : ℕ) (instruction : Instruction) (t u : State) → Instructs s id instruction t → Instructs s id instruction u → t ≡ u
+instructs_one s id instruction t u first second =
+    let before : first.before ≡ second.before = some_same first.before second.before (sym first.open_before ∙ second.open_before) in
+    let now : first.now ≡ second.now = replayed_one first.before instruction first.now second.now first.told.replayed (subst (λ (old : List Block). IsReplayed old instruction second.now) (sym before) second.told.replayed) in
+    first.after ∙ ((λ i. record { kept = s.kept; chain = s.chain; followers = slice_set s.followers id (Some (now i)) }) ∙ sym second.after)
 
 pub step_one : (genesis : Genesis) (s : State) (event : Event) (reply : Reply) (t u : State) → IsSound genesis s → Step genesis s event reply t → Step genesis s event reply u → t ≡ u
 step_one genesis s (Arrive bytes) (Kept back added) t u sound first second = keeps_one genesis s bytes back added t u sound first second
 step_one genesis s (Arrive bytes) (Refused refusal) t u sound first second = first.1 ∙ sym second.1
-step_one genesis s (Arrive bytes) OutOfMemory t u sound first second = first ∙ sym second
+step_one genesis s Open (Opened id) t u sound first second = first.after ∙ sym second.after
+step_one genesis s Open TooManyFollowers t u sound first second = first.1 ∙ sym second.1
+step_one genesis s (Next id) (Instructed instruction) t u sound first second = instructs_one s id instruction t u first second
+step_one genesis s (Next id) UnknownFollower t u sound first second = first.1 ∙ sym second.1
+step_one genesis s event OutOfMemory t u sound first second = first ∙ sym second
+step_one genesis s event reply t u sound first second = absurd first
 
 pub run_one : (genesis : Genesis) (s : State) (es : List Entry) (t u : State) → IsSound genesis s → IsRun genesis s es t → IsRun genesis s es u → t ≡ u
 run_one genesis s [] t u sound first second = first ∙ sym second
@@ -104,14 +156,15 @@ run_one genesis s (e ∷ es) t u sound first second =
 
 -- ---- the kept blocks
 
+kept_or_brought : (genesis : Genesis) (s : State) (event : Event) (reply : Reply) (t : State) (b : Block) → Kind genesis s event reply t → Contains s.kept b ⊎ BringsBlock event reply b → Contains t.kept b
+kept_or_brought genesis s event reply t b (Keeping bytes back added u keeps) (inl member) = subst (λ (bs : List Block). Contains bs b) (sym keeps.kept) (contains_later keeps.block s.kept b member)
+kept_or_brought genesis s event reply t b (Keeping bytes back added u keeps) (inr read) =
+    subst (λ (bs : List Block). Contains bs b) (sym keeps.kept) (subst (λ (c : Block). Contains (c ∷ s.kept) b) (one_block b keeps.block bytes read.spelled keeps.read.spelled) (contains_first b s.kept))
+kept_or_brought genesis s event reply t b (Quiet e r u quiet) (inl member) = subst (λ (bs : List Block). Contains bs b) (sym quiet.kept) member
+kept_or_brought genesis s event reply t b (Quiet e r u quiet) (inr brought) = absurd (quiet.brings_none b brought)
+
 same_or_later : (genesis : Genesis) (s : State) (event : Event) (reply : Reply) (t : State) (b : Block) → Step genesis s event reply t → Contains s.kept b ⊎ BringsBlock event reply b → Contains t.kept b
-same_or_later genesis s (Arrive bytes) (Kept back added) t b step (inl member) = subst (λ (bs : List Block). Contains bs b) (sym step.kept) (contains_later step.block s.kept b member)
-same_or_later genesis s (Arrive bytes) (Kept back added) t b step (inr spelled) =
-    subst (λ (bs : List Block). Contains bs b) (sym step.kept) (subst (λ (c : Block). Contains (c ∷ s.kept) b) (one_block b step.block bytes spelled.spelled step.read.spelled) (contains_first b s.kept))
-same_or_later genesis s (Arrive bytes) (Refused refusal) t b step (inl member) = subst (λ (u : State). Contains u.kept b) (sym step.1) member
-same_or_later genesis s (Arrive bytes) (Refused refusal) t b step (inr never) = absurd never
-same_or_later genesis s (Arrive bytes) OutOfMemory t b step (inl member) = subst (λ (u : State). Contains u.kept b) (sym step) member
-same_or_later genesis s (Arrive bytes) OutOfMemory t b step (inr never) = absurd never
+same_or_later genesis s event reply t b step from = kept_or_brought genesis s event reply t b (kind_of genesis s event reply t step) from
 
 pub kept_after : (genesis : Genesis) (s : State) (es : List Entry) (t : State) (b : Block) → IsRun genesis s es t → Contains s.kept b ⊎ IsKeptBy es b → Contains t.kept b
 kept_after genesis s [] t b run (inl member) = subst (λ (u : State). Contains u.kept b) (sym run) member
@@ -120,14 +173,16 @@ kept_after genesis s (e ∷ es) t b run (inl member) = kept_after genesis run.0 
 kept_after genesis s (e ∷ es) t b run (inr (inl brings)) = kept_after genesis run.0 es t b run.2 (inl (same_or_later genesis s e.event e.reply run.0 b run.1 (inr brings)))
 kept_after genesis s (e ∷ es) t b run (inr (inr later)) = kept_after genesis run.0 es t b run.2 (inr later)
 
-came_from : (genesis : Genesis) (s : State) (event : Event) (reply : Reply) (t : State) (b : Block) → Step genesis s event reply t → Contains t.kept b → Contains s.kept b ⊎ BringsBlock event reply b
-came_from genesis s (Arrive bytes) (Kept back added) t b step member =
-    elim (contains_cases step.block s.kept b (subst (λ (bs : List Block). Contains bs b) step.kept member)) [
-      | inl is ↦ inr (subst (λ (c : Block). IsReadAs c bytes) is step.read)
+kind_came_from : (genesis : Genesis) (s : State) (event : Event) (reply : Reply) (t : State) (b : Block) → Kind genesis s event reply t → Contains t.kept b → Contains s.kept b ⊎ BringsBlock event reply b
+kind_came_from genesis s event reply t b (Keeping bytes back added u keeps) member =
+    elim (contains_cases keeps.block s.kept b (subst (λ (bs : List Block). Contains bs b) keeps.kept member)) [
+      | inl is ↦ inr (subst (λ (c : Block). IsReadAs c bytes) is keeps.read)
       | inr later ↦ inl later
     ]
-came_from genesis s (Arrive bytes) (Refused refusal) t b step member = inl (subst (λ (u : State). Contains u.kept b) step.1 member)
-came_from genesis s (Arrive bytes) OutOfMemory t b step member = inl (subst (λ (u : State). Contains u.kept b) step member)
+kind_came_from genesis s event reply t b (Quiet e r u quiet) member = inl (subst (λ (bs : List Block). Contains bs b) quiet.kept member)
+
+came_from : (genesis : Genesis) (s : State) (event : Event) (reply : Reply) (t : State) (b : Block) → Step genesis s event reply t → Contains t.kept b → Contains s.kept b ⊎ BringsBlock event reply b
+came_from genesis s event reply t b step member = kind_came_from genesis s event reply t b (kind_of genesis s event reply t step) member
 
 pub kept_before : (genesis : Genesis) (s : State) (es : List Entry) (t : State) (b : Block) → IsRun genesis s es t → Contains t.kept b → Contains s.kept b ⊎ IsKeptBy es b
 kept_before genesis s [] t b run member = inl (subst (λ (u : State). Contains u.kept b) run member)
@@ -145,19 +200,23 @@ kept_by_history genesis history s b legal = (
 
 -- ---- lengths
 
+kind_length : (genesis : Genesis) (s : State) (event : Event) (reply : Reply) (t : State) → Kind genesis s event reply t → length t.chain ≡ length_with (length s.chain) reply
+kind_length genesis s event reply t (Keeping bytes back added u keeps) = let change = keeps.change in omega arith
+kind_length genesis s event reply t (Quiet e r u quiet) = ap length quiet.chain ∙ sym (quiet.counted (length s.chain))
+
 step_length : (genesis : Genesis) (s : State) (event : Event) (reply : Reply) (t : State) → Step genesis s event reply t → length t.chain ≡ length_with (length s.chain) reply
-step_length genesis s (Arrive bytes) (Kept back added) t step = let change = step.change in omega arith
-step_length genesis s (Arrive bytes) (Refused refusal) t step = ap (λ (u : State). length u.chain) step.1
-step_length genesis s (Arrive bytes) OutOfMemory t step = ap (λ (u : State). length u.chain) step
+step_length genesis s event reply t step = kind_length genesis s event reply t (kind_of genesis s event reply t step)
 
 pub run_length : (genesis : Genesis) (s : State) (es : List Entry) (t : State) → IsRun genesis s es t → length t.chain ≡ length_from (length s.chain) es
 run_length genesis s [] t run = ap (λ (u : State). length u.chain) run
 run_length genesis s (e ∷ es) t run = run_length genesis run.0 es t run.2 ∙ ap (λ n. length_from n es) (step_length genesis s e.event e.reply run.0 run.1)
 
+kind_longer : (genesis : Genesis) (s : State) (event : Event) (reply : Reply) (t : State) → Kind genesis s event reply t → (t.chain ≡ s.chain) ⊎ (length s.chain < length t.chain)
+kind_longer genesis s event reply t (Keeping bytes back added u keeps) = selection_longer genesis u.kept s.chain u.chain keeps.selection
+kind_longer genesis s event reply t (Quiet e r u quiet) = inl quiet.chain
+
 pub step_longer : (genesis : Genesis) (s : State) (event : Event) (reply : Reply) (t : State) → Step genesis s event reply t → (t.chain ≡ s.chain) ⊎ (length s.chain < length t.chain)
-step_longer genesis s (Arrive bytes) (Kept back added) t step = selection_longer genesis t.kept s.chain t.chain step.selection
-step_longer genesis s (Arrive bytes) (Refused refusal) t step = inl (ap (λ (u : State). u.chain) step.1)
-step_longer genesis s (Arrive bytes) OutOfMemory t step = inl (ap (λ (u : State). u.chain) step)
+step_longer genesis s event reply t step = kind_longer genesis s event reply t (kind_of genesis s event reply t step)
 
 -- ---- the immutable part
 
@@ -169,11 +228,13 @@ pub record GoesOn (genesis : Genesis) (old new : List Block) : Type 0 where
 goes_on_itself : (genesis : Genesis) (chain : List Block) → GoesOn genesis chain chain
 goes_on_itself genesis chain = record { not_shorter = omega arith; begins = begins_with_itself genesis chain }
 
+kind_goes_on : (genesis : Genesis) (s : State) (event : Event) (reply : Reply) (t : State) → Kind genesis s event reply t → GoesOn genesis s.chain t.chain
+kind_goes_on genesis s event reply t (Keeping bytes back added u keeps) =
+    record { not_shorter = selection_not_shorter genesis u.kept s.chain u.chain keeps.selection; begins = selection_begins genesis u.kept s.chain u.chain keeps.selection }
+kind_goes_on genesis s event reply t (Quiet e r u quiet) = subst (GoesOn genesis s.chain) (sym quiet.chain) (goes_on_itself genesis s.chain)
+
 pub step_goes_on : (genesis : Genesis) (s : State) (event : Event) (reply : Reply) (t : State) → Step genesis s event reply t → GoesOn genesis s.chain t.chain
-step_goes_on genesis s (Arrive bytes) (Kept back added) t step =
-    record { not_shorter = selection_not_shorter genesis t.kept s.chain t.chain step.selection; begins = selection_begins genesis t.kept s.chain t.chain step.selection }
-step_goes_on genesis s (Arrive bytes) (Refused refusal) t step = subst (λ (u : State). GoesOn genesis s.chain u.chain) (sym step.1) (goes_on_itself genesis s.chain)
-step_goes_on genesis s (Arrive bytes) OutOfMemory t step = subst (λ (u : State). GoesOn genesis s.chain u.chain) (sym step) (goes_on_itself genesis s.chain)
+step_goes_on genesis s event reply t step = kind_goes_on genesis s event reply t (kind_of genesis s event reply t step)
 
 pub run_goes_on : (genesis : Genesis) (s : State) (es : List Entry) (t : State) → IsRun genesis s es t → GoesOn genesis s.chain t.chain
 run_goes_on genesis s [] t run = subst (λ (u : State). GoesOn genesis s.chain u.chain) (sym run) (goes_on_itself genesis s.chain)

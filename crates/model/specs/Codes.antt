@@ -11,6 +11,7 @@ use Rattle.model.specs.Script.{Script, Scripts, RequireSignature, RequireAllOf, 
 use Rattle.model.specs.Transaction.{Credential, KeyHash, ScriptHash, Address, Input, Output, KeyWitness, Transaction}
 use Rattle.model.specs.Block.{Header, Block}
 use Rattle.model.specs.Chain.{Genesis, Ledger, Tip}
+use Rattle.model.specs.Follower.{Followers}
 use Rattle.model.specs.History.{State, Refusal, TooLarge, Malformed, BodyHashMismatch, TooOld, Known, Clash, VolatileFull, number_of}
 
 -- ---- bytes
@@ -288,10 +289,11 @@ coded_tip =
     (λ p. record { number = p.0; slot = p.1.0; hash = p.1.1 })
     (λ _. refl)
 
--- what is kept, and the selected chain
+-- what is kept, the selected chain, and the followers
 abbrev pub coded_state : Coded State
 coded_state =
-    code_by (List Block × List Block) (coded× (coded_list coded_block) (coded_list coded_block)) (λ s. (s.kept, s.chain)) (λ p. record { kept = p.0; chain = p.1 }) (λ _. refl)
+    code_by (List Block × (List Block × Followers)) (coded× (coded_list coded_block) (coded× (coded_list coded_block) (coded_list (coded_option (coded_list coded_block)))))
+    (λ s. (s.kept, (s.chain, s.followers))) (λ p. record { kept = p.0; chain = p.1.0; followers = p.1.1 }) (λ _. refl)
 
 -- the refusal of a number
 abbrev pub refusal_of : ℕ → Refusal

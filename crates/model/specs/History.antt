@@ -1,16 +1,19 @@
 -- Histories: which bytes arrived, what was answered, and what is then kept and selected (this project's
 -- own, over the Consensus and Storage Layer report's rules).
-use Rattle.std.specs.Prelude.{◌≡◌, ◌≢◌, ℕ, ◌+◌, ◌-◌, ◌≤◌, ◌<◌, ◌⊎◌, List, [], ◌∷◌, length, take, Contains}
+use Rattle.std.specs.Prelude.{◌≡◌, ◌≢◌, ◌++◌, ℕ, ◌+◌, ◌-◌, ◌≤◌, ◌<◌, ◌⊎◌, List, [], ◌∷◌, length, take, Contains, Some, None, slice_set}
 use Rattle.model.specs.Block.{Block, IsReadAs, block_text, block_hash_of, body_hash_of}
-use Rattle.model.specs.Chain.{Genesis, immutable_length, live_blocks, IsSelection}
+use Rattle.model.specs.Chain.{Genesis, immutable_length, live_blocks, IsSelection, BeginsWith}
+use Rattle.model.specs.Follower.{Followers, Instruction, follower_limit, told_by, free_id, with_opened, MayBeTold}
 
--- the blocks that were kept, the newest first, and the selected chain, its first block first
+-- the blocks that were kept, the newest first; the selected chain, its first block first; and the open
+-- followers
 pub record State : Type 0 where
   pub kept : List Block
   pub chain : List Block
+  pub followers : Followers
 
 abbrev pub opening : State
-opening = record { kept = []; chain = [] }
+opening = record { kept = []; chain = []; followers = [] }
 
 -- ---- refusals
 
@@ -60,12 +63,19 @@ pub record IsRefused (genesis : Genesis) (s : State) (bytes : List ℕ) (refusal
 -- what comes to the node
 pub data Event : Type 0 where
   Arrive : List ℕ → Event
+  Open : Event
+  Next : (id : ℕ) → Event
 
 -- what it answers: that the block is kept, with how many blocks of the old chain were left and how many
--- of the new one were put on; that the bytes are refused; or that memory ran out
+-- of the new one were put on; that the bytes are refused; a new follower's id, or that too many are open; an
+-- instruction, or that no such follower is open; or that memory ran out
 pub data Reply : Type 0 where
   Kept : (back added : ℕ) → Reply
   Refused : Refusal → Reply
+  Opened : (id : ℕ) → Reply
+  TooManyFollowers : Reply
+  Instructed : Instruction → Reply
+  UnknownFollower : Reply
   OutOfMemory : Reply
 
 -- the length of the longest common beginning of two chains
@@ -88,15 +98,36 @@ pub record Keeps (genesis : Genesis) (s : State) (bytes : List ℕ) (back added 
   pub read : IsReadAs block bytes
   pub not_refused : (refusal : Refusal) → Applies genesis s bytes refusal → ⊥
   pub kept : t.kept ≡ block ∷ s.kept
+  pub followers : t.followers ≡ s.followers
   pub selection : IsSelection genesis t.kept s.chain t.chain
   pub change : IsChange s.chain t.chain back added
+
+-- a follower of the least free number is opened
+pub record Opens (s : State) (id : ℕ) (t : State) : Type 0 where
+  pub is_free : id ≡ free_id s.followers
+  pub room : id < follower_limit
+  pub after : t ≡ record { kept = s.kept; chain = s.chain; followers = with_opened s.followers }
+
+-- an open follower gets an instruction, and has then been told another chain
+pub record Instructs (s : State) (id : ℕ) (instruction : Instruction) (t : State) : Type 0 where
+  pub before : List Block
+  pub now : List Block
+  pub open_before : told_by s.followers id ≡ Some before
+  pub told : MayBeTold s.chain before instruction now
+  pub after : t ≡ record { kept = s.kept; chain = s.chain; followers = slice_set s.followers id (Some now) }
 
 -- from one state an event may be answered so, and leave the other. What is refused changes nothing, nor
 -- does want of memory
 abbrev pub Step : Genesis → State → Event → Reply → State → Type 0
 Step genesis s (Arrive bytes) (Kept back added) t = Keeps genesis s bytes back added t
 Step genesis s (Arrive bytes) (Refused refusal) t = IsRefused genesis s bytes refusal × (t ≡ s)
-Step genesis s (Arrive bytes) OutOfMemory t = t ≡ s
+Step genesis s Open (Opened id) t = Opens s id t
+Step genesis s Open TooManyFollowers t = (follower_limit ≤ free_id s.followers) × (t ≡ s)
+Step genesis s (Next id) (Instructed instruction) t = Instructs s id instruction t
+Step genesis s (Next id) UnknownFollower t = (told_by s.followers id ≡ None) × (t ≡ s)
+Step genesis s event OutOfMemory t = t ≡ s
+-- no event is answered otherwise
+Step genesis s event reply t = ⊥
 
 -- ---- histories
 
@@ -119,8 +150,7 @@ IsLegal genesis history s = IsRun genesis opening history s
 -- a block whose arrival was answered Kept
 abbrev pub BringsBlock : Event → Reply → Block → Type 0
 BringsBlock (Arrive bytes) (Kept back added) b = IsReadAs b bytes
-BringsBlock (Arrive bytes) (Refused refusal) b = ⊥
-BringsBlock (Arrive bytes) OutOfMemory b = ⊥
+BringsBlock event reply b = ⊥
 
 abbrev pub IsKeptBy : List Entry → Block → Type 0
 IsKeptBy [] b = ⊥
@@ -129,8 +159,7 @@ IsKeptBy (e ∷ es) b = BringsBlock e.event e.reply b ⊎ IsKeptBy es b
 -- the length of the selected chain, from the replies alone
 abbrev pub length_with : ℕ → Reply → ℕ
 length_with n (Kept back added) = n - back + added
-length_with n (Refused refusal) = n
-length_with n OutOfMemory = n
+length_with n reply = n
 
 abbrev pub length_from : ℕ → List Entry → ℕ
 length_from n [] = n
@@ -138,3 +167,12 @@ length_from n (e ∷ es) = length_from (length_with n e.reply) es
 
 abbrev pub length_after : List Entry → ℕ
 length_after history = length_from 0 history
+
+-- the chain was the beginning of a selected chain after some part of the history
+pub record WasSelected (genesis : Genesis) (history : List Entry) (chain : List Block) : Type 0 where
+  pub past : List Entry
+  pub since : List Entry
+  pub split : history ≡ past ++ since
+  pub state : State
+  pub legal : IsLegal genesis past state
+  pub begins : BeginsWith state.chain chain

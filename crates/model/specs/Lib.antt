@@ -4,6 +4,7 @@ pub mod Script
 pub mod Transaction
 pub mod Block
 pub mod Chain
+pub mod Follower
 pub mod History
 pub mod Codes
 pub mod Examples

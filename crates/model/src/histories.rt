@@ -4,7 +4,8 @@
 ghost use Rattle.std.specs.Prelude.{◌≡◌, ◌≢◌, ℕ, ◌-◌, ◌<◌, ◌≤◌, ◌↔◌, ◌⊎◌, List, ◌++◌, length, take, Contains, Some, slice_get};
 ghost use Rattle.model.specs.Block.{Block};
 ghost use Rattle.model.specs.Chain.{Genesis, IsValidChain, NoneLonger, IsSelection, IsCandidate, HaveDistinctHashes, live_blocks, immutable_part, BeginsWith};
-ghost use Rattle.model.specs.History.{State, Event, Reply, Kept, Entry, Step, IsRun, IsLegal, IsKeptBy, live_of, length_after};
+ghost use Rattle.model.specs.Follower.{told_by};
+ghost use Rattle.model.specs.History.{State, Event, Reply, Kept, Entry, Step, IsRun, IsLegal, IsKeptBy, WasSelected, live_of, length_after};
 
 /// The selection rule has one answer at most, where no two live blocks have one hash.
 pub fn one_selection()
@@ -67,4 +68,10 @@ pub fn change_counts()
     // A chain that stays is answered with 0 and 0; one that changes has more put on than left.
     ensures told { (genesis : Genesis) (s : State) (event : Event) (back added : ℕ) (t : State) → Step genesis s event (Kept back added) t
         → ((t.chain ≡ s.chain) × (back ≡ 0) × (added ≡ 0)) ⊎ (back < added) }
+{}
+
+/// What a follower was told is the beginning of a chain that was selected at some time of the history.
+pub fn told_chains()
+    ensures { (genesis : Genesis) (history : List Entry) (s : State) (id : ℕ) (told : List Block) → IsLegal genesis history s
+        → told_by s.followers id ≡ Some told → WasSelected genesis history told }
 {}

@@ -14,7 +14,7 @@ pub use examples::{
 };
 pub use histories::{
     change_counts, immutable_part_grows, kept_blocks, live_hashes_differ, one_selection, one_state,
-    selected_chain,
+    selected_chain, told_chains,
 };
 pub use texts::{
     one_text_of_blocks, one_text_of_items, one_text_of_scripts, one_text_of_transactions,

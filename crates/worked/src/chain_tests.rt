@@ -1,6 +1,6 @@
 //! Arrivals in one order and another, and the chain that is selected.
 
-use super::fixture::{Made, make};
+use super::fixture::{Made, make, new_core};
 use chain_core::{ArriveReply, Core, Genesis, RawEvent, Refusal, Reply};
 use ident::Point;
 use std::alloc::{AllocError, Global};
@@ -11,15 +11,6 @@ const KEPT_ASIDE: ArriveReply = ArriveReply::Kept { back: 0, added: 0 };
 
 fn kept(back: u64, added: u64) -> ArriveReply {
     ArriveReply::Kept { back, added }
-}
-
-fn new_core(alloc: Global) -> Core {
-    let genesis = Genesis {
-        k: 2,
-        max_volatile: 100,
-        max_body_size: 65_536,
-    };
-    Core::new(alloc, genesis)
 }
 
 fn point(made: &Made) -> Point {

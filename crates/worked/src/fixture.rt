@@ -1,6 +1,7 @@
 //! Blocks without transactions, by their place on a chain.
 
 use block::{Header, empty_body_hash, read, write_empty};
+use chain_core::{Core, Genesis};
 use ident::BlockHash;
 use std::alloc::Global;
 use std::test::Fail;
@@ -28,4 +29,14 @@ pub fn make(alloc: Global, parent: Option<&Made>, slot: u64) -> Result<Made, Fai
     let text = write_empty(alloc, &header)?;
     let hash = read(alloc, &text)?.hash();
     Ok(Made { text, number, hash })
+}
+
+/// A core that nothing has come to, with k 2.
+pub fn new_core(alloc: Global) -> Core {
+    let genesis = Genesis {
+        k: 2,
+        max_volatile: 100,
+        max_body_size: 65_536,
+    };
+    Core::new(alloc, genesis)
 }

@@ -5,3 +5,5 @@
 mod chain_tests;
 #[cfg(test)]
 mod fixture;
+#[cfg(test)]
+mod follower_tests;

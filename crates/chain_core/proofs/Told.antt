@@ -1,0 +1,57 @@
+-- What followers are told, on lists.
+use Rattle.std.proofs.Common.{◌≡◌, ℕ, zero, suc, ◌<◌, ◌≤◌, List, [], ◌∷◌, ◌++◌, length, take, get_or, Some, None, refl, sym, ap, subst, ◌∙◌, inr, arith}
+use Rattle.std.specs.Prelude.{slice_get, slice_set}
+use Rattle.std.specs.Global.{Vec}
+use Rattle.std.proofs.lemmas.List.{length_push, map-set}
+use Rattle.model.specs.Block.{Block, IsReadAs}
+use Rattle.model.specs.Chain.{BeginsWith}
+use Rattle.model.specs.Follower.{Followers, told_by, free_id, with_opened, MayBeTold, AddBlock}
+use Rattle.model.proofs.Changes.{taken_with}
+use Rattle.chain_core.specs.FollowerView.{followers_of}
+
+-- with the next block of the chain it is a beginning still
+begins_longer : (chain told : List Block) (b : Block) → BeginsWith chain told → slice_get chain (length told) ≡ Some b → BeginsWith chain (told ++ b ∷ [])
+begins_longer chain told b begins next =
+    let step : length (told ++ b ∷ []) ≡ suc (length told) = omega (arith, length_push told b) in
+    ap (λ n. take n chain) step ∙ ((taken_with chain (length told) b next).1 ∙ ap (λ (bs : List Block). bs ++ b ∷ []) begins)
+
+pub told_next : (chain told shown new : List Block) (b clone : Block) (bytes copy : List ℕ) → shown ≡ told → BeginsWith chain shown → slice_get chain (length shown) ≡ Some b → IsReadAs b bytes → copy ≡ bytes → clone ≡ b → new ≡ told ++ clone ∷ []
+    → MayBeTold chain told (AddBlock copy) new
+told_next chain told shown new b clone bytes copy same begins next read is_copy is_clone pushed =
+    let longer : new ≡ told ++ b ∷ [] = pushed ∙ ap (λ (c : Block). told ++ c ∷ []) is_clone in
+    let begins' : BeginsWith chain told = subst (BeginsWith chain) same begins in
+    let next' : slice_get chain (length told) ≡ Some b = subst (λ (bs : List Block). slice_get chain (length bs) ≡ Some b) same next in
+    record {
+      replayed = (b, subst (IsReadAs b) (sym is_copy) read, longer);
+      told = inr (subst (BeginsWith chain) (sym longer) (begins_longer chain told b begins' next'));
+    }
+
+-- ---- followers as a vector of vectors
+
+pub told_at : (followers : List (Vec Block)) (id : ℕ) (told : Vec Block) → id < length followers → told ≡ get_or followers id told → told_by (followers_of followers) id ≡ Some told.items
+told_at [] id told below is = absurd (omega arith)
+told_at (f ∷ fs) zero told below is = ap (λ (v : Vec Block). Some v.items) (sym is)
+told_at (f ∷ fs) (suc id) told below is = told_at fs id told (omega arith) is
+
+pub nobody_at : (followers : List (Vec Block)) (id : ℕ) → length followers ≤ id → told_by (followers_of followers) id ≡ None
+nobody_at [] zero above = refl
+nobody_at [] (suc id) above = refl
+nobody_at (f ∷ fs) zero above = absurd (omega arith)
+nobody_at (f ∷ fs) (suc id) above = nobody_at fs id (omega arith)
+
+pub followers-set : (followers : List (Vec Block)) (id : ℕ) (told : Vec Block) → followers_of (slice_set followers id told) ≡ slice_set (followers_of followers) id (Some told.items)
+followers-set followers id told = map-set (λ (v : Vec Block). Some v.items) followers id told
+
+-- a follower that stays as it was
+pub same_at : (followers : List (Vec Block)) (id : ℕ) (old new : Vec Block) → old ≡ get_or followers id old → new.items ≡ old.items → followers_of (slice_set followers id new) ≡ followers_of followers
+same_at [] id old new is same = refl
+same_at (f ∷ fs) zero old new is same = ap (λ (t : List Block). Some t ∷ followers_of fs) (same ∙ ap (λ (v : Vec Block). v.items) is)
+same_at (f ∷ fs) (suc id) old new is same = ap (λ (g : Followers). Some f.items ∷ g) (same_at fs id old new is same)
+
+pub free_at : (followers : List (Vec Block)) → free_id (followers_of followers) ≡ length followers
+free_at [] = refl
+free_at (f ∷ fs) = ap suc (free_at fs)
+
+pub opened_at : (followers : List (Vec Block)) → with_opened (followers_of followers) ≡ followers_of followers ++ Some [] ∷ []
+opened_at [] = refl
+opened_at (f ∷ fs) = ap (λ (g : Followers). Some f.items ∷ g) (opened_at fs)
