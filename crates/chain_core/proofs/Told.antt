@@ -55,3 +55,13 @@ free_at (f ∷ fs) = ap suc (free_at fs)
 pub opened_at : (followers : List (Vec Block)) → with_opened (followers_of followers) ≡ followers_of followers ++ Some [] ∷ []
 opened_at [] = refl
 opened_at (f ∷ fs) = ap (λ (g : Followers). Some f.items ∷ g) (opened_at fs)
+
+some_same : {X : Type 0} (x y : X) → Some x ≡ Some y → x ≡ y
+some_same x y e = cc
+
+-- nothing is due of the chain that a follower was told
+pub due_nothing : (chain : List Block) (followers : List (Vec Block)) (id : ℕ) (was : Vec Block) (told : List Block) → id < length followers → was ≡ get_or followers id was
+    → (BeginsWith chain was.items → length chain ≤ length was.items) → told_by (followers_of followers) id ≡ Some told → BeginsWith chain told → length chain ≤ length told
+due_nothing chain followers id was told below is stays by begins =
+    let same : told ≡ was.items = some_same told was.items (sym by ∙ told_at followers id was below is) in
+    subst (λ (bs : List Block). length chain ≤ length bs) (sym same) (stays (subst (BeginsWith chain) same begins))

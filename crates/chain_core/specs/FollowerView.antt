@@ -2,6 +2,7 @@
 use Rattle.std.specs.Prelude.{ℕ, ◌≤◌, List, length, Option, Some, None, map, slice_set, ◌≡◌}
 use Rattle.std.specs.Global.{Vec}
 use Rattle.model.specs.Block.{Block}
+use Rattle.model.specs.Chain.{BeginsWith}
 use Rattle.model.specs.Follower as follower
 use Rattle.chain_core.specs.PointView.{told_point}
 use Rattle.chain_core.specs.declared.follower.Instruction.{Instruction}
@@ -33,3 +34,8 @@ abbrev pub IsTold : List Block → List (Vec Block) → ℕ → follower.Instruc
 IsTold selected old id instruction new =
     (before now : List Block) × (follower.told_by (followers_of old) id ≡ Some before) × follower.MayBeTold selected before instruction now
     × (followers_of new ≡ slice_set (followers_of old) id (Some now))
+
+-- A follower is left untold only where it was told the whole chain, or what is no beginning of it.
+abbrev pub IsDueNothing : List Block → follower.Followers → ℕ → Option Instruction → Type 0
+IsDueNothing selected followers id instruction =
+    instruction ≡ None → (told : List Block) → follower.told_by followers id ≡ Some told → BeginsWith selected told → length selected ≤ length told

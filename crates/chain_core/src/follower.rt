@@ -4,7 +4,7 @@ ghost use Rattle.std.specs.Prelude.{◌≡◌, ◌↔◌, ◌≤◌, ◌<◌, []
 ghost use Rattle.model.specs.Block.{Block as Told};
 ghost use Rattle.model.specs.Chain.{BeginsWith};
 ghost use Rattle.model.specs.Follower.{MayBeTold, follower_limit};
-ghost use Rattle.chain_core.specs.FollowerView.{told_instruction, followers_of, IsOpenFault, IsNextFault, IsTold};
+ghost use Rattle.chain_core.specs.FollowerView.{told_instruction, followers_of, IsOpenFault, IsNextFault, IsTold, IsDueNothing};
 
 use crate::refusal::same_bytes;
 use block::Block;
@@ -143,6 +143,7 @@ pub fn tell_follower(
     id: FollowerId,
 ) -> Result<Option<Instruction>, NextFault>
     ensures ok { IfOk result (λ instruction. IsTold chain.now followers.old.items id.number (told_instruction instruction) followers.new.items) }
+    ensures due { IfOk result (λ instruction. IsDueNothing chain.now (followers_of followers.old.items) id.number instruction) }
     ensures fault { IfErr result (λ e. IsNextFault followers.old.items id.number e) }
     ensures err { OnErr result (followers_of followers.new.items ≡ followers_of followers.old.items) }
 {

@@ -45,6 +45,7 @@ impl Core {
     ghost use Rattle.chain_core.specs.PointView.{told_point};
     ghost use Rattle.chain_core.specs.ReplyView.{told_arrival};
     ghost use Rattle.chain_core.specs.EventView.{told_event, told_reply, told_open, told_next, history_of};
+    ghost use Rattle.chain_core.specs.FollowerView.{IsDueNothing};
     ghost use Rattle.chain_core.specs.Theorem.{ChainTheorem};
     ghost use Rattle.chain_core.specs.Held.{opening_held, Stands};
 
@@ -114,6 +115,8 @@ impl Core {
     /// Compares what was told with the chain, block by block, and copies the bytes of the block.
     pub fn next(&mut self, id: FollowerId) -> Result<Option<Instruction>, NextFault>
         ensures step { (s : State) → Stands self.old s → (t : State) × Step self.old.genesis s (Next id.number) (told_next result) t × Stands self.new t }
+        // What is a proper beginning of the selected chain goes on.
+        ensures due { IfOk result (λ instruction. IsDueNothing self.old.chain self.old.followers id.number instruction) }
         ensures genesis { self.new.genesis ≡ self.old.genesis }
         ensures err { OnErr result (self.new ≡ self.old) }
     {
