@@ -1,2 +1,5 @@
 pub mod Major
 pub mod Reading
+pub mod Tree
+pub mod TreeFalls
+pub mod ItemReading

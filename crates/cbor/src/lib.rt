@@ -1,16 +1,27 @@
-//! Readers and writers of the parts of deterministic CBOR (RFC 8949, sections 3 and 4.2.1), with no
-//! tree of items between the bytes and the values.
+//! Deterministic CBOR (RFC 8949, sections 3 and 4.2.1): readers and writers of its parts, with no tree of
+//! items between the bytes and the values, and items as trees.
 #![tactic(auto)]
 
 mod argument;
+mod fault;
+mod item;
 mod major;
 mod reader;
+mod tree_clone;
+mod tree_reader;
+mod tree_writer;
 mod writer;
 
+pub use fault::CborFault;
+pub use item::{Entries, Entry, Item, Items};
 pub use reader::{array, byte_string, fixed, map, negative, null, unsigned};
+pub use tree_reader::{decode, read};
+pub use tree_writer::encode;
 pub use writer::{
     write_array, write_byte_string, write_map, write_negative, write_null, write_unsigned,
 };
 
 #[cfg(test)]
 mod tests;
+#[cfg(test)]
+mod tree_tests;

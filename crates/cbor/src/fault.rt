@@ -1,0 +1,34 @@
+//! Why no item was read.
+
+ghost use Rattle.std.specs.Prelude.{◌≡◌};
+ghost use Rattle.cbor.specs.declared.fault.CborFault.TheVariants.{OutOfMemory};
+
+use std::alloc::{AllocError, AllocFailed};
+use thiserror::Error;
+
+/// What is wrong with the bytes, or that memory ran out before it was known.
+#[derive(Clone, Copy, Debug, PartialEq, Eq, Error)]
+pub enum CborFault {
+    /// The bytes are not the deterministic text of an item that nests at most 64 deep.
+    #[error("not the deterministic text of an item")]
+    Malformed,
+    /// Memory ran out.
+    #[error("out of memory")]
+    OutOfMemory,
+}
+
+impl From<AllocError> for CborFault {
+    ghost from_gives = { λ _ e. e ≡ OutOfMemory };
+
+    fn from(_error: AllocError) -> CborFault {
+        CborFault::OutOfMemory
+    }
+}
+
+impl<T: Drop> From<AllocFailed<T>> for CborFault {
+    ghost from_gives = { λ _ e. e ≡ OutOfMemory };
+
+    fn from(_error: AllocFailed<T>) -> CborFault {
+        CborFault::OutOfMemory
+    }
+}

@@ -1,0 +1,105 @@
+//! The start of the program: from its words to its status.
+
+ghost use Rattle.std.specs.Prelude.{◌≡◌, ◌≢◌, ◌⊎◌, IfErr, IfSome, OnOk};
+ghost use Rattle.clap.specs.Words.{kind_of};
+ghost use Rattle.scenario.specs.Run.{script_genesis, EndsWell};
+ghost use Rattle.node.specs.Ending.{EndsBySome};
+
+use crate::command_line::job;
+use crate::jobs::Job;
+use clap::Error;
+use clap::error::ErrorKind;
+use scenario::ScenarioFault;
+use std::alloc::{AllocError, Global};
+use std::fs::File;
+use std::io::{BufReader, Read, Write};
+use std::rt::Files;
+use thiserror::Error as Fault;
+
+/// Why a job is not done.
+#[derive(Debug, Drop, Fault)]
+enum Failure<'a> {
+    /// The file of this path can't be read.
+    #[error("cannot read {0}")]
+    CannotRead(&'a str),
+    /// The run of the script failed.
+    #[error(transparent)]
+    Scenario(ScenarioFault),
+}
+
+/// Runs the script that a reader gives, read through a buffer.
+fn run_reader<R: Read, W: Write>(
+    alloc: Global,
+    reader: &mut R,
+    out: &mut W,
+) -> Result<(), ScenarioFault>
+    ensures ok { OnOk result (IfSome (R.remaining reader.old) (λ text. EndsWell script_genesis text (W.contents out.old) (W.contents out.new))) }
+    ensures fault { IfErr result (λ why. IfSome (R.remaining reader.old) (λ text. EndsBySome text (W.contents out.old) (W.contents out.new) why)) }
+{
+    let Ok(mut reader) = BufReader::new(alloc, reader) else {
+        return Err(ScenarioFault::OutOfMemory);
+    };
+    scenario::run(alloc, &mut reader, out)
+}
+
+/// Runs the script of a file.
+fn run_file<'a, R: Files + AllocGlobal, W: Write>(
+    rt: &R,
+    path: &'a str,
+    out: &mut W,
+) -> Result<(), Failure<'a>> {
+    let Ok(mut file) = File::open(rt, path) else {
+        return Err(Failure::CannotRead(path));
+    };
+    match run_reader(rt.alloc(), &mut file, out) {
+        Ok(()) => Ok(()),
+        Err(fault) => Err(Failure::Scenario(fault)),
+    }
+}
+
+/// Tells why a command line is no job, and answers the status.
+fn refuse<O: Write, E: Write>(error: &Error, out: &mut O, err: &mut E) -> u8
+    ensures memory { kind_of error.now ≡ ErrorKind.OutOfMemory → result ≡ 1 }
+    ensures mistake { kind_of error.now ≢ ErrorKind.OutOfMemory → kind_of error.now ≢ ErrorKind.DisplayHelp → kind_of error.now ≢ ErrorKind.DisplayVersion → result ≡ 2 }
+    ensures never_done { result ≡ 0 → (kind_of error.now ≡ ErrorKind.DisplayHelp) ⊎ (kind_of error.now ≡ ErrorKind.DisplayVersion) }
+{
+    if error.kind() == ErrorKind::OutOfMemory {
+        return fail(&ScenarioFault::OutOfMemory, err);
+    }
+    if error.use_stderr() {
+        let _ = write!(err, "{error}");
+        return 2;
+    }
+    match write!(out, "{error}") {
+        Ok(()) => 0,
+        Err(_) => fail(&ScenarioFault::WriteFailed, err),
+    }
+}
+
+/// Does what the words of the command line ask for. Answers 0 where that was done, 2 for a refused command line
+/// and else 1 with one line on standard error.
+pub fn start<R: Files + AllocGlobal, O: Write, E: Write>(
+    rt: &R,
+    words: &[String],
+    out: &mut O,
+    err: &mut E,
+) -> u8 {
+    match job(rt.alloc(), words) {
+        Ok(Job::Run { genesis: _, script }) => match run_file(rt, script, out) {
+            Ok(()) => 0,
+            Err(failure) => {
+                let _ = write!(err, "{failure}\n");
+                1
+            }
+        },
+        Err(error) => refuse(&error, out, err),
+    }
+}
+
+/// Tells a fault in one line, and answers the status.
+fn fail<E: Write>(fault: &ScenarioFault, err: &mut E) -> u8
+    ensures { result ≡ 1 }
+{
+    let _ = write!(err, "{fault}\n");
+    1
+}

@@ -1,0 +1,9 @@
+pub mod Numbers
+pub mod TooMany
+pub mod Bindings
+pub mod Built
+pub mod Arriving
+pub mod Writing
+pub mod Playing
+pub mod Lines
+pub mod Running

@@ -1,0 +1,56 @@
+-- The first line of a text, and lines that print one after the other.
+use Rattle.std.proofs.Common.{◌≡◌, ◌≢◌, ℕ, ◌+◌, Bool, true, false, cond, nat_eq, List, [], ◌∷◌, ◌++◌, length, refl, sym, ◌∙◌, ap, subst, append_assoc, append-nil, length-append, arith}
+use Rattle.std.proofs.lemmas.Bool.Decides.{nat_tests}
+use Rattle.std.specs.List.{concat, onto_first}
+use Rattle.std.specs.Io.BufRead.{take_through, drop_through}
+use Rattle.model.specs.Chain.{Genesis}
+use Rattle.scenario.specs.Text.{lines_of}
+use Rattle.scenario.specs.Run.{Scene, Obeys, Prints}
+
+is_ten : (x : ℕ) → nat_eq x 10 ≡ true → x ≡ 10
+is_ten x h = grind (arith, nat_tests)
+
+-- a text that isn't empty begins with a line that isn't
+one_line : (x : ℕ) (xs : List ℕ) (b : Bool) → nat_eq x 10 ≡ b → (xs ≢ [] → lines_of xs ≡ take_through 10 xs ∷ lines_of (drop_through 10 xs))
+    → cond b ((10 ∷ []) ∷ lines_of xs) (onto_first x (lines_of xs)) ≡ cond b (x ∷ []) (x ∷ take_through 10 xs) ∷ lines_of (cond b xs (drop_through 10 xs))
+one_line x xs true is next = let same : x ≡ 10 = is_ten x is in rw same refl
+one_line x [] false is next = refl
+one_line x (y ∷ ys) false is next = let filled : (y ∷ ys) ≢ [] = λ e. cc in rw (next filled) refl
+
+pub first_line : (xs : List ℕ) → xs ≢ [] → lines_of xs ≡ take_through 10 xs ∷ lines_of (drop_through 10 xs)
+first_line [] filled = absurd (filled refl)
+first_line (x ∷ xs) filled = one_line x xs (nat_eq x 10) refl (λ more. first_line xs more)
+
+-- nothing is the first line of no text alone
+no_bit : (x : ℕ) (xs : List ℕ) (b : Bool) → cond b (x ∷ []) (x ∷ take_through 10 xs) ≡ [] → ⊥
+no_bit x xs true e = cc
+no_bit x xs false e = cc
+
+pub no_line : (xs : List ℕ) → take_through 10 xs ≡ [] → xs ≡ []
+no_line [] e = refl
+no_line (x ∷ xs) e = absurd (no_bit x xs (nat_eq x 10) e)
+
+-- a text is its first line and the rest
+rest_bit : (x : ℕ) (xs : List ℕ) (b : Bool) → xs ≡ take_through 10 xs ++ drop_through 10 xs → x ∷ xs ≡ cond b (x ∷ []) (x ∷ take_through 10 xs) ++ cond b xs (drop_through 10 xs)
+rest_bit x xs true e = refl
+rest_bit x xs false e = ap (λ (l : List ℕ). x ∷ l) e
+
+pub line_and_rest : (xs : List ℕ) → xs ≡ take_through 10 xs ++ drop_through 10 xs
+line_and_rest [] = refl
+line_and_rest (x ∷ xs) = rest_bit x xs (nat_eq x 10) (line_and_rest xs)
+
+-- no line is read yet
+at_start : (genesis : Genesis) (before : ℕ) (s t : Scene) (line first : List ℕ) (u : Scene) → t ≡ s → Obeys genesis (before + 0) t line first u → Obeys genesis before s line first u
+at_start genesis before s t line first u same obeys = subst (λ (n : ℕ). Obeys genesis n s line first u) (omega arith) (subst (λ (x : Scene). Obeys genesis (before + 0) x line first u) same obeys)
+
+-- bytes before the last line, counted with those of the first
+size_of_first : (before : ℕ) (l : List ℕ) (ls : List (List ℕ)) → before + length (concat (l ∷ ls)) ≡ (before + length l) + length (concat ls)
+size_of_first before l ls = omega (arith, length-append l (concat ls))
+
+-- one more line
+pub prints_more : (genesis : Genesis) (before : ℕ) (s : Scene) (lines : List (List ℕ)) (out : List ℕ) (t : Scene) (line first : List ℕ) (u : Scene) → Prints genesis before s lines out t
+    → Obeys genesis (before + length (concat lines)) t line first u → Prints genesis before s (lines ++ line ∷ []) (out ++ first) u
+prints_more genesis before s [] out t line first u (empty, same) obeys = (first, [], u, at_start genesis before s t line first u same obeys, (refl, refl), ap (λ (l : List ℕ). l ++ first) empty ∙ sym (append-nil first))
+prints_more genesis before s (l ∷ ls) out t line first u (one, rest, mid, obeys_one, prints, is) obeys =
+    let after : Obeys genesis ((before + length l) + length (concat ls)) t line first u = subst (λ (n : ℕ). Obeys genesis n t line first u) (size_of_first before l ls) obeys in
+    (one, rest ++ first, mid, obeys_one, prints_more genesis (before + length l) mid ls rest t line first u prints after, ap (λ (l : List ℕ). l ++ first) is ∙ append_assoc one rest first)

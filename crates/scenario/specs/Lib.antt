@@ -1,0 +1,14 @@
+pub mod Text
+pub mod Line
+pub mod LineView
+pub mod Answer
+pub mod Names
+pub mod NamesView
+pub mod Meaning
+pub mod BaseView
+pub mod Print
+pub mod Run
+pub mod SessionView
+pub mod Written
+pub mod Ending
+pub mod OutcomeView

@@ -1,0 +1,31 @@
+-- Which scenes of the definitions a session stands for, and what it answers to a line.
+use Rattle.std.specs.Prelude.{◌≡◌, ℕ, List, Result, Ok, Err}
+use Rattle.std.specs.Global.{Vec}
+use Rattle.model.specs.Chain.{Genesis}
+use Rattle.chain_core.specs.Held.{Stands}
+use Rattle.scenario.specs.declared.fault.LineFault.{LineFault}
+use Rattle.scenario.specs.declared.stop.Stop.{Stop}
+use Rattle.scenario.specs.declared.stop.Stop.TheVariants.{Fault, OutOfMemory}
+use Rattle.scenario.specs.declared.session.Session.{Session}
+use Rattle.scenario.specs.NamesView.{AreBound}
+use Rattle.scenario.specs.Meaning.{Meaning}
+use Rattle.scenario.specs.Run.{Scene, Acts}
+
+-- the core stands for the state, and the names for the names
+pub record Holds (session : Session) (s : Scene) : Type 0 where
+  pub stands : Stands session.core s.state
+  pub names : AreBound session.names s.names
+
+-- a line that means this was obeyed, and printed so
+pub record Acted (genesis : Genesis) (s : Scene) (said : Result Meaning LineFault) (out : List ℕ) (new : Session) : Type 0 where
+  pub meaning : Meaning
+  pub is_said : said ≡ Ok meaning
+  pub scene : Scene
+  pub acts : Acts genesis s meaning out scene
+  pub holds : Holds new scene
+
+-- what was answered to a line: what it prints, its fault, or that memory ran out
+abbrev pub IsObeyed : Genesis → Scene → Result Meaning LineFault → Result (Vec ℕ) Stop → Session → Type 0
+IsObeyed genesis s said (Ok out) new = Acted genesis s said out.items new
+IsObeyed genesis s said (Err (Fault fault)) new = said ≡ Err fault
+IsObeyed genesis s said (Err OutOfMemory) new = Unit {0}

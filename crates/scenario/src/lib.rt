@@ -1,0 +1,22 @@
+//! The script language: definitions of blocks, their arrival in any order, and questions, each printing one
+//! line.
+#![tactic(auto)]
+
+mod building;
+mod fault;
+mod line;
+mod name;
+mod names;
+mod number;
+mod output;
+mod print;
+mod runner;
+mod session;
+mod stop;
+mod words;
+
+pub use fault::{LineFault, ScenarioFault};
+pub use runner::run;
+
+#[cfg(test)]
+mod tests;

@@ -1,0 +1,174 @@
+//! The node with the names of a script.
+
+ghost use Rattle.std.specs.Prelude.{◌≡◌, Ok, None, IfOk, is_some};
+ghost use Rattle.model.specs.History.{State, Arrive, Step};
+ghost use Rattle.chain_core.specs.Held.{Stands};
+ghost use Rattle.chain_core.specs.GenesisView.{told_genesis};
+ghost use Rattle.scenario.specs.OutcomeView.{told_outcome};
+ghost use Rattle.scenario.specs.Names.{bound_to};
+ghost use Rattle.scenario.specs.NamesView.{told_bound};
+ghost use Rattle.scenario.specs.LineView.{told_line, told_parent};
+ghost use Rattle.scenario.specs.Meaning.{formed, meaning_in, binds_free, block_meaning, base_of, bound_raw, arrival_meaning, Binds, PrintsTip};
+ghost use Rattle.scenario.specs.Run.{Scene, opening_scene};
+ghost use Rattle.scenario.specs.SessionView.{Holds, IsObeyed};
+
+use crate::building::{base_of, build};
+use crate::fault::LineFault;
+use crate::line::{Form, Line, Parent};
+use crate::name::Name;
+use crate::names::{Bound, Names};
+use crate::print::{print_arrival, print_tip};
+use crate::stop::Stop;
+use chain_core::{ArriveReply, Core, Genesis};
+use std::alloc::{AllocError, Global};
+
+/// Room for what a line prints: a name and two numbers at most, and some words.
+const LINE_ROOM: usize = 128;
+
+/// The node, with what names are bound to.
+#[derive(Drop)]
+pub struct Session {
+    alloc: Global,
+    core: Core,
+    names: Names,
+}
+
+/// The bytes that arrive.
+fn formed(alloc: Global, form: Form, bytes: &[u8]) -> Result<Vec<u8>, AllocError>
+    ensures { IfOk result (λ b. b.items ≡ formed form bytes.now) }
+{
+    match form {
+        Form::Whole => Vec::from_slice(alloc, bytes),
+        Form::Cut => Vec::from_slice(alloc, &bytes[..bytes.len().saturating_sub(1)]),
+        Form::Extended => {
+            let mut extended = Vec::from_slice(alloc, bytes)?;
+            extended.push(0)?;
+            Ok(extended)
+        }
+    }
+}
+
+/// Bytes arrive at the core. None where memory ran out.
+fn arrive(alloc: Global, core: &mut Core, form: Form, bytes: &[u8]) -> Option<ArriveReply>
+    ensures step { (s : State) → Stands core.old s → (t : State) × Step core.old.genesis s (Arrive (formed form bytes.now)) (told_outcome result) t × Stands core.new t }
+    ensures genesis { core.new.genesis ≡ core.old.genesis }
+{
+    let Ok(bytes) = formed(alloc, form, bytes) else {
+        return None;
+    };
+    match core.arrive(&bytes) {
+        Ok(reply) => Some(reply),
+        Err(AllocError) => None,
+    }
+}
+
+impl Session {
+    /// A session before the first line.
+    pub fn new(alloc: Global, genesis: Genesis) -> Session
+        ensures holds { Holds result opening_scene }
+        ensures genesis { result.core.genesis ≡ told_genesis genesis }
+    {
+        Session {
+            alloc,
+            core: Core::new(alloc, genesis),
+            names: Names::new(alloc),
+        }
+    }
+
+    /// Whether the name is bound.
+    fn is_taken(&self, name: Name<'_>) -> bool
+        ensures { (s : Scene) → Holds self.now s → result ≡ is_some (bound_to name.entry.text.now s.names) }
+    {
+        self.names.get(name.text).is_some()
+    }
+
+    /// Binds a name that is free, and prints nothing.
+    fn bind(&mut self, name: Name<'_>, bound: Bound) -> Result<Vec<u8>, Stop>
+        ensures obeyed { (s : Scene) → Holds self.old s → bound_to name.entry.text.now s.names ≡ None → IsObeyed self.old.core.genesis s (Ok (Binds (record { name = name.entry.text.now; bound = told_bound bound }))) result self.new }
+        ensures genesis { self.new.core.genesis ≡ self.old.core.genesis }
+    {
+        match self.names.bind(name.text, bound) {
+            Ok(()) => Ok(Vec::new(self.alloc)),
+            Err(AllocError) => Err(Stop::OutOfMemory),
+        }
+    }
+
+    /// A line that defines a block.
+    fn define_block(
+        &mut self,
+        name: Name<'_>,
+        parent: Parent<'_>,
+        slot: u64,
+    ) -> Result<Vec<u8>, Stop>
+        ensures obeyed { (s : Scene) → Holds self.old s → IsObeyed self.old.core.genesis s (block_meaning s.names name.entry.text.now (base_of s.names (told_parent parent.entry)) slot) result self.new }
+        ensures genesis { self.new.core.genesis ≡ self.old.core.genesis }
+    {
+        let Some(base) = base_of(&self.names, parent) else {
+            return Err(Stop::Fault(LineFault::UnknownName));
+        };
+        if self.is_taken(name) {
+            return Err(Stop::Fault(LineFault::NameTaken));
+        }
+        match build(self.alloc, base, slot) {
+            Ok(bound) => self.bind(name, bound),
+            Err(stop) => Err(stop),
+        }
+    }
+
+    /// A line that defines bytes.
+    fn define_raw(&mut self, name: Name<'_>, bytes: Vec<u8>) -> Result<Vec<u8>, Stop>
+        ensures obeyed { (s : Scene) → Holds self.old s → IsObeyed self.old.core.genesis s (binds_free s.names name.entry.text.now (Ok (bound_raw bytes.items))) result self.new }
+        ensures genesis { self.new.core.genesis ≡ self.old.core.genesis }
+    {
+        if self.is_taken(name) {
+            return Err(Stop::Fault(LineFault::NameTaken));
+        }
+        let bound = Bound { bytes, place: None };
+        self.bind(name, bound)
+    }
+
+    /// A line in which the bytes of a name arrive. The room for what it prints is taken first.
+    fn arrive(&mut self, form: Form, name: Name<'_>) -> Result<Vec<u8>, Stop>
+        ensures obeyed { (s : Scene) → Holds self.old s → IsObeyed self.old.core.genesis s (arrival_meaning form name.entry.text.now (bound_to name.entry.text.now s.names)) result self.new }
+        ensures genesis { self.new.core.genesis ≡ self.old.core.genesis }
+    {
+        let Some(bound) = self.names.get(name.text) else {
+            return Err(Stop::Fault(LineFault::UnknownName));
+        };
+        let Ok(mut line) = Vec::with_capacity(self.alloc, LINE_ROOM) else {
+            return Err(Stop::OutOfMemory);
+        };
+        let reply = arrive(self.alloc, &mut self.core, form, &bound.bytes);
+        match print_arrival(&mut line, form, name.text, reply) {
+            Ok(()) => Ok(line),
+            Err(AllocError) => Err(Stop::OutOfMemory),
+        }
+    }
+
+    /// The question where the selected chain ends.
+    fn tip(&self) -> Result<Vec<u8>, Stop>
+        ensures { (s : Scene) → Holds self.now s → IsObeyed self.now.core.genesis s (Ok PrintsTip) result self.now }
+    {
+        let Ok(mut line) = Vec::with_capacity(self.alloc, LINE_ROOM) else {
+            return Err(Stop::OutOfMemory);
+        };
+        match print_tip(&mut line, &self.names, &self.core.tip()) {
+            Ok(()) => Ok(line),
+            Err(AllocError) => Err(Stop::OutOfMemory),
+        }
+    }
+
+    /// Does what a line says, and answers what it prints.
+    pub fn obey(&mut self, line: Line<'_>) -> Result<Vec<u8>, Stop>
+        ensures obeyed { (s : Scene) → Holds self.old s → IsObeyed self.old.core.genesis s (meaning_in s.names (told_line line.entry)) result self.new }
+        ensures genesis { self.new.core.genesis ≡ self.old.core.genesis }
+    {
+        match line {
+            Line::Nothing => Ok(Vec::new(self.alloc)),
+            Line::Block { name, parent, slot } => self.define_block(name, parent, slot),
+            Line::Raw { name, bytes } => self.define_raw(name, bytes),
+            Line::Arrive { form, name } => self.arrive(form, name),
+            Line::Tip => self.tip(),
+        }
+    }
+}
