@@ -9,8 +9,9 @@ use thiserror::Error;
 /// What is wrong with the bytes, or that memory ran out before it was known.
 #[derive(Clone, Copy, Debug, PartialEq, Eq, Error)]
 pub enum CborFault {
-    /// The bytes are not the deterministic text of an item that nests at most 64 deep.
-    #[error("not the deterministic text of an item")]
+    /// The bytes are not the deterministic text of what was to be read: of an item that nests at most 64 deep,
+    /// or of a shape that is made of items.
+    #[error("malformed CBOR")]
     Malformed,
     /// Memory ran out.
     #[error("out of memory")]

@@ -1,7 +1,7 @@
 -- Values of several assets (Shelley-MA, the coin and the asset maps of outputs and of mint).
-use Rattle.std.specs.Prelude.{◌≡◌, ◌≢◌, ℕ, ◌≤◌, ◌<◌, ◌^◌, ℤ, pos, negsuc, List, [], ◌∷◌, length, map}
+use Rattle.std.specs.Prelude.{◌≡◌, ◌≢◌, ℕ, ◌≤◌, ◌<◌, ◌^◌, ℤ, pos, negsuc, ◌+ℤ◌, List, [], ◌∷◌, length, map, bytes_eq, if◌then◌else◌}
 use Rattle.std.specs.List.{AllByRecursion}
-use Rattle.model.specs.Cbor.{Item, Unsigned, Negative, Bytes, array_of, map_of}
+use Rattle.model.specs.Cbor.{Item, Unsigned, Negative, Bytes, array_of, map_of, Spells}
 
 -- an asset name, 0 to 32 bytes, with its quantity
 pub record Token (Q : Type 0) : Type 0 where
@@ -63,3 +63,41 @@ IsMintedQuantity (negsuc n) = n < 2 ^ 63
 
 abbrev pub IsMint : Mint → Type 0
 IsMint mint = AllByRecursion (IsPolicy IsMintedQuantity) mint
+
+-- the bytes are the text of the value
+pub record SpellsValue (value : Value) (bytes : List ℕ) : Type 0 where
+  pub is_value : IsValue value
+  pub spelled : Spells (item_of_value value) bytes
+
+-- the bytes are the text of what is minted, which is not nothing
+pub record SpellsMint (mint : Mint) (bytes : List ℕ) : Type 0 where
+  pub is_mint : IsMint mint
+  pub not_empty : mint ≢ []
+  pub spelled : Spells (item_of_assets item_of_number mint) bytes
+
+-- ---- how much of an asset there is (Shelley-MA, values as finite maps from assets to whole numbers)
+
+-- an asset: ada, or what a policy has under a name
+pub data Asset : Type 0 where
+  Ada : Asset
+  Named : (policy name : List ℕ) → Asset
+
+-- what there is under a name, each quantity read as a whole number: 0 where there is none
+abbrev pub named_amount : {Q : Type 0} → (Q → ℤ) → List ℕ → List (Token Q) → ℤ
+named_amount whole name [] = pos 0
+named_amount whole name (t ∷ ts) = (if bytes_eq name t.name then whole t.quantity else pos 0) +ℤ named_amount whole name ts
+
+-- what there is under a name of a policy
+abbrev pub policy_amount : {Q : Type 0} → (Q → ℤ) → (policy name : List ℕ) → List (Policy Q) → ℤ
+policy_amount whole policy name [] = pos 0
+policy_amount whole policy name (p ∷ ps) = (if bytes_eq policy p.id then named_amount whole name p.tokens else pos 0) +ℤ policy_amount whole policy name ps
+
+-- how much of an asset is held, ada counted in lovelace
+abbrev pub amount_of : Asset → Value → ℤ
+amount_of Ada value = pos value.coin
+amount_of (Named policy name) value = policy_amount pos policy name value.assets
+
+-- how much of an asset is made, or with a negative sign taken away; ada never is
+abbrev pub minted_amount : Asset → Mint → ℤ
+minted_amount Ada mint = pos 0
+minted_amount (Named policy name) mint = policy_amount (λ quantity. quantity) policy name mint

@@ -1,0 +1,14 @@
+pub mod Entries
+pub mod AssetTexts
+pub mod QuantityTexts
+pub mod ValueTexts
+pub mod ListLoops
+pub mod Writing
+pub mod Copies
+pub mod RisingKeys
+pub mod Lists
+pub mod Adding
+pub mod Sums
+pub mod Preparing
+pub mod Checking
+pub mod Summing

@@ -1,0 +1,85 @@
+-- Writing entries one after the other, as a loop does.
+use Rattle.std.proofs.Common.{◌≡◌, ℕ, zero, suc, ◌+◌, ◌<◌, ◌≤◌, List, [], ◌∷◌, ◌++◌, length, drop, get_or, map, refl, sym, ap, ◌∙◌, append-nil, append_assoc, arith}
+use Rattle.std.proofs.lemmas.List.{take_at, take-append-drop}
+use Rattle.model.specs.Cbor.{Item, Bytes, head, text_of, pairs_of, pairs_text, pairs_count, map_of}
+use Rattle.value.specs.Written.{Keeps}
+
+-- what has more behind it stands in front still
+pub kept : (old more new : List ℕ) → new ≡ old ++ more → Keeps old new
+kept old more new e = rw e (take_at old more (length old) refl)
+
+-- and so does what stood in front before
+pub kept_on : (old mid new : List ℕ) → Keeps old mid → Keeps mid new → Keeps old new
+kept_on old mid new first second =
+    let a : mid ≡ old ++ drop (length old) mid = sym (take-append-drop (length old) mid) ∙ ap (λ (t : List ℕ). t ++ drop (length old) mid) first in
+    let b : new ≡ mid ++ drop (length mid) new = sym (take-append-drop (length mid) new) ∙ ap (λ (t : List ℕ). t ++ drop (length mid) new) second in
+    kept old (drop (length old) mid ++ drop (length mid) new) new (b ∙ ap (λ (t : List ℕ). t ++ drop (length mid) new) a ∙ append_assoc old (drop (length old) mid) (drop (length mid) new))
+
+-- nothing behind it
+pub kept_same : (old new : List ℕ) → new ≡ old → Keeps old new
+kept_same old new e = kept old [] new (e ∙ sym (append-nil old))
+
+-- a byte string that was written under another name
+pub string_written : (before after written name : List ℕ) → after ≡ before ++ text_of (Bytes written) → written ≡ name → after ≡ before ++ text_of (Bytes name)
+string_written before after written name h same = h ∙ ap (λ (n : List ℕ). before ++ text_of (Bytes n)) same
+
+-- two maps in turn
+pub map_twice : {A B C : Type 0} (f : B → C) (g : A → B) (xs : List A) → map f (map g xs) ≡ map (λ x. f (g x)) xs
+map_twice f g [] = refl
+map_twice f g (x ∷ xs) = ap (λ t. f (g x) ∷ t) (map_twice f g xs)
+
+module _ {E : Type 0} (pair : E → Item × Item) where
+  -- of these entries so many were written behind bytes
+  pub record IsPartWritten (before now : List ℕ) (es : List E) (i : ℕ) : Type 0 where
+    pub whole : now ++ pairs_text (pairs_of (map pair (drop i es))) ≡ before ++ pairs_text (pairs_of (map pair es))
+    pub keeps : Keeps before now
+
+  -- the entries from one on
+  from_one : (es : List E) (i : ℕ) (e : E) → i < length es → e ≡ get_or es i e → drop i es ≡ e ∷ drop (suc i) es
+  from_one [] i e lt is = absurd (omega arith)
+  from_one (x ∷ xs) zero e lt is = ap (λ t. t ∷ xs) (sym is)
+  from_one (x ∷ xs) (suc i) e lt is = from_one xs i e (omega arith) is
+
+  text_from : (es : List E) (i : ℕ) (e : E) → i < length es → e ≡ get_or es i e
+      → pairs_text (pairs_of (map pair (drop i es))) ≡ text_of (pair e).0 ++ (text_of (pair e).1 ++ pairs_text (pairs_of (map pair (drop (suc i) es))))
+  text_from es i e lt is = ap (λ (xs : List E). pairs_text (pairs_of (map pair xs))) (from_one es i e lt is)
+
+  -- nothing yet
+  pub none_written : (before : List ℕ) (es : List E) → IsPartWritten before before es 0
+  none_written before es = record { whole = refl; keeps = kept_same before before refl }
+
+  -- one more
+  pub one_written : (before now mid after : List ℕ) (es : List E) (i : ℕ) (e : E) → i < length es → e ≡ get_or es i e → mid ≡ now ++ text_of (pair e).0 → after ≡ mid ++ text_of (pair e).1 → IsPartWritten before now es i → IsPartWritten before after es (i + 1)
+  one_written before now mid after es i e lt is key value part =
+      let rest = pairs_text (pairs_of (map pair (drop (suc i) es))) in
+      let k = text_of (pair e).0 in
+      let v = text_of (pair e).1 in
+      let next : i + 1 ≡ suc i = omega arith in
+      let whole : after ++ rest ≡ now ++ (k ++ (v ++ rest)) = ap (λ (t : List ℕ). t ++ rest) (value ∙ ap (λ (t : List ℕ). t ++ v) key) ∙ append_assoc (now ++ k) v rest ∙ append_assoc now k (v ++ rest) in
+      record {
+        whole = rw next (whole ∙ ap (λ (t : List ℕ). now ++ t) (sym (text_from es i e lt is)) ∙ part.whole);
+        keeps = kept_on before now after part.keeps (kept_on now mid after (kept now k mid key) (kept mid v after value));
+      }
+
+  -- all of them
+  pub all_written : (before now : List ℕ) (es : List E) (i : ℕ) → length es ≤ i → IsPartWritten before now es i → now ≡ before ++ pairs_text (pairs_of (map pair es))
+  all_written before now es i le part =
+      let none : drop i es ≡ [] = nothing_left es i le in
+      sym (append-nil now) ∙ ap (λ (xs : List E). now ++ pairs_text (pairs_of (map pair xs))) (sym none) ∙ part.whole
+    where
+      nothing_left : (es : List E) (i : ℕ) → length es ≤ i → drop i es ≡ []
+      nothing_left [] zero le = refl
+      nothing_left [] (suc i) le = refl
+      nothing_left (x ∷ xs) zero le = absurd (omega arith)
+      nothing_left (x ∷ xs) (suc i) le = nothing_left xs i (omega arith)
+
+  -- as many entries are written as there are
+  count_is : (es : List E) → pairs_count (pairs_of (map pair es)) ≡ length es
+  count_is [] = refl
+  count_is (e ∷ es) = ap suc (count_is es)
+
+  -- a head that counts the entries, and the entries
+  pub map_written : (es : List E) (n : ℕ) (before headed after : List ℕ) → length es ≡ n → headed ≡ before ++ head 5 n → after ≡ headed ++ pairs_text (pairs_of (map pair es)) → after ≡ before ++ text_of (map_of (map pair es))
+  map_written es n before headed after len h a =
+      let counted : n ≡ pairs_count (pairs_of (map pair es)) = sym len ∙ sym (count_is es) in
+      a ∙ ap (λ (t : List ℕ). t ++ pairs_text (pairs_of (map pair es))) (h ∙ ap (λ (n : ℕ). before ++ head 5 n) counted) ∙ append_assoc before (head 5 (pairs_count (pairs_of (map pair es)))) (pairs_text (pairs_of (map pair es)))

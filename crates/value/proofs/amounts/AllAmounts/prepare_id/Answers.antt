@@ -1,0 +1,8 @@
+use Rattle.std.proofs.Common.{refl, rules}
+use Rattle.value.specs.Sums.{sum_under_any}
+use Rattle.ident.proofs.ByteKeys.{insert_unseen, none_if}
+use Rattle.value.proofs.amounts.AllAmounts.prepare_id.Goals as goal
+
+pub returns-in_ok-insert-clause-same : goal.returns-in_ok-insert-clause-same
+returns-in_ok-insert-clause-same c = λ q name. rw c.in_ok-insert.ensures.entries
+    (insert_unseen (λ k. k.bytes) (λ o. sum_under_any o name) q c.args.id.bytes c.args.self.now.by_policy.entries c.args.id _ refl (none_if _ (search (rules, c.contains_key.ensures, c.if-not-contains_key.true))) (c.new.ensures name))

@@ -1,0 +1,43 @@
+//! Copies of assets.
+
+ghost use Rattle.std.specs.Prelude.{◌≡◌, map, IfOk};
+ghost use Rattle.value.specs.View.{told_token, told_policy};
+
+use crate::assets::{Policy, Token};
+use crate::quantity::Quantity;
+use std::alloc::{AllocError, Global};
+
+fn clone_tokens<Q: Quantity>(
+    alloc: Global,
+    tokens: &[Token<Q>],
+) -> Result<Vec<Token<Q>>, AllocError>
+    ensures { IfOk result (λ copies. map told_token copies.items ≡ map told_token tokens.now) }
+{
+    let mut copies = Vec::with_capacity(alloc, tokens.len())?;
+    for token in tokens {
+        let name = Vec::from_slice(alloc, &token.name)?;
+        copies.push(Token {
+            name,
+            quantity: token.quantity,
+        })?;
+    }
+    Ok(copies)
+}
+
+/// Copies of the policies with all that is in them.
+pub fn clone_policies<Q: Quantity>(
+    alloc: Global,
+    policies: &[Policy<Q>],
+) -> Result<Vec<Policy<Q>>, AllocError>
+    ensures { IfOk result (λ copies. map told_policy copies.items ≡ map told_policy policies.now) }
+{
+    let mut copies = Vec::with_capacity(alloc, policies.len())?;
+    for policy in policies {
+        let tokens = clone_tokens(alloc, &policy.tokens)?;
+        copies.push(Policy {
+            id: policy.id,
+            tokens,
+        })?;
+    }
+    Ok(copies)
+}

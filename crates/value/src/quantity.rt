@@ -1,0 +1,97 @@
+//! Quantities of an asset: those of an output and those that are minted.
+
+ghost use Rattle.std.specs.Prelude.{◌≡◌, ℕ, ℤ, pos, negsuc, ◌≤ℤ◌, ◌++◌, List, Option, option_map, OnOk, OnErr};
+ghost use Rattle.model.specs.Cbor.{Item, Unsigned, text_of};
+ghost use Rattle.model.specs.Value.{item_of_number};
+ghost use Rattle.value.specs.Quantities.{held_at, minted_at, IsWithin, quantity_limit};
+
+use std::alloc::AllocError;
+
+/// A quantity with its text.
+pub trait Quantity: Copy {
+    /// The item that says the quantity.
+    ghost item_of: { Self → Item };
+
+    /// The quantity as a whole number.
+    ghost whole: { Self → ℤ };
+
+    /// The quantity that stands first, and the bytes after it.
+    ghost quantity_at: { List ℕ → Option (Self × List ℕ) };
+
+    /// The quantity that stands first, and the bytes after it. None where none stands there that the place
+    /// allows.
+    fn read(bytes: &[u8]) -> Option<(Self, &[u8])>
+        ensures { option_map (λ x. (x.0, x.1.now)) result ≡ quantity_at bytes.now };
+
+    /// Writes the text of the quantity.
+    fn write(self, out: &mut Vec<u8>) -> Result<(), AllocError>
+        ensures ok { OnOk result (out.new.items ≡ out.old.items ++ text_of (item_of self)) }
+        ensures err { OnErr result (out.new.items ≡ out.old.items) };
+
+    /// The quantity, in the width in which quantities are added.
+    fn to_whole(self) -> i128
+        ensures is { result ≡ whole self }
+        ensures within { IsWithin quantity_limit result };
+}
+
+/// Of an output: 1 to 2^64 - 1.
+impl Quantity for u64 {
+    ghost item_of = { Unsigned };
+
+    ghost whole = { pos };
+
+    ghost quantity_at = { held_at };
+
+    #[tactic(auto, unfolding(crate::specs::Quantities::held_at))]
+    fn read(bytes: &[u8]) -> Option<(u64, &[u8])> {
+        let (quantity, rest) = cbor::unsigned(bytes)?;
+        if quantity == 0 {
+            return None;
+        }
+        Some((quantity, rest))
+    }
+
+    fn write(self, out: &mut Vec<u8>) -> Result<(), AllocError> {
+        cbor::write_unsigned(out, self)
+    }
+
+    fn to_whole(self) -> i128 {
+        i128::from(self)
+    }
+}
+
+/// Of what is minted: -2^63 to 2^63 - 1 without 0. What is taken away is below 0.
+impl Quantity for i64 {
+    ghost item_of = { item_of_number };
+
+    ghost whole = { λ quantity. quantity };
+
+    ghost quantity_at = { minted_at };
+
+    #[tactic(auto, unfolding(crate::specs::Quantities::minted_at))]
+    fn read(bytes: &[u8]) -> Option<(i64, &[u8])> {
+        if let Some((quantity, rest)) = cbor::unsigned(bytes) {
+            if quantity == 0 || quantity >= 1 << 63 {
+                return None;
+            }
+            return Some((quantity as i64, rest));
+        }
+        let (below, rest) = cbor::negative(bytes)?;
+        if below >= 1 << 63 {
+            return None;
+        }
+        Some((-1 - below as i64, rest))
+    }
+
+    fn write(self, out: &mut Vec<u8>) -> Result<(), AllocError> {
+        if self >= 0 {
+            cbor::write_unsigned(out, self as u64)
+        } else {
+            cbor::write_negative(out, (-1 - self) as u64)
+        }
+    }
+
+    fn to_whole(self) -> i128 {
+        i128::from(self)
+    }
+}

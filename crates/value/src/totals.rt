@@ -1,0 +1,100 @@
+//! Sums of values, for ada and each asset.
+
+ghost use Rattle.std.specs.Prelude.{ℕ, ◌≤◌, ◌^◌, ◌*◌};
+ghost use Rattle.model.specs.Value.{Asset, Ada, Named};
+ghost use Rattle.value.specs.Quantities.{IsWithin};
+ghost use Rattle.value.specs.Sums.{total_in};
+
+use crate::amounts::AllAmounts;
+use crate::assets::Policy;
+use crate::quantity::Quantity;
+use crate::side::Side;
+use ident::ScriptHash;
+use std::alloc::{AllocError, Global};
+
+/// Sums of values, for ada and each asset, in signed numbers of 128 bits. They are exact: fewer than 2^62
+/// values are added or taken, each with less than 2^64 of an asset.
+#[derive(Drop)]
+pub struct Totals {
+    alloc: Global,
+    values: u64,
+    /// Lovelace.
+    coin: i128,
+    assets: AllAmounts,
+    ghost few: { values ≤ 2 ^ 62 },
+    ghost within: { (asset : Asset) → IsWithin (values * 2 ^ 64) (total_in coin assets asset) },
+}
+
+impl Totals {
+    ghost use Rattle.std.specs.Prelude.{◌≡◌, ◌<◌, ◌+◌, ◌+ℤ◌, ◌↔◌, pos, map, IsTrue, OnOk, OnErr};
+    ghost use Rattle.value.specs.Differing.{PoliciesDiffer};
+    ghost use Rattle.value.specs.Sides.{sided};
+    ghost use Rattle.value.specs.Totals.{total_of, change_of};
+    ghost use Rattle.value.specs.View.{told_policy};
+
+    /// The sums of no values, all 0. Takes no memory.
+    pub fn new(alloc: Global) -> Totals
+        ensures values { result.values ≡ 0 }
+        ensures zero { (asset : Asset) → total_of result asset ≡ pos 0 }
+    {
+        Totals {
+            alloc,
+            values: 0,
+            coin: 0,
+            assets: AllAmounts::new(alloc),
+        }
+    }
+
+    /// How many values were added or taken so far.
+    pub fn values(&self) -> u64
+        ensures { result ≡ self.now.values }
+    {
+        self.values
+    }
+
+    /// The sum of lovelace.
+    pub fn coin(&self) -> i128
+        ensures { result ≡ total_of self.now Ada }
+    {
+        self.coin
+    }
+
+    /// The sum under this name of this policy, 0 where it was never met. Takes no memory.
+    pub fn amount(&self, policy: &ScriptHash, name: &[u8]) -> i128
+        ensures { result ≡ total_of self.now (Named policy.now.bytes name.now) }
+    {
+        self.assets.amount(policy, name)
+    }
+
+    /// Whether as much was taken as was added, of ada and of each asset. Takes no memory, and time in
+    /// proportion to the assets that were met.
+    pub fn is_balanced(&self) -> bool
+        ensures { IsTrue result ↔ ((asset : Asset) → total_of self.now asset ≡ pos 0) }
+    {
+        self.coin == 0 && self.assets.is_zero()
+    }
+
+    /// Adds a value of so many lovelace and these assets, or takes it. Takes a few look-ups for each policy
+    /// and each of its names among those met so far, and memory for those that are new. Err where memory runs
+    /// out: nothing has changed.
+    pub(crate) fn change<Q: Quantity>(
+        &mut self,
+        coin: u64,
+        assets: &[Policy<Q>],
+        side: Side,
+    ) -> Result<(), AllocError>
+        requires room { self.old.values < 2 ^ 62 }
+        requires differ { PoliciesDiffer (map told_policy assets.now) }
+        ensures sums { OnOk result ((asset : Asset) → total_of self.new asset ≡ total_of self.old asset +ℤ sided side (change_of Q.whole coin (map told_policy assets.now) asset)) }
+        ensures counted { OnOk result (self.new.values ≡ self.old.values + 1) }
+        ensures same { OnErr result ((asset : Asset) → total_of self.new asset ≡ total_of self.old asset) }
+        ensures uncounted { OnErr result (self.new.values ≡ self.old.values) }
+    {
+        // What can fail comes first, and changes no sum.
+        self.assets.prepare(self.alloc, assets)?;
+        self.coin += side.change_by(i128::from(coin));
+        self.assets.change(assets, side);
+        self.values += 1;
+        Ok(())
+    }
+}
