@@ -6,7 +6,8 @@ use Rattle.std.proofs.lemmas.List.{length-append}
 use Rattle.sha2.specs.Sha256.{sha256}
 use Rattle.model.specs.Cbor.{head, text_of, items_of, items_count}
 use Rattle.model.specs.Transaction.{Transaction, item_of_transaction}
-use Rattle.model.specs.Block.{Header, Block, item_of_header, item_of_transactions, block_hash_of, body_hash_of, body_size_of}
+use Rattle.model.specs.Block.{Header, Block, item_of_header, item_of_transactions, block_text, block_hash_of, body_hash_of, body_size_of}
+use Rattle.model.proofs.BlockTexts.{block_text_is}
 use Rattle.cbor.proofs.Steps.{IsBytes}
 use Rattle.block.specs.declared.header.Header as code
 use Rattle.block.specs.declared.block.Block.TheInside.{Inside}
@@ -54,6 +55,10 @@ is_held b header bytes header_text body_text same_header same_bytes hash size he
 -- the bytes that are kept are those that were read
 pub read_held : (b : Inside) (bytes : List ℕ) → b.inner.value.bytes.items ≡ bytes → IsHeld b → IsRead (block_of b) bytes
 read_held b bytes same held = subst (IsRead (block_of b)) same held.read
+
+-- so what was read is the block that its text spells
+pub read_text : (b : Inside) → IsHeld b → IsRead (block_of b) (block_text (block_of b))
+read_text b held = subst (IsRead (block_of b)) (sym (block_text_is (block_of b) b.inner.value.bytes.items held.read.read.spelled)) held.read
 
 -- ---- the size of an empty body
 

@@ -2,7 +2,7 @@
 
 ghost use Rattle.std.specs.Prelude.{◌≡◌, ◌↔◌, [], length, option_map, IsTrue, IfOk, IfErr};
 ghost use Rattle.sha2.specs.Sha256.{sha256};
-ghost use Rattle.model.specs.Block.{block_hash_of, body_size_of};
+ghost use Rattle.model.specs.Block.{block_text, block_hash_of, body_size_of};
 ghost use Rattle.block.specs.View.{bytes_of, header_of};
 ghost use Rattle.block.specs.Read.{IsRead, IsReadFault};
 
@@ -111,17 +111,21 @@ impl Block {
     pub fn point(&self) -> Point
         ensures number { result.number ≡ self.now.header.number }
         ensures hash { result.hash.bytes ≡ block_hash_of self.now }
+        // It is that of the one block that has this text.
+        ensures read { IsRead self.now (block_text self.now) }
     {
         Point {
             number: self.number(),
-            hash: self.hash(),
+            hash: self.inner.hash,
         }
     }
 
     /// One more owner of the block, in constant time and with no allocation. Err where 2^63 - 1 owners
     /// are reached.
     pub fn try_clone(&self) -> Result<Block, AllocError>
-        ensures { IfOk result (λ b. b ≡ self.now) }
+        ensures same { IfOk result (λ b. b ≡ self.now) }
+        // What is shared is what was read.
+        ensures read { IsRead self.now (block_text self.now) }
     {
         let inner = Arc::try_clone(&self.inner)?;
         Ok(Block { inner })

@@ -1,7 +1,7 @@
 -- What instructions of the code stand for, and when a follower's call is refused.
 use Rattle.std.specs.Prelude.{ℕ, ◌≤◌, List, length, Option, Some, None, map, slice_set, ◌≡◌}
 use Rattle.std.specs.Global.{Vec}
-use Rattle.model.specs.Block.{Block}
+use Rattle.model.specs.Block.{Block, block_text}
 use Rattle.model.specs.Chain.{BeginsWith}
 use Rattle.model.specs.Follower as follower
 use Rattle.chain_core.specs.PointView.{told_point}
@@ -12,9 +12,10 @@ use Rattle.chain_core.specs.declared.follower.OpenFault.TheVariants as open'
 use Rattle.chain_core.specs.declared.follower.NextFault.{NextFault}
 use Rattle.chain_core.specs.declared.follower.NextFault.TheVariants as next
 
+-- a block to put on is told by its bytes, as they arrived
 abbrev pub told_instruction : Option Instruction → follower.Instruction
 told_instruction None = follower.Stay
-told_instruction (Some (instruction.AddBlock bytes)) = follower.AddBlock bytes.items
+told_instruction (Some (instruction.AddBlock block)) = follower.AddBlock (block_text block)
 told_instruction (Some (instruction.RollBack point)) = follower.RollBack (told_point point)
 
 -- each follower is open

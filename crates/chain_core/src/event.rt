@@ -15,7 +15,7 @@ pub enum RawEvent {
 }
 
 /// What the node answers to an event.
-#[derive(Debug, Drop, PartialEq, Eq)]
+#[derive(Debug, Drop)]
 pub enum Reply {
     /// To bytes of a block.
     Arrive(ArriveReply),

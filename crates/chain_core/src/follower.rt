@@ -22,10 +22,10 @@ pub struct FollowerId {
 }
 
 /// What a follower is told.
-#[derive(Debug, Drop, PartialEq, Eq)]
+#[derive(Debug, Drop)]
 pub enum Instruction {
-    /// To put on the block of these bytes.
-    AddBlock(Vec<u8>),
+    /// To put on this block. It is the one that the node keeps, shared.
+    AddBlock(Block),
     /// To go back to this point.
     RollBack(Point),
 }
@@ -107,21 +107,8 @@ pub fn open_follower(
     }
 }
 
-/// A copy of the bytes.
-fn copied(alloc: Global, bytes: &[u8]) -> Result<Vec<u8>, AllocError>
-    ensures { IfOk result (λ copy. copy.items ≡ bytes.now) }
-{
-    let mut copy = Vec::new(alloc);
-    copy.extend_from_slice(bytes)?;
-    Ok(copy)
-}
-
 /// What a follower that was told these blocks is told next, with the chain that it has then been told.
-fn tell(
-    alloc: Global,
-    chain: &[Block],
-    told: &mut Vec<Block>,
-) -> Result<Option<Instruction>, AllocError>
+fn tell(chain: &[Block], told: &mut Vec<Block>) -> Result<Option<Instruction>, AllocError>
     ensures ok { IfOk result (λ instruction. MayBeTold chain.now told.old.items (told_instruction instruction) told.new.items) }
     // What is a proper beginning of the chain goes on by its next block.
     ensures stays { IfOk result (λ instruction. instruction ≡ None → BeginsWith chain.now told.old.items → length chain.now ≤ length told.old.items) }
@@ -130,14 +117,13 @@ fn tell(
     let Some(block) = next_block(chain, told) else {
         return Ok(None);
     };
-    let bytes = copied(alloc, block.bytes())?;
+    let shared = block.try_clone()?;
     told.push(block.try_clone()?)?;
-    Ok(Some(Instruction::AddBlock(bytes)))
+    Ok(Some(Instruction::AddBlock(shared)))
 }
 
 /// Tells the follower of this number what comes next.
 pub fn tell_follower(
-    alloc: Global,
     chain: &[Block],
     followers: &mut Vec<Vec<Block>>,
     id: FollowerId,
@@ -151,7 +137,7 @@ pub fn tell_follower(
         return Err(NextFault::UnknownFollower);
     }
     let told = &mut followers[id.number as usize];
-    match tell(alloc, chain, told) {
+    match tell(chain, told) {
         Ok(instruction) => Ok(instruction),
         Err(AllocError) => Err(NextFault::OutOfMemory),
     }

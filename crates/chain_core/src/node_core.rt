@@ -112,7 +112,7 @@ impl Core {
     /// told is a proper beginning of that, and else nothing. A follower whose chain was left stays where it is, for now.
     ///
     /// Where no such follower is open, or memory runs out, nothing changes. Takes no memory where it answers nothing.
-    /// Compares what was told with the chain, block by block, and copies the bytes of the block.
+    /// Compares what was told with the chain, block by block. Shares the block, and copies none of its bytes.
     pub fn next(&mut self, id: FollowerId) -> Result<Option<Instruction>, NextFault>
         ensures step { (s : State) → Stands self.old s → (t : State) × Step self.old.genesis s (Next id.number) (told_next result) t × Stands self.new t }
         // What is a proper beginning of the selected chain goes on.
@@ -120,7 +120,7 @@ impl Core {
         ensures genesis { self.new.genesis ≡ self.old.genesis }
         ensures err { OnErr result (self.new ≡ self.old) }
     {
-        tell_follower(self.alloc, &self.chain, &mut self.followers, id)
+        tell_follower(&self.chain, &mut self.followers, id)
     }
 
     /// Answers one event.

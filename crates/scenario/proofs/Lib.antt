@@ -1,6 +1,9 @@
 pub mod Numbers
 pub mod TooMany
 pub mod Bindings
+pub mod Followers
+pub mod Opening
+pub mod Telling
 pub mod Built
 pub mod Arriving
 pub mod Writing

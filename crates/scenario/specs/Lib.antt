@@ -4,6 +4,7 @@ pub mod LineView
 pub mod Answer
 pub mod Names
 pub mod NamesView
+pub mod FollowerNamesView
 pub mod Meaning
 pub mod BaseView
 pub mod Print

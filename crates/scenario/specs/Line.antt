@@ -14,13 +14,15 @@ pub data Parent : Type 0 where
   Genesis : Parent
   After : List ℕ → Parent
 
--- a line: nothing, a block of a name, on a parent, in a slot, bytes of a name, an arrival, or the question
--- where the selected chain ends
+-- a line: nothing, a block of a name, on a parent, in a slot, bytes of a name, an arrival, a follower to open,
+-- the question what a follower is told next, or where the selected chain ends
 pub data Line : Type 0 where
   Nothing : Line
   DefineBlock : (name : List ℕ) → Parent → (slot : ℕ) → Line
   DefineRaw : (name bytes : List ℕ) → Line
   Arrive : Form → (name : List ℕ) → Line
+  OpenFollower : (name : List ℕ) → Line
+  AskNext : (name : List ℕ) → Line
   AskTip : Line
 
 -- the value, or the fault BadLine where there is none
@@ -55,6 +57,13 @@ abbrev pub arrive_line : Option Form → List ℕ → Option Line
 arrive_line None name = None
 arrive_line (Some form) name = if is_name name then Some (Arrive form name) else None
 
+-- a line of two words: what is done, and the name that it is done to
+abbrev pub named_line : (word name : List ℕ) → Option Line
+named_line word name =
+    if bytes_eq word (codes "open") then (if is_name name then Some (OpenFollower name) else None)
+    else if bytes_eq word (codes "next") then (if is_name name then Some (AskNext name) else None)
+    else arrive_line (form_of word) name
+
 -- the line of these parts, where each of them is there
 abbrev pub block_of_parts : List ℕ → Option Parent → Option ℕ → Option Line
 block_of_parts name None slot = None
@@ -82,7 +91,7 @@ raw_line word name digits =
 abbrev pub said_by : List (List ℕ) → Option Line
 said_by [] = None
 said_by (word ∷ []) = tip_line word
-said_by (word ∷ name ∷ []) = arrive_line (form_of word) name
+said_by (word ∷ name ∷ []) = named_line word name
 said_by (word ∷ name ∷ digits ∷ []) = raw_line word name digits
 said_by (word ∷ name ∷ parent ∷ slot ∷ []) = block_line word name parent slot
 said_by (word ∷ name ∷ parent ∷ slot ∷ other ∷ others) = None

@@ -14,4 +14,6 @@ told_line line.Nothing = spec.Nothing
 told_line (line.Block name parent slot) = spec.DefineBlock name.text.now (told_parent parent) slot
 told_line (line.Raw name bytes) = spec.DefineRaw name.text.now bytes.items
 told_line (line.Arrive form name) = spec.Arrive form name.text.now
+told_line (line.Open name) = spec.OpenFollower name.text.now
+told_line (line.Next name) = spec.AskNext name.text.now
 told_line line.Tip = spec.AskTip

@@ -7,14 +7,17 @@ use Rattle.scenario.specs.declared.fault.LineFault.{LineFault}
 use Rattle.scenario.specs.declared.fault.LineFault.TheVariants.{BadLine, UnknownName, NameTaken, NotBuilt}
 use Rattle.scenario.specs.declared.line.Form.{Form}
 use Rattle.scenario.specs.declared.line.Form.TheVariants.{Whole, Cut, Extended}
-use Rattle.scenario.specs.Line.{Parent, Genesis, After, Line, Nothing, DefineBlock, DefineRaw, Arrive, AskTip, line_of}
-use Rattle.scenario.specs.Names.{Bound, Binding, bound_to}
+use Rattle.scenario.specs.Line.{Parent, Genesis, After, Line, Nothing, DefineBlock, DefineRaw, Arrive, OpenFollower, AskNext, AskTip, line_of}
+use Rattle.scenario.specs.Names.{Bound, Binding, bound_to, AllNames, follower_named}
 
--- what a line does: nothing, it binds a name, bytes arrive, or the tip is printed
+-- what a line does: nothing, it binds a name, bytes arrive, a follower is opened, the follower of a number is told
+-- what comes next, or the tip is printed
 pub data Meaning : Type 0 where
   DoesNothing : Meaning
   Binds : Binding → Meaning
   Arrives : Form → (name bytes : List ℕ) → Meaning
+  OpensFollower : (name : List ℕ) → Meaning
+  TellsFollower : (name : List ℕ) → (id : ℕ) → Meaning
   PrintsTip : Meaning
 
 -- the bytes that arrive: all, all but the last, or all and a zero
@@ -77,19 +80,31 @@ abbrev pub arrival_meaning : Form → List ℕ → Option Bound → Result Meani
 arrival_meaning form name None = Err UnknownName
 arrival_meaning form name (Some b) = Ok (Arrives form name b.bytes)
 
+-- a follower is opened whose name is free
+abbrev pub opening_meaning : List ℕ → Option ℕ → Result Meaning LineFault
+opening_meaning name None = Ok (OpensFollower name)
+opening_meaning name (Some id) = Err NameTaken
+
+-- a follower that has a name is told what comes next
+abbrev pub next_meaning : List ℕ → Option ℕ → Result Meaning LineFault
+next_meaning name None = Err UnknownName
+next_meaning name (Some id) = Ok (TellsFollower name id)
+
 -- what a line means, or the first fault
-abbrev pub meaning_in : List Binding → Line → Result Meaning LineFault
+abbrev pub meaning_in : AllNames → Line → Result Meaning LineFault
 meaning_in names Nothing = Ok DoesNothing
-meaning_in names (DefineBlock name parent slot) = block_meaning names name (base_of names parent) slot
-meaning_in names (DefineRaw name bytes) = binds_free names name (Ok (bound_raw bytes))
-meaning_in names (Arrive form name) = arrival_meaning form name (bound_to name names)
+meaning_in names (DefineBlock name parent slot) = block_meaning names.of_bytes name (base_of names.of_bytes parent) slot
+meaning_in names (DefineRaw name bytes) = binds_free names.of_bytes name (Ok (bound_raw bytes))
+meaning_in names (Arrive form name) = arrival_meaning form name (bound_to name names.of_bytes)
+meaning_in names (OpenFollower name) = opening_meaning name (follower_named name names.of_followers)
+meaning_in names (AskNext name) = next_meaning name (follower_named name names.of_followers)
 meaning_in names AskTip = Ok PrintsTip
 
-abbrev pub meaning_if_line : List Binding → Option Line → Result Meaning LineFault
+abbrev pub meaning_if_line : AllNames → Option Line → Result Meaning LineFault
 meaning_if_line names None = Err BadLine
 meaning_if_line names (Some line) = meaning_in names line
 
 -- what a line means that comes behind so many bytes of the script. No script is longer than 4,194,304 bytes
-abbrev pub meaning_of : ℕ → List Binding → List ℕ → Result Meaning LineFault
+abbrev pub meaning_of : ℕ → AllNames → List ℕ → Result Meaning LineFault
 meaning_of before names line =
     if nat_le (before + length line) 4194304 then meaning_if_line names (line_of line) else Err BadLine

@@ -1,4 +1,4 @@
--- Names, and what they are bound to.
+-- Names of two kinds: those of bytes, a block's or others, and those of followers.
 use Rattle.std.specs.Prelude.{ℕ, Bool, false, List, Option, Some, None, option_map, unwrap_or, bytes_eq, codes}
 use Rattle.std.specs.List.{find}
 use Rattle.model.specs.Chain.{Point}
@@ -29,3 +29,17 @@ first_name hash names = option_map (λ b. b.name) (find (λ b. has_hash hash b.b
 -- a block is printed by this name, or by a question mark where it has none
 abbrev pub printed_name : List ℕ → List Binding → List ℕ
 printed_name hash names = unwrap_or (first_name hash names) (codes "?")
+
+-- a name with the number of the follower that has it
+pub record FollowerName : Type 0 where
+  pub name : List ℕ
+  pub id : ℕ
+
+-- the number of the follower that has a name
+abbrev pub follower_named : List ℕ → List FollowerName → Option ℕ
+follower_named name names = option_map (λ f. f.id) (find (λ f. bytes_eq name f.name) names)
+
+-- all names of a script, each kind in the order in which they were bound. One name may be of both kinds
+pub record AllNames : Type 0 where
+  pub of_bytes : List Binding
+  pub of_followers : List FollowerName

@@ -1,9 +1,6 @@
 -- What the names of the code stand for.
-use Rattle.std.specs.Prelude.{◌≡◌, ℕ, List, Option, option_map}
-use Rattle.std.specs.Ordering.{is_eq, nat_cmp}
-use Rattle.std.specs.Cmp.Lexicographic.{slice_cmp}
-use Rattle.std.specs.Map.{lookup}
-use Rattle.std.specs.BTreeMap.{BTreeMap}
+use Rattle.std.specs.Prelude.{◌≡◌, ℕ, List, option_map}
+use Rattle.ident.specs.ByteKeys.{at_bytes}
 use Rattle.chain_core.specs.PointView.{told_point}
 use Rattle.scenario.specs.declared.names.Bound as code
 use Rattle.scenario.specs.declared.names.Names.{Names}
@@ -11,10 +8,6 @@ use Rattle.scenario.specs.Names.{Bound, Binding, bound_to, first_name}
 
 abbrev pub told_bound : code.Bound → Bound
 told_bound b = record { bytes = b.bytes.items; place = option_map told_point b.place }
-
--- the value of a map at the key with these bytes
-abbrev pub at_bytes : {K X : Type 0} → (K → List ℕ) → List ℕ → BTreeMap K X → Option X
-at_bytes bytes_of bytes m = lookup (λ k. is_eq (slice_cmp nat_cmp bytes (bytes_of k))) m.entries
 
 -- the names stand for these bindings: each name has what is bound to it, and each block its first name
 pub record AreBound (code : Names) (names : List Binding) : Type 0 where

@@ -1,7 +1,9 @@
 -- The lines that a script prints.
-use Rattle.std.specs.Prelude.{ℕ, List, [], ◌∷◌, ◌++◌, decimal, codes, ◌==◌, if◌then◌else◌}
+use Rattle.std.specs.Prelude.{◌≡◌, ℕ, List, [], ◌∷◌, ◌++◌, decimal, codes, ◌==◌, if◌then◌else◌}
+use Rattle.model.specs.Block.{Block, IsReadAs, block_hash_of}
 use Rattle.model.specs.Chain.{Point}
-use Rattle.model.specs.History.{Refusal, TooLarge, Malformed, BodyHashMismatch, TooOld, Known, Clash, VolatileFull, number_of, Reply, Kept, Refused, OutOfMemory}
+use Rattle.model.specs.Follower.{Instruction, Stay, AddBlock, RollBack}
+use Rattle.model.specs.History.{Refusal, TooLarge, Malformed, BodyHashMismatch, TooOld, Known, Clash, VolatileFull, number_of, Reply, Kept, Refused, Opened, TooManyFollowers, Instructed, UnknownFollower, OutOfMemory}
 use Rattle.scenario.specs.declared.line.Form.{Form}
 use Rattle.scenario.specs.Line.{word_of}
 use Rattle.scenario.specs.Names.{Binding, printed_name}
@@ -26,6 +28,18 @@ reply_text reply = []
 abbrev pub arrival_text : Form → List ℕ → Reply → List ℕ
 arrival_text form name reply = word_of form ++ codes " " ++ name ++ codes ": " ++ reply_text reply ++ 10 ∷ []
 
+-- what the opening of a follower is answered
+abbrev pub opening_reply_text : Reply → List ℕ
+opening_reply_text (Opened id) = codes "ok"
+opening_reply_text TooManyFollowers = codes "refused TooManyFollowers"
+opening_reply_text OutOfMemory = codes "out of memory"
+-- no opening is answered otherwise
+opening_reply_text reply = []
+
+-- what the line `open` prints
+abbrev pub opening_text : List ℕ → Reply → List ℕ
+opening_text name reply = codes "open " ++ name ++ codes ": " ++ opening_reply_text reply ++ 10 ∷ []
+
 -- the name of a place on a chain
 abbrev pub point_name : List Binding → Point → List ℕ
 point_name names point = if point.number == 0 then codes "genesis" else printed_name point.hash names
@@ -33,3 +47,23 @@ point_name names point = if point.number == 0 then codes "genesis" else printed_
 -- what the question `tip` prints
 abbrev pub tip_text : List Binding → Point → List ℕ
 tip_text names point = codes "tip: " ++ decimal point.number ++ codes " " ++ point_name names point ++ 10 ∷ []
+
+-- what a follower is told: nothing, the name of the block whose bytes it is to put on, or of the place to go back to
+abbrev pub IsInstructionText : List Binding → Instruction → List ℕ → Type 0
+IsInstructionText names Stay text = text ≡ codes "none"
+IsInstructionText names (AddBlock bytes) text = (b : Block) × IsReadAs b bytes × (text ≡ codes "add " ++ printed_name (block_hash_of b) names)
+IsInstructionText names (RollBack point) text = text ≡ codes "rollback " ++ point_name names point
+
+-- what a follower is answered that asks what comes next
+abbrev pub IsNextReplyText : List Binding → Reply → List ℕ → Type 0
+IsNextReplyText names (Instructed instruction) text = IsInstructionText names instruction text
+IsNextReplyText names UnknownFollower text = text ≡ codes "refused UnknownFollower"
+IsNextReplyText names OutOfMemory text = text ≡ codes "out of memory"
+-- it is answered nothing else
+IsNextReplyText names reply text = ⊥
+
+-- what the line `next` prints
+pub record IsNextText (names : List Binding) (name : List ℕ) (reply : Reply) (out : List ℕ) : Type 0 where
+  pub text : List ℕ
+  pub is_reply : IsNextReplyText names reply text
+  pub line : out ≡ codes "next " ++ name ++ codes ": " ++ text ++ 10 ∷ []

@@ -1,24 +1,26 @@
 -- What a script prints, and how its run ends.
-use Rattle.std.specs.Prelude.{◌≡◌, ℕ, ◌+◌, List, [], ◌∷◌, ◌++◌, length, Option, Some, Ok, Err}
+use Rattle.std.specs.Prelude.{◌≡◌, ℕ, ◌+◌, ◌≤◌, List, [], ◌∷◌, ◌++◌, length, Option, Some, Ok, Err}
 use Rattle.std.specs.List.{concat}
 use Rattle.std.specs.Io.KnownBytes.{Appends}
-use Rattle.model.specs.Chain.{Genesis, point_of}
-use Rattle.model.specs.History.{State, opening, Arrive, Reply, Step}
+use Rattle.model.specs.Block.{Block}
+use Rattle.model.specs.Chain.{Genesis, point_of, BeginsWith}
+use Rattle.model.specs.Follower.{Stay, told_by}
+use Rattle.model.specs.History.{State, opening, Arrive, Open, Next, Reply, Opened, Instructed, Step}
 use Rattle.scenario.specs.declared.fault.LineFault.{LineFault}
 use Rattle.scenario.specs.declared.fault.ScenarioFault.{ScenarioFault}
 use Rattle.scenario.specs.declared.fault.ScenarioFault.TheVariants as fault
 use Rattle.scenario.specs.Text.{lines_of}
-use Rattle.scenario.specs.Names.{Binding}
-use Rattle.scenario.specs.Meaning.{Meaning, DoesNothing, Binds, Arrives, PrintsTip, formed, meaning_of}
-use Rattle.scenario.specs.Print.{arrival_text, tip_text}
+use Rattle.scenario.specs.Names.{FollowerName, AllNames}
+use Rattle.scenario.specs.Meaning.{Meaning, DoesNothing, Binds, Arrives, OpensFollower, TellsFollower, PrintsTip, formed, meaning_of}
+use Rattle.scenario.specs.Print.{arrival_text, opening_text, tip_text, IsNextText}
 
--- the node's state with the names that are bound, in the order in which they were
+-- the node's state with the names that are bound
 pub record Scene : Type 0 where
   pub state : State
-  pub names : List Binding
+  pub names : AllNames
 
 abbrev pub opening_scene : Scene
-opening_scene = record { state = opening; names = [] }
+opening_scene = record { state = opening; names = record { of_bytes = []; of_followers = [] } }
 
 -- what a genesis file will say
 abbrev pub script_genesis : Genesis
@@ -29,13 +31,36 @@ pub record Arrived (genesis : Genesis) (s : Scene) (bytes : List ℕ) (reply : R
   pub step : Step genesis s.state (Arrive bytes) reply t.state
   pub names : t.names ≡ s.names
 
--- from one scene a line that means this prints so, and leaves the other. An arrival may be answered that
+-- once an opening was answered, the new follower has the name. Where none was opened, no name is bound
+abbrev pub names_opened : List FollowerName → List ℕ → Reply → List FollowerName
+names_opened names name (Opened id) = names ++ record { name = name; id = id } ∷ []
+names_opened names name reply = names
+
+-- the opening of a follower of this name was answered so, by a step of the definitions
+pub record WasOpened (genesis : Genesis) (s : Scene) (name : List ℕ) (reply : Reply) (t : Scene) : Type 0 where
+  pub step : Step genesis s.state Open reply t.state
+  pub names : t.names ≡ record s.names { of_followers = names_opened s.names.of_followers name reply }
+
+-- what the follower of this number was told is the whole selected chain, or no beginning of that
+abbrev pub NothingIsDue : State → ℕ → Type 0
+NothingIsDue s id = (told : List Block) → told_by s.followers id ≡ Some told → BeginsWith s.chain told → length s.chain ≤ length told
+
+-- a follower that asked what comes next was answered so, by a step of the definitions. It is told nothing only where there
+-- is nothing that it could put on
+pub record WasTold (genesis : Genesis) (s : Scene) (id : ℕ) (reply : Reply) (t : Scene) : Type 0 where
+  pub step : Step genesis s.state (Next id) reply t.state
+  pub due : reply ≡ Instructed Stay → NothingIsDue s.state id
+  pub names : t.names ≡ s.names
+
+-- from one scene a line that means this prints so, and leaves the other. Each event may be answered that
 -- memory ran out, which is a step too
 abbrev pub Acts : Genesis → Scene → Meaning → List ℕ → Scene → Type 0
 Acts genesis s DoesNothing out t = (out ≡ []) × (t ≡ s)
-Acts genesis s (Binds binding) out t = (out ≡ []) × (t ≡ record s { names = s.names ++ binding ∷ [] })
+Acts genesis s (Binds binding) out t = (out ≡ []) × (t ≡ record s { names = record s.names { of_bytes = s.names.of_bytes ++ binding ∷ [] } })
 Acts genesis s (Arrives form name bytes) out t = (reply : Reply) × Arrived genesis s (formed form bytes) reply t × (out ≡ arrival_text form name reply)
-Acts genesis s PrintsTip out t = (out ≡ tip_text s.names (point_of s.state.chain)) × (t ≡ s)
+Acts genesis s (OpensFollower name) out t = (reply : Reply) × WasOpened genesis s name reply t × (out ≡ opening_text name reply)
+Acts genesis s (TellsFollower name id) out t = (reply : Reply) × WasTold genesis s id reply t × IsNextText s.names.of_bytes name reply out
+Acts genesis s PrintsTip out t = (out ≡ tip_text s.names.of_bytes (point_of s.state.chain)) × (t ≡ s)
 
 -- a line behind so many bytes has no fault, and prints so
 pub record Obeys (genesis : Genesis) (before : ℕ) (s : Scene) (line out : List ℕ) (t : Scene) : Type 0 where

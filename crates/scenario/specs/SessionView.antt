@@ -8,13 +8,15 @@ use Rattle.scenario.specs.declared.stop.Stop.{Stop}
 use Rattle.scenario.specs.declared.stop.Stop.TheVariants.{Fault, OutOfMemory}
 use Rattle.scenario.specs.declared.session.Session.{Session}
 use Rattle.scenario.specs.NamesView.{AreBound}
+use Rattle.scenario.specs.FollowerNamesView.{AreNamed}
 use Rattle.scenario.specs.Meaning.{Meaning}
 use Rattle.scenario.specs.Run.{Scene, Acts}
 
--- the core stands for the state, and the names for the names
+-- the core stands for the state, and the names of both kinds for the names
 pub record Holds (session : Session) (s : Scene) : Type 0 where
   pub stands : Stands session.core s.state
-  pub names : AreBound session.names s.names
+  pub names : AreBound session.names s.names.of_bytes
+  pub followers : AreNamed session.followers s.names.of_followers
 
 -- a line that means this was obeyed, and printed so
 pub record Acted (genesis : Genesis) (s : Scene) (said : Result Meaning LineFault) (out : List ℕ) (new : Session) : Type 0 where

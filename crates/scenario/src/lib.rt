@@ -1,9 +1,10 @@
-//! The script language: definitions of blocks, their arrival in any order, and questions, each printing one
-//! line.
+//! The script language: definitions of blocks, their arrival in any order, followers, and questions, each event
+//! and each question printing one line.
 #![tactic(auto)]
 
 mod building;
 mod fault;
+mod follower_names;
 mod line;
 mod name;
 mod names;

@@ -1,7 +1,7 @@
 //! What a line of a script says, by itself.
 
 ghost use Rattle.std.specs.Prelude.{◌≡◌, map, option_map, if◌then◌else◌, Some, None};
-ghost use Rattle.scenario.specs.Line.{line_of, line_of_content, said_by, form_of, word_of, parent_of, or_bad_line, tip_line, block_line, arrive_line, raw_line, digits_bytes};
+ghost use Rattle.scenario.specs.Line.{line_of, line_of_content, said_by, form_of, word_of, parent_of, or_bad_line, tip_line, block_line, arrive_line, named_line, raw_line, digits_bytes};
 ghost use Rattle.scenario.specs.Text.{is_name, words_of};
 ghost use Rattle.scenario.specs.LineView.{told_line, told_parent};
 ghost use Rattle.scenario.specs.Answer.{Answers};
@@ -97,6 +97,14 @@ pub enum Line<'a> {
         form: Form,
         name: Name<'a>,
     },
+    /// A follower is opened, and gets a name.
+    Open {
+        name: Name<'a>,
+    },
+    /// What is the follower of a name told next?
+    Next {
+        name: Name<'a>,
+    },
     /// Where does the selected chain end?
     Tip,
 }
@@ -133,6 +141,21 @@ fn arrive_line<'a>(word: &[u8], name: &'a [u8]) -> Option<Line<'a>>
     let form = Form::of_word(word)?;
     let name = Name::of_word(name)?;
     Some(Line::Arrive { form, name })
+}
+
+/// The line of two words: what is done, and the name that it is done to.
+fn named_line<'a>(word: &[u8], name: &'a [u8]) -> Option<Line<'a>>
+    ensures { option_map told_line result ≡ named_line word.now name.entry.now }
+{
+    if word == b"open".as_slice() {
+        let name = Name::of_word(name)?;
+        Some(Line::Open { name })
+    } else if word == b"next".as_slice() {
+        let name = Name::of_word(name)?;
+        Some(Line::Next { name })
+    } else {
+        arrive_line(word, name)
+    }
 }
 
 /// The line in which bytes are defined.
@@ -181,7 +204,7 @@ fn said_by<'a>(alloc: Global, words: &[&'a [u8]]) -> Result<Line<'a>, Stop>
     match words {
         [] => Err(Stop::Fault(LineFault::BadLine)),
         [word] => or_bad_line(tip_line(*word)),
-        [word, name] => or_bad_line(arrive_line(*word, *name)),
+        [word, name] => or_bad_line(named_line(*word, *name)),
         [word, name, digits] => raw_line(alloc, *word, *name, *digits),
         [word, name, parent, slot] => or_bad_line(block_line(*word, *name, *parent, *slot)),
         _ => Err(Stop::Fault(LineFault::BadLine)),

@@ -3,7 +3,8 @@
 ghost use Rattle.std.specs.Prelude.{◌≡◌, [], ◌∷◌, ◌++◌, List, ℕ, OnOk, Some, None, option_map, bytes_eq, if◌then◌else◌};
 ghost use Rattle.std.specs.Option.{option_or};
 ghost use Rattle.scenario.specs.Names.{Binding, bound_to, printed_name};
-ghost use Rattle.scenario.specs.NamesView.{AreBound, told_bound, at_bytes};
+ghost use Rattle.scenario.specs.NamesView.{AreBound, told_bound};
+ghost use Rattle.ident.specs.ByteKeys.{at_bytes};
 
 use ident::{BlockHash, Point};
 use std::alloc::{AllocError, Global};

@@ -1,17 +1,19 @@
 //! The lines that a script prints.
 
-ghost use Rattle.std.specs.Prelude.{◌≡◌, ◌++◌, List, OnOk, Some};
+ghost use Rattle.std.specs.Prelude.{◌≡◌, ◌++◌, ℕ, List, OnOk, Some};
 ghost use Rattle.model.specs.History.{number_of};
 ghost use Rattle.chain_core.specs.RefusalView.{told_refusal};
 ghost use Rattle.chain_core.specs.PointView.{told_point};
+ghost use Rattle.chain_core.specs.FollowerView.{told_instruction};
+ghost use Rattle.chain_core.specs.EventView.{told_open, told_next};
 ghost use Rattle.scenario.specs.OutcomeView.{told_outcome};
 ghost use Rattle.scenario.specs.Names.{Binding};
 ghost use Rattle.scenario.specs.NamesView.{AreBound};
-ghost use Rattle.scenario.specs.Print.{refusal_name, reply_text, arrival_text, tip_text};
+ghost use Rattle.scenario.specs.Print.{refusal_name, reply_text, arrival_text, opening_reply_text, opening_text, point_name, IsInstructionText, IsNextReplyText, IsNextText, tip_text};
 
 use crate::line::Form;
 use crate::names::Names;
-use chain_core::{ArriveReply, Refusal};
+use chain_core::{ArriveReply, FollowerId, Instruction, NextFault, OpenFault, Refusal};
 use ident::Point;
 use std::alloc::AllocError;
 use std::fmt;
@@ -90,16 +92,103 @@ pub fn print_arrival(
     }
 }
 
+/// What the opening of a follower is answered.
+fn opening_reply(reply: Result<FollowerId, OpenFault>) -> &'static [u8]
+    ensures { result.now ≡ opening_reply_text (told_open reply) }
+{
+    match reply {
+        Ok(_) => b"ok".as_slice(),
+        Err(OpenFault::TooManyFollowers) => b"refused TooManyFollowers".as_slice(),
+        Err(OpenFault::OutOfMemory) => b"out of memory".as_slice(),
+    }
+}
+
+/// Appends what the opening of a follower prints.
+pub fn print_opening(
+    line: &mut Vec<u8>,
+    name: &[u8],
+    reply: Result<FollowerId, OpenFault>,
+) -> Result<(), AllocError>
+    ensures { OnOk result (line.new.items ≡ line.old.items ++ opening_text name.now (told_open reply)) }
+{
+    line.extend_from_slice(b"open ")?;
+    line.extend_from_slice(name)?;
+    line.extend_from_slice(b": ")?;
+    line.extend_from_slice(opening_reply(reply))?;
+    line.push(b'\n')?;
+    Ok(())
+}
+
+/// The name of a place on a chain.
+fn point_name<'a>(names: &'a Names, point: &Point) -> &'a [u8]
+    ensures { (bound : List Binding) → AreBound names.entry.now bound → result.now ≡ point_name bound (told_point point.now) }
+{
+    if point.number == 0 {
+        b"genesis".as_slice()
+    } else {
+        names.printed_name(&point.hash)
+    }
+}
+
+/// Appends what a follower is told.
+fn print_instruction(
+    line: &mut Vec<u8>,
+    names: &Names,
+    instruction: &Option<Instruction>,
+) -> Result<(), AllocError>
+    ensures { OnOk result ((bound : List Binding) → AreBound names.now bound → (text : List ℕ) × IsInstructionText bound (told_instruction instruction.now) text × (line.new.items ≡ line.old.items ++ text)) }
+{
+    match instruction {
+        None => line.extend_from_slice(b"none"),
+        Some(Instruction::AddBlock(block)) => {
+            line.extend_from_slice(b"add ")?;
+            line.extend_from_slice(names.printed_name(&block.point().hash))
+        }
+        Some(Instruction::RollBack(point)) => {
+            line.extend_from_slice(b"rollback ")?;
+            line.extend_from_slice(point_name(names, point))
+        }
+    }
+}
+
+/// Appends what a follower is answered that asks what comes next.
+fn print_next_reply(
+    line: &mut Vec<u8>,
+    names: &Names,
+    reply: &Result<Option<Instruction>, NextFault>,
+) -> Result<(), AllocError>
+    ensures { OnOk result ((bound : List Binding) → AreBound names.now bound → (text : List ℕ) × IsNextReplyText bound (told_next reply.now) text × (line.new.items ≡ line.old.items ++ text)) }
+{
+    match reply {
+        Ok(instruction) => print_instruction(line, names, instruction),
+        Err(NextFault::UnknownFollower) => line.extend_from_slice(b"refused UnknownFollower"),
+        Err(NextFault::OutOfMemory) => line.extend_from_slice(b"out of memory"),
+    }
+}
+
+/// Appends what the question `next` prints.
+pub fn print_next(
+    line: &mut Vec<u8>,
+    names: &Names,
+    name: &[u8],
+    reply: &Result<Option<Instruction>, NextFault>,
+) -> Result<(), AllocError>
+    ensures { OnOk result ((bound : List Binding) → AreBound names.now bound → (out : List ℕ) × IsNextText bound name.now (told_next reply.now) out × (line.new.items ≡ line.old.items ++ out)) }
+{
+    line.extend_from_slice(b"next ")?;
+    line.extend_from_slice(name)?;
+    line.extend_from_slice(b": ")?;
+    print_next_reply(line, names, reply)?;
+    line.push(b'\n')?;
+    Ok(())
+}
+
 /// Appends what the question `tip` prints.
 pub fn print_tip(line: &mut Vec<u8>, names: &Names, point: &Point) -> Result<(), AllocError>
     ensures { OnOk result ((bound : List Binding) → AreBound names.now bound → line.new.items ≡ line.old.items ++ tip_text bound (told_point point.now)) }
 {
     let number = point.number;
-    let name = if number == 0 {
-        b"genesis".as_slice()
-    } else {
-        names.printed_name(&point.hash)
-    };
+    let name = point_name(names, point);
     let Ok(()) = write!(line, "tip: {number} ") else {
         return Err(AllocError);
     };

@@ -5,24 +5,25 @@ ghost use Rattle.model.specs.History.{State, Arrive, Step};
 ghost use Rattle.chain_core.specs.Held.{Stands};
 ghost use Rattle.chain_core.specs.GenesisView.{told_genesis};
 ghost use Rattle.scenario.specs.OutcomeView.{told_outcome};
-ghost use Rattle.scenario.specs.Names.{bound_to};
+ghost use Rattle.scenario.specs.Names.{bound_to, follower_named};
 ghost use Rattle.scenario.specs.NamesView.{told_bound};
 ghost use Rattle.scenario.specs.LineView.{told_line, told_parent};
-ghost use Rattle.scenario.specs.Meaning.{formed, meaning_in, binds_free, block_meaning, base_of, bound_raw, arrival_meaning, Binds, PrintsTip};
+ghost use Rattle.scenario.specs.Meaning.{formed, meaning_in, binds_free, block_meaning, base_of, bound_raw, arrival_meaning, opening_meaning, next_meaning, Binds, PrintsTip};
 ghost use Rattle.scenario.specs.Run.{Scene, opening_scene};
 ghost use Rattle.scenario.specs.SessionView.{Holds, IsObeyed};
 
 use crate::building::{base_of, build};
 use crate::fault::LineFault;
+use crate::follower_names::FollowerNames;
 use crate::line::{Form, Line, Parent};
 use crate::name::Name;
 use crate::names::{Bound, Names};
-use crate::print::{print_arrival, print_tip};
+use crate::print::{print_arrival, print_next, print_opening, print_tip};
 use crate::stop::Stop;
 use chain_core::{ArriveReply, Core, Genesis};
 use std::alloc::{AllocError, Global};
 
-/// Room for what a line prints: a name and two numbers at most, and some words.
+/// Room for what a line prints: some words, with a name and two numbers or with two names.
 const LINE_ROOM: usize = 128;
 
 /// The node, with what names are bound to.
@@ -31,6 +32,7 @@ pub struct Session {
     alloc: Global,
     core: Core,
     names: Names,
+    followers: FollowerNames,
 }
 
 /// The bytes that arrive.
@@ -72,19 +74,20 @@ impl Session {
             alloc,
             core: Core::new(alloc, genesis),
             names: Names::new(alloc),
+            followers: FollowerNames::new(alloc),
         }
     }
 
-    /// Whether the name is bound.
+    /// Whether the name is one of bytes.
     fn is_taken(&self, name: Name<'_>) -> bool
-        ensures { (s : Scene) → Holds self.now s → result ≡ is_some (bound_to name.entry.text.now s.names) }
+        ensures { (s : Scene) → Holds self.now s → result ≡ is_some (bound_to name.entry.text.now s.names.of_bytes) }
     {
         self.names.get(name.text).is_some()
     }
 
     /// Binds a name that is free, and prints nothing.
     fn bind(&mut self, name: Name<'_>, bound: Bound) -> Result<Vec<u8>, Stop>
-        ensures obeyed { (s : Scene) → Holds self.old s → bound_to name.entry.text.now s.names ≡ None → IsObeyed self.old.core.genesis s (Ok (Binds (record { name = name.entry.text.now; bound = told_bound bound }))) result self.new }
+        ensures obeyed { (s : Scene) → Holds self.old s → bound_to name.entry.text.now s.names.of_bytes ≡ None → IsObeyed self.old.core.genesis s (Ok (Binds (record { name = name.entry.text.now; bound = told_bound bound }))) result self.new }
         ensures genesis { self.new.core.genesis ≡ self.old.core.genesis }
     {
         match self.names.bind(name.text, bound) {
@@ -100,7 +103,7 @@ impl Session {
         parent: Parent<'_>,
         slot: u64,
     ) -> Result<Vec<u8>, Stop>
-        ensures obeyed { (s : Scene) → Holds self.old s → IsObeyed self.old.core.genesis s (block_meaning s.names name.entry.text.now (base_of s.names (told_parent parent.entry)) slot) result self.new }
+        ensures obeyed { (s : Scene) → Holds self.old s → IsObeyed self.old.core.genesis s (block_meaning s.names.of_bytes name.entry.text.now (base_of s.names.of_bytes (told_parent parent.entry)) slot) result self.new }
         ensures genesis { self.new.core.genesis ≡ self.old.core.genesis }
     {
         let Some(base) = base_of(&self.names, parent) else {
@@ -117,7 +120,7 @@ impl Session {
 
     /// A line that defines bytes.
     fn define_raw(&mut self, name: Name<'_>, bytes: Vec<u8>) -> Result<Vec<u8>, Stop>
-        ensures obeyed { (s : Scene) → Holds self.old s → IsObeyed self.old.core.genesis s (binds_free s.names name.entry.text.now (Ok (bound_raw bytes.items))) result self.new }
+        ensures obeyed { (s : Scene) → Holds self.old s → IsObeyed self.old.core.genesis s (binds_free s.names.of_bytes name.entry.text.now (Ok (bound_raw bytes.items))) result self.new }
         ensures genesis { self.new.core.genesis ≡ self.old.core.genesis }
     {
         if self.is_taken(name) {
@@ -129,7 +132,7 @@ impl Session {
 
     /// A line in which the bytes of a name arrive. The room for what it prints is taken first.
     fn arrive(&mut self, form: Form, name: Name<'_>) -> Result<Vec<u8>, Stop>
-        ensures obeyed { (s : Scene) → Holds self.old s → IsObeyed self.old.core.genesis s (arrival_meaning form name.entry.text.now (bound_to name.entry.text.now s.names)) result self.new }
+        ensures obeyed { (s : Scene) → Holds self.old s → IsObeyed self.old.core.genesis s (arrival_meaning form name.entry.text.now (bound_to name.entry.text.now s.names.of_bytes)) result self.new }
         ensures genesis { self.new.core.genesis ≡ self.old.core.genesis }
     {
         let Some(bound) = self.names.get(name.text) else {
@@ -140,6 +143,48 @@ impl Session {
         };
         let reply = arrive(self.alloc, &mut self.core, form, &bound.bytes);
         match print_arrival(&mut line, form, name.text, reply) {
+            Ok(()) => Ok(line),
+            Err(AllocError) => Err(Stop::OutOfMemory),
+        }
+    }
+
+    /// A line that opens a follower. The room for what it prints and for the name is taken first.
+    fn open(&mut self, name: Name<'_>) -> Result<Vec<u8>, Stop>
+        ensures obeyed { (s : Scene) → Holds self.old s → IsObeyed self.old.core.genesis s (opening_meaning name.entry.text.now (follower_named name.entry.text.now s.names.of_followers)) result self.new }
+        ensures genesis { self.new.core.genesis ≡ self.old.core.genesis }
+    {
+        if self.followers.get(name.text).is_some() {
+            return Err(Stop::Fault(LineFault::NameTaken));
+        }
+        let Ok(mut line) = Vec::with_capacity(self.alloc, LINE_ROOM) else {
+            return Err(Stop::OutOfMemory);
+        };
+        let Ok(()) = self.followers.take_room(name.text) else {
+            return Err(Stop::OutOfMemory);
+        };
+        let reply = self.core.open();
+        if let Ok(id) = reply {
+            self.followers.bind(name.text, id);
+        }
+        match print_opening(&mut line, name.text, reply) {
+            Ok(()) => Ok(line),
+            Err(AllocError) => Err(Stop::OutOfMemory),
+        }
+    }
+
+    /// The question what a follower is told next. The room for what it prints is taken first.
+    fn next(&mut self, name: Name<'_>) -> Result<Vec<u8>, Stop>
+        ensures obeyed { (s : Scene) → Holds self.old s → IsObeyed self.old.core.genesis s (next_meaning name.entry.text.now (follower_named name.entry.text.now s.names.of_followers)) result self.new }
+        ensures genesis { self.new.core.genesis ≡ self.old.core.genesis }
+    {
+        let Some(id) = self.followers.get(name.text) else {
+            return Err(Stop::Fault(LineFault::UnknownName));
+        };
+        let Ok(mut line) = Vec::with_capacity(self.alloc, LINE_ROOM) else {
+            return Err(Stop::OutOfMemory);
+        };
+        let reply = self.core.next(id);
+        match print_next(&mut line, &self.names, name.text, &reply) {
             Ok(()) => Ok(line),
             Err(AllocError) => Err(Stop::OutOfMemory),
         }
@@ -168,6 +213,8 @@ impl Session {
             Line::Block { name, parent, slot } => self.define_block(name, parent, slot),
             Line::Raw { name, bytes } => self.define_raw(name, bytes),
             Line::Arrive { form, name } => self.arrive(form, name),
+            Line::Open { name } => self.open(name),
+            Line::Next { name } => self.next(name),
             Line::Tip => self.tip(),
         }
     }

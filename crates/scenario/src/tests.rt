@@ -1,6 +1,7 @@
 //! Scripts whole, each fault, and readers and writers that fail.
 
 mod flooded;
+mod followers;
 mod long_chain;
 mod scripts;
 

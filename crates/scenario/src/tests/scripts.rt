@@ -205,3 +205,43 @@ arrive-ext A2: refused 2 Malformed
 arrive A2: kept back 0 added 1
 arrive A2: refused 5 Known
 ";
+
+/// A follower that is told a block.
+pub const FOLLOWER_IS_TOLD_A_BLOCK: &str = "block A1 genesis 1
+open F
+next F
+arrive A1
+next F
+next F
+tip
+";
+
+/// What it prints.
+pub const FOLLOWER_IS_TOLD_A_BLOCK_PRINTS: &str = "open F: ok
+next F: none
+arrive A1: kept back 0 added 1
+next F: add A1
+next F: none
+tip: 1 A1
+";
+
+/// A follower whose chain is left.
+pub const FOLLOWER_LEFT_BEHIND: &str = "block A1 genesis 1
+block B1 genesis 2
+block B2 B1 3
+open F
+arrive A1
+next F
+arrive B2
+arrive B1
+next F
+";
+
+/// What it prints.
+pub const FOLLOWER_LEFT_BEHIND_PRINTS: &str = "open F: ok
+arrive A1: kept back 0 added 1
+next F: add A1
+arrive B2: kept back 0 added 0
+arrive B1: kept back 1 added 2
+next F: none
+";

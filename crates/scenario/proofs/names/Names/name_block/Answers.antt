@@ -1,5 +1,6 @@
 use Rattle.std.proofs.Common.{refl, rules}
-use Rattle.scenario.proofs.Bindings.{after_insert, none_if}
+use Rattle.ident.proofs.ByteKeys.{none_if}
+use Rattle.scenario.proofs.Bindings.{after_insert}
 use Rattle.scenario.proofs.names.Names.name_block.Goals as goal
 
 pub returns-in_ok-insert-clause-by_hash : goal.returns-in_ok-insert-clause-by_hash
