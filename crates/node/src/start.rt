@@ -1,6 +1,6 @@
 //! The start of the program: from its words to its status.
 
-ghost use Rattle.std.specs.Prelude.{◌≡◌, ◌≢◌, ◌⊎◌, IfErr, IfSome, OnOk};
+ghost use Rattle.std.specs.Prelude.{◌≡◌, ◌≢◌, ◌≤◌, ◌⊎◌, IfErr, IfSome, OnOk};
 ghost use Rattle.clap.specs.Words.{kind_of};
 ghost use Rattle.scenario.specs.Run.{script_genesis, EndsWell};
 ghost use Rattle.node.specs.Ending.{EndsBySome};
@@ -61,6 +61,7 @@ fn run_file<'a, R: Files + AllocGlobal, W: Write>(
 fn refuse<O: Write, E: Write>(error: &Error, out: &mut O, err: &mut E) -> u8
     ensures memory { kind_of error.now ≡ ErrorKind.OutOfMemory → result ≡ 1 }
     ensures mistake { kind_of error.now ≢ ErrorKind.OutOfMemory → kind_of error.now ≢ ErrorKind.DisplayHelp → kind_of error.now ≢ ErrorKind.DisplayVersion → result ≡ 2 }
+    ensures status { result ≤ 2 }
     ensures never_done { result ≡ 0 → (kind_of error.now ≡ ErrorKind.DisplayHelp) ⊎ (kind_of error.now ≡ ErrorKind.DisplayVersion) }
 {
     if error.kind() == ErrorKind::OutOfMemory {
@@ -83,7 +84,9 @@ pub fn start<R: Files + AllocGlobal, O: Write, E: Write>(
     words: &[String],
     out: &mut O,
     err: &mut E,
-) -> u8 {
+) -> u8
+    ensures { result ≤ 2 }
+{
     match job(rt.alloc(), words) {
         Ok(Job::Run { genesis: _, script }) => match run_file(rt, script, out) {
             Ok(()) => 0,

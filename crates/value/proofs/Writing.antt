@@ -1,8 +1,9 @@
 -- Writing entries one after the other, as a loop does.
-use Rattle.std.proofs.Common.{◌≡◌, ℕ, zero, suc, ◌+◌, ◌<◌, ◌≤◌, List, [], ◌∷◌, ◌++◌, length, drop, get_or, map, refl, sym, ap, ◌∙◌, append-nil, append_assoc, arith}
-use Rattle.std.proofs.lemmas.List.{take_at, take-append-drop}
+use Rattle.std.proofs.Common.{◌≡◌, ℕ, suc, ◌+◌, ◌<◌, ◌≤◌, List, [], ◌∷◌, ◌++◌, length, drop, get_or, map, refl, sym, ap, ◌∙◌, append-nil, append_assoc}
+use Rattle.std.proofs.lemmas.List.{take_at, take-append-drop, drop_all}
 use Rattle.model.specs.Cbor.{Item, Bytes, head, text_of, pairs_of, pairs_text, pairs_count, map_of}
 use Rattle.value.specs.Written.{Keeps}
+use Rattle.value.proofs.Lists.{drop_here}
 
 -- what has more behind it stands in front still
 pub kept : (old more new : List ℕ) → new ≡ old ++ more → Keeps old new
@@ -34,15 +35,10 @@ module _ {E : Type 0} (pair : E → Item × Item) where
     pub whole : now ++ pairs_text (pairs_of (map pair (drop i es))) ≡ before ++ pairs_text (pairs_of (map pair es))
     pub keeps : Keeps before now
 
-  -- the entries from one on
-  from_one : (es : List E) (i : ℕ) (e : E) → i < length es → e ≡ get_or es i e → drop i es ≡ e ∷ drop (suc i) es
-  from_one [] i e lt is = absurd (omega arith)
-  from_one (x ∷ xs) zero e lt is = ap (λ t. t ∷ xs) (sym is)
-  from_one (x ∷ xs) (suc i) e lt is = from_one xs i e (omega arith) is
-
+  -- the text from an entry on
   text_from : (es : List E) (i : ℕ) (e : E) → i < length es → e ≡ get_or es i e
-      → pairs_text (pairs_of (map pair (drop i es))) ≡ text_of (pair e).0 ++ (text_of (pair e).1 ++ pairs_text (pairs_of (map pair (drop (suc i) es))))
-  text_from es i e lt is = ap (λ (xs : List E). pairs_text (pairs_of (map pair xs))) (from_one es i e lt is)
+      → pairs_text (pairs_of (map pair (drop i es))) ≡ text_of (pair e).0 ++ (text_of (pair e).1 ++ pairs_text (pairs_of (map pair (drop (i + 1) es))))
+  text_from es i e lt is = ap (λ (xs : List E). pairs_text (pairs_of (map pair xs))) (drop_here es i e lt is)
 
   -- nothing yet
   pub none_written : (before : List ℕ) (es : List E) → IsPartWritten before before es 0
@@ -51,27 +47,19 @@ module _ {E : Type 0} (pair : E → Item × Item) where
   -- one more
   pub one_written : (before now mid after : List ℕ) (es : List E) (i : ℕ) (e : E) → i < length es → e ≡ get_or es i e → mid ≡ now ++ text_of (pair e).0 → after ≡ mid ++ text_of (pair e).1 → IsPartWritten before now es i → IsPartWritten before after es (i + 1)
   one_written before now mid after es i e lt is key value part =
-      let rest = pairs_text (pairs_of (map pair (drop (suc i) es))) in
+      let rest = pairs_text (pairs_of (map pair (drop (i + 1) es))) in
       let k = text_of (pair e).0 in
       let v = text_of (pair e).1 in
-      let next : i + 1 ≡ suc i = omega arith in
       let whole : after ++ rest ≡ now ++ (k ++ (v ++ rest)) = ap (λ (t : List ℕ). t ++ rest) (value ∙ ap (λ (t : List ℕ). t ++ v) key) ∙ append_assoc (now ++ k) v rest ∙ append_assoc now k (v ++ rest) in
       record {
-        whole = rw next (whole ∙ ap (λ (t : List ℕ). now ++ t) (sym (text_from es i e lt is)) ∙ part.whole);
+        whole = whole ∙ ap (λ (t : List ℕ). now ++ t) (sym (text_from es i e lt is)) ∙ part.whole;
         keeps = kept_on before now after part.keeps (kept_on now mid after (kept now k mid key) (kept mid v after value));
       }
 
   -- all of them
   pub all_written : (before now : List ℕ) (es : List E) (i : ℕ) → length es ≤ i → IsPartWritten before now es i → now ≡ before ++ pairs_text (pairs_of (map pair es))
   all_written before now es i le part =
-      let none : drop i es ≡ [] = nothing_left es i le in
-      sym (append-nil now) ∙ ap (λ (xs : List E). now ++ pairs_text (pairs_of (map pair xs))) (sym none) ∙ part.whole
-    where
-      nothing_left : (es : List E) (i : ℕ) → length es ≤ i → drop i es ≡ []
-      nothing_left [] zero le = refl
-      nothing_left [] (suc i) le = refl
-      nothing_left (x ∷ xs) zero le = absurd (omega arith)
-      nothing_left (x ∷ xs) (suc i) le = nothing_left xs i (omega arith)
+      sym (append-nil now) ∙ ap (λ (xs : List E). now ++ pairs_text (pairs_of (map pair xs))) (sym (drop_all i es le)) ∙ part.whole
 
   -- as many entries are written as there are
   count_is : (es : List E) → pairs_count (pairs_of (map pair es)) ≡ length es

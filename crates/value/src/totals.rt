@@ -12,8 +12,8 @@ use crate::side::Side;
 use ident::ScriptHash;
 use std::alloc::{AllocError, Global};
 
-/// Sums of values, for ada and each asset, in signed numbers of 128 bits. They are exact: fewer than 2^62
-/// values are added or taken, each with less than 2^64 of an asset.
+/// Sums of values, for ada and each asset, in signed numbers of 128 bits. They are exact: at most 2^62 values
+/// are added or taken, each with at most 2^64 of an asset.
 #[derive(Drop)]
 pub struct Totals {
     alloc: Global,

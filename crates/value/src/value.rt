@@ -135,8 +135,8 @@ impl Value {
         totals.change(self.coin, &self.assets, Side::Added)
     }
 
-    /// Takes the value from the sums, as what is spent is set against what is made of it. Err where memory
-    /// runs out: the sums are as they were. Each asset is looked up among those that were met.
+    /// Takes the value from the sums, so that what goes out is set against what comes in. Err where memory runs
+    /// out: the sums are as they were. Each asset is looked up among those that were met.
     pub fn take_from(&self, totals: &mut Totals) -> Result<(), AllocError>
         requires { totals.old.values < 2 ^ 62 }
         ensures sums { OnOk result ((asset : Asset) → total_of totals.new asset ≡ total_of totals.old asset -ℤ amount_of asset self.now) }
