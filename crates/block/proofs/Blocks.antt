@@ -1,16 +1,16 @@
 -- The two laws of blocks: what is read is spelled so, and what is spelled so is read.
-use Rattle.std.proofs.Common.{◌≡◌, ℕ, ◌-◌, cond, eqb, List, [], ◌∷◌, ◌++◌, length, take, Option, Some, None, refl, sym, ap, subst, ◌∙◌, arith}
+use Rattle.std.proofs.Common.{◌≡◌, ℕ, ◌-◌, cond, eqb, List, [], ◌++◌, length, take, Option, Some, None, refl, sym, ap, subst, ◌∙◌, arith}
 use Rattle.std.proofs.lemmas.Bool.{eqb-true}
 use Rattle.std.proofs.lemmas.List.{append-nil, nil_from_length, length-append, take_at}
-use Rattle.model.specs.Cbor.{nesting, head, text_of, items_of, HasText, IsInRange, HasRisingKeys}
-use Rattle.model.specs.Transaction.{Transaction}
+use Rattle.model.specs.Cbor.{nesting, text_of, HasText, IsInRange, HasRisingKeys}
+use Rattle.std.specs.List.{AllByRecursion}
+use Rattle.model.specs.Transaction.{IsTransaction}
 use Rattle.model.specs.Block.{Header, Block, item_of_previous, item_of_header, item_of_transactions, item_of_block, IsHeader, IsReadAs}
-use Rattle.cbor.specs.Reading.{◌>>=◌}
-use Rattle.cbor.proofs.Steps.{IsBytes, bind_some, guard_some, some_is, Takes}
+use Rattle.cbor.proofs.ForCallers.{IsBytes, bind_some, guard_some, some_is, has_text, text_fits, members_takes}
 use Rattle.model.specs.Examples.{empty_block}
-use Rattle.block.specs.Reading.{members_at, header_at, transactions_at, block_at}
-use Rattle.block.proofs.Taking.{TakesItem, next_item, last_item, array_item}
-use Rattle.block.proofs.Parts.{members_takes, members_again, header_takes, header_again, transactions_takes, transactions_again}
+use Rattle.cbor.specs.Shapes.{members_at}
+use Rattle.block.specs.Reading.{header_at, transactions_at, parts_at, block_at}
+use Rattle.block.proofs.Parts.{header_reads, transactions_reads, parts_reads}
 
 -- ---- the text of a block with an empty body
 
@@ -33,47 +33,31 @@ empty_read_as header bytes shape in_range spelled =
 
 -- ---- the laws
 
--- the block of these parts
-abbrev made : Header → List Transaction → Block
-made header transactions = record { header = header; transactions = transactions }
-
--- a header and a body, one after the other and nothing after them
-in_turn : (header : Header) (transactions : List Transaction) (bytes r0 r1 r2 : List ℕ) → Takes bytes (head 4 2) r0 → TakesItem (item_of_header header) r0 r1 × IsHeader header → TakesItem (item_of_transactions transactions) r1 r2 × (transactions ≡ []) → r2 ≡ [] → IsReadAs (made header transactions) bytes
-in_turn header transactions bytes r0 r1 r2 members first second nothing =
-    let text : List Transaction → List ℕ = λ ts. text_of (item_of_block (made header ts)) in
-    let body = item_of_transactions transactions in
-    let both = next_item (item_of_header header) (items_of (body ∷ [])) r0 r1 r2 first.0 (last_item body r1 r2 second.0) in
-    let whole = array_item (items_of (item_of_header header ∷ body ∷ [])) bytes r0 r2 (omega arith) members both in
-    let spelled : bytes ≡ text transactions = whole.takes.parts ∙ ap (λ (rest : List ℕ). text transactions ++ rest) nothing ∙ append-nil (text transactions) in
-    subst (λ (ts : List Transaction). IsReadAs (made header ts) bytes) (sym second.1) (empty_read_as header bytes first.1 first.0.in_range (spelled ∙ ap text second.1))
-
 -- a block that was read
 pub block_takes : (bytes : List ℕ) (block : Block) → IsBytes bytes → block_at bytes ≡ Some block → IsReadAs block bytes
 unfolding block_at
 block_takes bytes block fits e =
-    let m = bind_some (members_at 2 bytes) (λ members. header_at members >>= λ header. transactions_at header.1 >>= λ body. cond (eqb (length body.1) 0) (Some (made header.0 body.0)) None) block e in
-    let h = bind_some (header_at m.0) (λ header. transactions_at header.1 >>= λ body. cond (eqb (length body.1) 0) (Some (made header.0 body.0)) None) block m.2 in
-    let b = bind_some (transactions_at h.0.1) (λ body. cond (eqb (length body.1) 0) (Some (made h.0.0 body.0)) None) block h.2 in
-    let g = guard_some (eqb (length b.0.1) 0) (Some (made h.0.0 b.0.0)) block b.2 in
-    let tm = members_takes 2 bytes m.0 fits m.1 in
-    let th = header_takes m.0 h.0.0 h.0.1 tm.rest_fits h.1 in
-    let tb = transactions_takes h.0.1 b.0.0 b.0.1 th.0.takes.rest_fits b.1 in
+    let b = bind_some (parts_at bytes) (λ block. cond (eqb (length block.1) 0) (Some block.0) None) block e in
+    let g = guard_some (eqb (length b.0.1) 0) (Some b.0.0) block b.2 in
     let nothing = nil_from_length b.0.1 (eqb-true (length b.0.1) 0 g.0) in
-    subst (λ (x : Block). IsReadAs x bytes) {x = made h.0.0 b.0.0} (some_is (made h.0.0 b.0.0) block g.1)
-    (in_turn h.0.0 b.0.0 bytes m.0 h.0.1 b.0.1 tm th tb nothing)
-
--- the text of a block with an empty body is read
-empty_again : (header : Header) → IsHeader header → block_at (text_of (item_of_block (empty_block header))) ≡ Some (empty_block header)
-unfolding block_at
-empty_again header shape =
-    let body = text_of (item_of_transactions []) ++ [] in
-    rw (members_again 2 (text_of (item_of_header header) ++ body) (omega arith), header_again header body shape, transactions_again []) refl
+    let t = parts_reads.takes bytes b.0.0 b.0.1 fits b.1 in
+    let spelled : bytes ≡ text_of (item_of_block b.0.0) = whole_text (text_of (item_of_block b.0.0)) bytes b.0.1 t.0.takes.parts nothing in
+    let empty = t.1.1 in
+    let none : AllByRecursion IsTransaction b.0.0.transactions = subst (AllByRecursion IsTransaction) (sym empty) tt in
+    subst (λ (x : Block). IsReadAs x bytes) {x = b.0.0} (some_is b.0.0 block g.1)
+    (record { spelled = record { shape = record { header = t.1.0; transactions = none }; text = record { has_text = has_text (omega arith) t.0; spelled = spelled } }; empty = empty })
+  where
+    whole_text : (text bytes rest : List ℕ) → bytes ≡ text ++ rest → rest ≡ [] → bytes ≡ text
+    whole_text text bytes rest e nothing = e ∙ ap (λ (x : List ℕ). text ++ x) nothing ∙ append-nil text
 
 -- what is read as a block is read so
 pub block_again : (block : Block) (bytes : List ℕ) → IsReadAs block bytes → block_at bytes ≡ Some block
+unfolding block_at
 block_again block bytes r =
-    ap block_at r.spelled.text.spelled
-    ∙ subst (λ (ts : List Transaction). block_at (text_of (item_of_block (made block.header ts))) ≡ Some (made block.header ts)) (sym r.empty) (empty_again block.header r.spelled.shape.header)
+    let text = r.spelled.text in
+    let again = parts_reads.again block [] (text_fits text.has_text) (r.spelled.shape.header, r.empty) in
+    let whole : bytes ≡ text_of (item_of_block block) ++ [] = text.spelled ∙ sym (append-nil (text_of (item_of_block block))) in
+    rw whole (rw again refl)
 
 -- where no block is read none is spelled
 pub no_block : (bytes : List ℕ) → block_at bytes ≡ None → (block : Block) → IsReadAs block bytes → ⊥
@@ -85,7 +69,7 @@ no_block bytes e block r = let again = block_again block bytes r in cc
 pub header_before_body : (bytes members : List ℕ) (header : Header) (body : List ℕ) → IsBytes bytes → Some members ≡ members_at 2 bytes → Some (header, body) ≡ header_at members → members ≡ text_of (item_of_header header) ++ body
 header_before_body bytes members header body fits e f =
     let tm = members_takes 2 bytes members fits (sym e) in
-    (header_takes members header body tm.rest_fits (sym f)).0.takes.parts
+    (header_reads.takes members header body tm.rest_fits (sym f)).0.takes.parts
 
 -- what stands before a part
 pub front_is : (front all text body : List ℕ) → all ≡ text ++ body → front ≡ take (length all - length body) all → front ≡ text
@@ -97,6 +81,6 @@ front_is front all text body split e =
 pub body_at_end : (bytes members : List ℕ) (header : Header) (body after : List ℕ) → IsBytes bytes → Some members ≡ members_at 2 bytes → Some (header, body) ≡ header_at members → Some ([], after) ≡ transactions_at body → after ≡ [] → body ≡ text_of (item_of_transactions [])
 body_at_end bytes members header body after fits e f g nothing =
     let tm = members_takes 2 bytes members fits (sym e) in
-    let th = header_takes members header body tm.rest_fits (sym f) in
-    let tb = transactions_takes body [] after th.0.takes.rest_fits (sym g) in
+    let th = header_reads.takes members header body tm.rest_fits (sym f) in
+    let tb = transactions_reads.takes body [] after th.0.takes.rest_fits (sym g) in
     tb.0.takes.parts ∙ ap (λ (rest : List ℕ). text_of (item_of_transactions []) ++ rest) nothing ∙ append-nil (text_of (item_of_transactions []))

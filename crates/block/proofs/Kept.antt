@@ -6,55 +6,45 @@ use Rattle.std.proofs.lemmas.List.{length-append}
 use Rattle.sha2.specs.Sha256.{sha256}
 use Rattle.model.specs.Cbor.{head, text_of, items_of, items_count}
 use Rattle.model.specs.Transaction.{Transaction, item_of_transaction}
+use Rattle.model.specs.Limits.{block_size_limit}
 use Rattle.model.specs.Block.{Header, Block, item_of_header, item_of_transactions, block_text, block_hash_of, body_hash_of, body_size_of}
 use Rattle.model.proofs.BlockTexts.{block_text_is}
-use Rattle.cbor.proofs.Steps.{IsBytes}
-use Rattle.block.specs.declared.header.Header as code
+use Rattle.cbor.proofs.ForCallers.{IsBytes}
 use Rattle.block.specs.declared.block.Block.TheInside.{Inside}
 use Rattle.model.specs.Examples.{empty_block}
 use Rattle.block.specs.View.{header_of}
 use Rattle.block.specs.Reading.{block_at}
 use Rattle.block.specs.Read.{IsRead, IsMalformed, IsMismatched}
+use Rattle.block.specs.declared.block_ref.BlockRef.TheInside as ref
 use Rattle.block.specs.Held.{block_of, IsHeld}
+use Rattle.block.specs.HeldRef.{borrowed_block, IsHeldRef}
 use Rattle.block.proofs.Blocks.{block_takes, no_block}
 
 -- ---- reading
 
 -- no block was read
-pub is_malformed : (bytes : List ℕ) → length bytes ≤ 1048576 → None ≡ block_at bytes → IsMalformed bytes
+pub is_malformed : (bytes : List ℕ) → length bytes ≤ block_size_limit → None ≡ block_at bytes → IsMalformed bytes
 is_malformed bytes size e = record { size = size; no_block = no_block bytes (sym e) }
 
 -- a block was read, and the digest of its body is what its header names
-pub is_read : (bytes : List ℕ) (header : Header) (digest body : List ℕ) → IsBytes bytes → length bytes ≤ 1048576 → Some (empty_block header) ≡ block_at bytes
+pub is_read : (bytes : List ℕ) (header : Header) (digest body : List ℕ) → IsBytes bytes → length bytes ≤ block_size_limit → Some (empty_block header) ≡ block_at bytes
     → digest ≡ sha256 body → body ≡ text_of (item_of_transactions []) → digest ≡ header.body_hash → IsRead (empty_block header) bytes
 unfolding body_hash_of
 is_read bytes header digest body fits size read is spelled same =
     record { read = block_takes bytes (empty_block header) fits (sym read); size = size; body = sym same ∙ is ∙ ap sha256 spelled }
 
 -- a block was read, and its header names another digest
-pub is_mismatched : (bytes : List ℕ) (header : Header) (digest body : List ℕ) → IsBytes bytes → length bytes ≤ 1048576 → Some (empty_block header) ≡ block_at bytes
+pub is_mismatched : (bytes : List ℕ) (header : Header) (digest body : List ℕ) → IsBytes bytes → length bytes ≤ block_size_limit → Some (empty_block header) ≡ block_at bytes
     → digest ≡ sha256 body → body ≡ text_of (item_of_transactions []) → digest ≢ header.body_hash → IsMismatched bytes
 unfolding body_hash_of
 is_mismatched bytes header digest body fits size read is spelled other =
     record { size = size; block = empty_block header; read = block_takes bytes (empty_block header) fits (sym read); body = λ same. other (is ∙ ap sha256 spelled ∙ sym same) }
 
--- what is kept of a block that was read
-pub is_held : (b : Inside) (header : code.Header) (bytes header_text body_text : List ℕ) → b.inner.value.header ≡ header → b.inner.value.bytes.items ≡ bytes
-    → b.inner.value.hash.bytes ≡ sha256 header_text → b.inner.value.body_size ≡ length body_text
-    → header_text ≡ text_of (item_of_header (header_of header)) → body_text ≡ text_of (item_of_transactions [])
-    → IsRead (empty_block (header_of header)) bytes → IsHeld b
+-- what is kept beside the bytes of a block that was read
+pub is_held : (b : ref.Inside) (header_text body_text : List ℕ) → IsRead (borrowed_block b) b.bytes.now → b.hash.bytes ≡ sha256 header_text → b.body_size ≡ length body_text
+    → header_text ≡ text_of (item_of_header (header_of b.header)) → body_text ≡ text_of (item_of_transactions []) → IsHeldRef b
 unfolding block_hash_of body_size_of
-is_held b header bytes header_text body_text same_header same_bytes hash size header_spelled body_spelled read =
-    let at_header = subst (λ (h : code.Header). IsRead (empty_block (header_of h)) bytes) (sym same_header) read in
-    record {
-      read = subst (λ (xs : List ℕ). IsRead (empty_block (header_of b.inner.value.header)) xs) (sym same_bytes) at_header;
-      hash = hash ∙ ap sha256 header_spelled ∙ ap (λ (h : code.Header). sha256 (text_of (item_of_header (header_of h)))) (sym same_header);
-      body_size = size ∙ ap length body_spelled;
-    }
-
--- the bytes that are kept are those that were read
-pub read_held : (b : Inside) (bytes : List ℕ) → b.inner.value.bytes.items ≡ bytes → IsHeld b → IsRead (block_of b) bytes
-read_held b bytes same held = subst (IsRead (block_of b)) same held.read
+is_held b header_text body_text read hash size header_spelled body_spelled = record { read = read; hash = hash ∙ ap sha256 header_spelled; body_size = size ∙ ap length body_spelled }
 
 -- so what was read is the block that its text spells
 pub read_text : (b : Inside) → IsHeld b → IsRead (block_of b) (block_text (block_of b))

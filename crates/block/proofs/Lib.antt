@@ -1,6 +1,6 @@
-pub mod Taking
 pub mod Parts
 pub mod Blocks
 pub mod Kept
 pub mod Texts
 pub mod OneAnswer
+pub mod ForCallers

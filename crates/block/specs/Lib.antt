@@ -2,4 +2,6 @@ pub mod View
 pub mod Reading
 pub mod Read
 pub mod Held
+pub mod HeldRef
 pub mod Written
+pub mod Same

@@ -1,6 +1,9 @@
 -- What it means that bytes are read as a block, and each reason why they are not.
 use Rattle.std.specs.Prelude.{◌≡◌, ◌≢◌, ℕ, ◌≤◌, ◌<◌, List, length}
+use Rattle.model.specs.Limits.{block_size_limit}
 use Rattle.model.specs.Block.{Block, IsReadAs, body_hash_of}
+use Rattle.block.specs.declared.fault.NoBlock.{NoBlock}
+use Rattle.block.specs.declared.fault.NoBlock.TheVariants as none
 use Rattle.block.specs.declared.fault.ReadFault.{ReadFault}
 use Rattle.block.specs.declared.fault.ReadFault.TheVariants.{TooLarge, Malformed, BodyHashMismatch, OutOfMemory}
 
@@ -8,24 +11,35 @@ use Rattle.block.specs.declared.fault.ReadFault.TheVariants.{TooLarge, Malformed
 -- its header names
 pub record IsRead (block : Block) (bytes : List ℕ) : Type 0 where
   pub read : IsReadAs block bytes
-  pub size : length bytes ≤ 1048576
+  pub size : length bytes ≤ block_size_limit
   pub body : block.header.body_hash ≡ body_hash_of block.transactions
 
 -- the bytes spell no block
 pub record IsMalformed (bytes : List ℕ) : Type 0 where
-  pub size : length bytes ≤ 1048576
+  pub size : length bytes ≤ block_size_limit
   pub no_block : (b : Block) → IsReadAs b bytes → ⊥
 
 -- the bytes spell a block whose body has another hash than its header names
 pub record IsMismatched (bytes : List ℕ) : Type 0 where
-  pub size : length bytes ≤ 1048576
+  pub size : length bytes ≤ block_size_limit
   pub block : Block
   pub read : IsReadAs block bytes
   pub body : block.header.body_hash ≢ body_hash_of block.transactions
 
--- when each fault comes: the first reason that applies, or want of memory
+-- the bytes are read as a block, if only there is memory for it
+pub record IsReadable (bytes : List ℕ) : Type 0 where
+  pub block : Block
+  pub read : IsRead block bytes
+
+-- when bytes are no block: the first reason that applies
+abbrev pub IsNoBlock : List ℕ → NoBlock → Type 0
+IsNoBlock bytes none.TooLarge = block_size_limit < length bytes
+IsNoBlock bytes none.Malformed = IsMalformed bytes
+IsNoBlock bytes none.BodyHashMismatch = IsMismatched bytes
+
+-- when each fault comes: the first reason that applies, or want of memory where none of the others does
 abbrev pub IsReadFault : List ℕ → ReadFault → Type 0
-IsReadFault bytes TooLarge = 1048576 < length bytes
+IsReadFault bytes TooLarge = block_size_limit < length bytes
 IsReadFault bytes Malformed = IsMalformed bytes
 IsReadFault bytes BodyHashMismatch = IsMismatched bytes
-IsReadFault bytes OutOfMemory = Unit {0}
+IsReadFault bytes OutOfMemory = IsReadable bytes

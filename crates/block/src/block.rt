@@ -1,23 +1,19 @@
 //! Blocks, as they are kept and shared.
 
-ghost use Rattle.std.specs.Prelude.{◌≡◌, ◌↔◌, [], length, option_map, IsTrue, IfOk, IfErr};
-ghost use Rattle.sha2.specs.Sha256.{sha256};
+ghost use Rattle.std.specs.Prelude.{◌≡◌, ◌↔◌, [], option_map, IsTrue, IfOk, IfErr};
 ghost use Rattle.model.specs.Block.{block_text, block_hash_of, body_size_of};
+ghost use Rattle.model.specs.Examples.{empty_block};
 ghost use Rattle.block.specs.View.{bytes_of, header_of};
 ghost use Rattle.block.specs.Read.{IsRead, IsReadFault};
 
-use crate::fault::ReadFault;
+use crate::block_ref::look;
+use crate::fault::{NoBlock, ReadFault};
 use crate::header::Header;
-use crate::reading;
-use crate::reading::Parts;
-use ident::{BlockHash, BodyHash, Point};
+use ident::{BlockHash, Point};
 use std::alloc::{AllocError, Global};
 use std::fmt;
 use std::marker::Model;
 use std::sync::Arc;
-
-/// The largest size of a block, in bytes.
-pub const MAX_BLOCK_SIZE: usize = 1_048_576;
 
 /// What the owners of a block share.
 #[derive(Drop)]
@@ -132,6 +128,23 @@ impl Block {
     }
 }
 
+impl PartialEq for Block {
+    ghost use Rattle.std.specs.Prelude.{bytes_eq};
+    ghost use Rattle.block.specs.Same.{same_texts_laws};
+
+    ghost eq = { λ a b. bytes_eq (block_text a) (block_text b) };
+
+    ghost laws = { same_texts_laws };
+
+    /// Whether the two are the same block, which is so just where their texts are the same. Linear in the bytes.
+    fn eq(&self, other: &Block) -> bool
+        ensures exact { result ≡ bytes_eq (block_text self.now) (block_text other.now) }
+        ensures same { IsTrue result ↔ (self.now ≡ other.now) }
+    {
+        self.bytes() == other.bytes()
+    }
+}
+
 impl fmt::Debug for Block {
     fn fmt<W: fmt::Write>(&self, f: &mut fmt::Formatter<W>) -> fmt::Result {
         let header = self.header();
@@ -139,27 +152,45 @@ impl fmt::Debug for Block {
     }
 }
 
-/// Whether two body hashes are the same.
-fn is_same(a: &BodyHash, b: &BodyHash) -> bool
-    ensures { IsTrue result ↔ (a.now.bytes ≡ b.now.bytes) }
-{
-    a == b
-}
-
 /// What the owners of a block share, with a copy of its bytes.
-fn share(alloc: Global, bytes: &[u8], parts: &Parts<'_>) -> Result<Arc<Inner>, AllocError>
-    ensures header { IfOk result (λ inner. inner.value.header ≡ parts.now.header) }
+fn share(
+    alloc: Global,
+    bytes: &[u8],
+    hash: BlockHash,
+    header: Header,
+    body_size: usize,
+) -> Result<Arc<Inner>, AllocError>
+    ensures header { IfOk result (λ inner. inner.value.header ≡ header) }
     ensures bytes { IfOk result (λ inner. inner.value.bytes.items ≡ bytes.now) }
-    ensures hash { IfOk result (λ inner. inner.value.hash.bytes ≡ sha256 parts.now.header_text.now) }
-    ensures body_size { IfOk result (λ inner. inner.value.body_size ≡ length parts.now.body_text.now) }
+    ensures hash { IfOk result (λ inner. inner.value.hash ≡ hash) }
+    ensures body_size { IfOk result (λ inner. inner.value.body_size ≡ body_size) }
 {
     let inner = Inner {
         bytes: Vec::from_slice(alloc, bytes)?,
-        hash: BlockHash::of_header(parts.header_text),
-        header: parts.header,
-        body_size: parts.body_text.len(),
+        hash,
+        header,
+        body_size,
     };
     Ok(Arc::new(alloc, inner)?)
+}
+
+impl Block {
+    /// A block of its own with these parts.
+    pub(crate) fn of_parts(
+        alloc: Global,
+        bytes: &[u8],
+        hash: BlockHash,
+        header: Header,
+        body_size: usize,
+    ) -> Result<Block, AllocError>
+        requires read { IsRead (empty_block (header_of header)) bytes.now }
+        requires hash { hash.bytes ≡ block_hash_of (empty_block (header_of header)) }
+        requires body_size { body_size ≡ body_size_of (empty_block (header_of header)) }
+        ensures { IfOk result (λ b. b ≡ empty_block (header_of header)) }
+    {
+        let inner = share(alloc, bytes, hash, header, body_size)?;
+        Ok(Block { inner })
+    }
 }
 
 /// The block that the bytes spell (RFC 8949, section 4.2.1), with a copy of them. Else the first of these
@@ -168,25 +199,28 @@ fn share(alloc: Global, bytes: &[u8], parts: &Parts<'_>) -> Result<Arc<Inner>, A
 /// - Malformed: the bytes are the text of no block. As long as no transaction is read, the text of a block
 ///   with transactions is Malformed too;
 /// - BodyHashMismatch: the header names another hash than the SHA-256 digest (FIPS 180-4) of the body's text;
-/// - OutOfMemory: one of two allocations fails, of which the larger has the size of the bytes.
+/// - OutOfMemory: the bytes are read as a block, and one of two allocations failed, of which the larger has the size of
+///   the bytes.
 ///
 /// The cost grows with the bytes: one digest of the body's text, and where the block is read one of the
 /// header's and one copy of the bytes.
+///
+/// ```text
+/// let block = block::read(alloc, &bytes)?;
+/// let place = block.point(); // its number and its hash
+/// ```
 pub fn read(alloc: Global, bytes: &[u8]) -> Result<Block, ReadFault>
     ensures ok { IfOk result (λ b. IsRead b bytes.now) }
     ensures fault { IfErr result (λ e. IsReadFault bytes.now e) }
 {
-    if bytes.len() > MAX_BLOCK_SIZE {
-        return Err(ReadFault::TooLarge);
-    }
-    let Some(parts) = reading::parts_of(bytes) else {
-        return Err(ReadFault::Malformed);
+    let found = match look(bytes) {
+        Ok(found) => found,
+        Err(NoBlock::TooLarge) => return Err(ReadFault::TooLarge),
+        Err(NoBlock::Malformed) => return Err(ReadFault::Malformed),
+        Err(NoBlock::BodyHashMismatch) => return Err(ReadFault::BodyHashMismatch),
     };
-    if !is_same(&BodyHash::of_body(parts.body_text), &parts.header.body_hash) {
-        return Err(ReadFault::BodyHashMismatch);
+    match found.to_block(alloc) {
+        Ok(block) => Ok(block),
+        Err(AllocError) => Err(ReadFault::OutOfMemory),
     }
-    let Ok(inner) = share(alloc, bytes, &parts) else {
-        return Err(ReadFault::OutOfMemory);
-    };
-    Ok(Block { inner })
 }

@@ -1,6 +1,25 @@
 //! Why bytes are no block, and why a block has no text.
 
+ghost use Rattle.std.specs.Prelude.{◌≡◌};
+ghost use Rattle.block.specs.declared.fault.ReadFault.TheVariants as read;
+ghost use Rattle.block.specs.declared.fault.WriteFault.TheVariants as write;
+
+use std::alloc::AllocError;
 use thiserror::Error;
+
+/// Why bytes are no block, in the order in which the reasons are looked for.
+#[derive(Clone, Copy, Debug, PartialEq, Eq, Error)]
+pub enum NoBlock {
+    /// There are more than 1,048,576 bytes.
+    #[error("the block is larger than 1048576 bytes")]
+    TooLarge,
+    /// The bytes are the text of no block.
+    #[error("the bytes are no block")]
+    Malformed,
+    /// The header names another body hash than the body's.
+    #[error("the body has another hash than the header names")]
+    BodyHashMismatch,
+}
 
 /// Why bytes are not read as a block, in the order in which the reasons are looked for.
 #[derive(Clone, Copy, Debug, PartialEq, Eq, Error)]
@@ -14,7 +33,7 @@ pub enum ReadFault {
     /// The header names another body hash than the body's.
     #[error("the body has another hash than the header names")]
     BodyHashMismatch,
-    /// There is no memory for the block.
+    /// The bytes are a block, and there is no memory for it.
     #[error("out of memory")]
     OutOfMemory,
 }
@@ -25,7 +44,23 @@ pub enum WriteFault {
     /// The number or the slot is 2^63 or more.
     #[error("the number or the slot is 2^63 or more")]
     OutOfRange,
-    /// There is no memory for the text.
+    /// The header has a text, and there is no memory for it.
     #[error("out of memory")]
     OutOfMemory,
+}
+
+impl From<AllocError> for ReadFault {
+    ghost from_gives = { λ _ e. e ≡ read.OutOfMemory };
+
+    fn from(_error: AllocError) -> ReadFault {
+        ReadFault::OutOfMemory
+    }
+}
+
+impl From<AllocError> for WriteFault {
+    ghost from_gives = { λ _ e. e ≡ write.OutOfMemory };
+
+    fn from(_error: AllocError) -> WriteFault {
+        WriteFault::OutOfMemory
+    }
 }

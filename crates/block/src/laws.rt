@@ -11,7 +11,10 @@ ghost use Rattle.block.specs.declared.fault.ReadFault.TheVariants.{OutOfMemory};
 /// fault, and not both. And there is one, whatever the bytes.
 pub fn one_answer()
     ensures one_block { (bytes : List ℕ) (a b : Block) → IsRead a bytes → IsRead b bytes → a ≡ b }
-    ensures one_fault { (bytes : List ℕ) (e f : ReadFault) → IsReadFault bytes e → IsReadFault bytes f → e ≢ OutOfMemory → f ≢ OutOfMemory → e ≡ f }
-    ensures apart { (bytes : List ℕ) (b : Block) (e : ReadFault) → IsRead b bytes → IsReadFault bytes e → e ≡ OutOfMemory }
-    ensures some { (bytes : List ℕ) → AllByRecursion (λ b. b < 256) bytes → ((b : Block) × IsRead b bytes) ⊎ ((e : ReadFault) × (e ≢ OutOfMemory) × IsReadFault bytes e) }
+    ensures one_fault { (bytes : List ℕ) (e f : ReadFault) → IsReadFault bytes e → IsReadFault bytes f →
+        e ≢ OutOfMemory → f ≢ OutOfMemory → e ≡ f }
+    ensures apart { (bytes : List ℕ) (b : Block) (e : ReadFault) → IsRead b bytes → IsReadFault bytes e →
+        e ≡ OutOfMemory }
+    ensures some { (bytes : List ℕ) → AllByRecursion (λ b. b < 256) bytes →
+        ((b : Block) × IsRead b bytes) ⊎ ((e : ReadFault) × (e ≢ OutOfMemory) × IsReadFault bytes e) }
 {}

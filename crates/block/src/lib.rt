@@ -2,14 +2,16 @@
 #![tactic(auto)]
 
 mod block;
+mod block_ref;
 mod fault;
 mod header;
 mod laws;
 mod reading;
 mod writing;
 
-pub use block::{Block, MAX_BLOCK_SIZE, read};
-pub use fault::{ReadFault, WriteFault};
+pub use block::{Block, read};
+pub use block_ref::{BlockRef, MAX_BLOCK_SIZE, look};
+pub use fault::{NoBlock, ReadFault, WriteFault};
 pub use header::Header;
 pub use laws::one_answer;
 pub use writing::{empty_body_hash, write_empty};

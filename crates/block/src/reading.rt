@@ -6,37 +6,13 @@ ghost use Rattle.model.specs.Cbor.{text_of};
 ghost use Rattle.model.specs.Block.{item_of_header, item_of_transactions};
 ghost use Rattle.model.specs.Examples.{empty_block};
 ghost use Rattle.block.specs.View.{bytes_of, header_of};
-ghost use Rattle.block.specs.Reading.{members_at, bounded_at, previous_at, header_at, transactions_at, block_at};
+ghost use Rattle.block.specs.Reading.{previous_at, header_at, transactions_at, block_at};
 
 use crate::header::{Header, NUMBER_LIMIT};
 use ident::{BlockHash, BodyHash};
 
-/// The bytes from the first member on of an array of exactly `count` members.
-#[tactic(auto, unfolding(crate::specs::Reading::members_at))]
-fn members(bytes: &[u8], count: u64) -> Option<&[u8]>
-    ensures { option_map (λ x. x.now) result ≡ members_at count bytes.now }
-{
-    let (found, rest) = cbor::array(bytes)?;
-    if found != count {
-        return None;
-    }
-    Some(rest)
-}
-
-/// A number below 2^63.
-#[tactic(auto, unfolding(crate::specs::Reading::bounded_at))]
-fn bounded(bytes: &[u8]) -> Option<(u64, &[u8])>
-    ensures { option_map (λ x. (x.0, x.1.now)) result ≡ bounded_at bytes.now }
-{
-    let (number, rest) = cbor::unsigned(bytes)?;
-    if number >= NUMBER_LIMIT {
-        return None;
-    }
-    Some((number, rest))
-}
-
 /// The hash of the block before, or null where there is none.
-#[tactic(auto, unfolding(crate::specs::Reading::previous_at))]
+#[tactic(auto, unfolding(crate::specs::Reading::previous_at, cbor::specs::Shapes::optional_at))]
 fn previous(bytes: &[u8]) -> Option<(Option<BlockHash>, &[u8])>
     ensures { option_map (λ x. (option_map bytes_of x.0, x.1.now)) result ≡ previous_at bytes.now }
 {
@@ -47,13 +23,13 @@ fn previous(bytes: &[u8]) -> Option<(Option<BlockHash>, &[u8])>
     Some((Some(BlockHash::from_bytes(hash)), rest))
 }
 
-#[tactic(auto, unfolding(crate::specs::Reading::header_at))]
+#[tactic(auto, unfolding(crate::specs::Reading::header_at, cbor::specs::Shapes::as_at, cbor::specs::Shapes::array_at, cbor::specs::Shapes::both_at))]
 fn header(bytes: &[u8]) -> Option<(Header, &[u8])>
     ensures { option_map (λ x. (header_of x.0, x.1.now)) result ≡ header_at bytes.now }
 {
-    let rest = members(bytes, 4)?;
-    let (number, rest) = bounded(rest)?;
-    let (slot, rest) = bounded(rest)?;
+    let members = cbor::members(bytes, 4)?;
+    let (number, rest) = cbor::bounded(members, NUMBER_LIMIT)?;
+    let (slot, rest) = cbor::bounded(rest, NUMBER_LIMIT)?;
     let (previous, rest) = previous(rest)?;
     let (hash, rest) = cbor::fixed::<32>(rest)?;
     let header = Header {
@@ -66,11 +42,11 @@ fn header(bytes: &[u8]) -> Option<(Header, &[u8])>
 }
 
 /// The transactions of a body: as long as no transaction is read, the empty array. The bytes after it.
-#[tactic(auto, unfolding(crate::specs::Reading::transactions_at))]
+#[tactic(auto, unfolding(crate::specs::Reading::transactions_at, cbor::specs::Shapes::as_at, cbor::specs::Shapes::array_at))]
 fn transactions(bytes: &[u8]) -> Option<&[u8]>
     ensures { option_map (λ x. ([], x.now)) result ≡ transactions_at bytes.now }
 {
-    members(bytes, 0)
+    cbor::members(bytes, 0)
 }
 
 /// A block's header, and the two parts of its text that are hashed.
@@ -82,13 +58,13 @@ pub struct Parts<'a> {
 }
 
 /// The parts of the block that the bytes spell. None where they spell no block.
-#[tactic(auto, unfolding(crate::specs::Reading::block_at))]
+#[tactic(auto, unfolding(crate::specs::Reading::block_at, crate::specs::Reading::parts_at, cbor::specs::Shapes::as_at, cbor::specs::Shapes::array_at, cbor::specs::Shapes::both_at))]
 pub fn parts_of(bytes: &[u8]) -> Option<Parts<'_>>
     ensures exact { option_map (λ p. empty_block (header_of p.header)) result ≡ block_at bytes.now }
     ensures header_text { IfSome result (λ p. p.header_text.now ≡ text_of (item_of_header (header_of p.header))) }
     ensures body_text { IfSome result (λ p. p.body_text.now ≡ text_of (item_of_transactions [])) }
 {
-    let members = members(bytes, 2)?;
+    let members = cbor::members(bytes, 2)?;
     let (header, body_text) = header(members)?;
     let after = transactions(body_text)?;
     if !after.is_empty() {

@@ -39,6 +39,7 @@ fn first_block(rt: HostRuntime) -> Result<(), Fail> {
     assert!(rt; block.previous().is_none() && block.is_empty());
     assert_eq!(rt; block.body_size(), 1);
     let again = block.try_clone()?;
+    assert_eq!(rt; again, block);
     drop(block);
     assert_eq!(rt; again.bytes(), FIRST.as_slice());
     Ok(())
@@ -59,6 +60,7 @@ fn written_text_is_read_again(rt: HostRuntime) -> Result<(), Fail> {
     assert!(rt; text.starts_with(start));
     let block = read(rt.alloc(), &text)?;
     assert_eq!(rt; *block.header(), header);
+    assert!(rt; block != read(rt.alloc(), &FIRST)?);
     let late = Header {
         slot: 1 << 63,
         ..header

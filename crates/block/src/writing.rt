@@ -69,8 +69,6 @@ pub fn write_empty(alloc: Global, header: &Header) -> Result<Vec<u8>, WriteFault
     if header.slot >= NUMBER_LIMIT {
         return Err(WriteFault::OutOfRange);
     }
-    let Ok(text) = empty_block_text(alloc, header) else {
-        return Err(WriteFault::OutOfMemory);
-    };
+    let text = empty_block_text(alloc, header)?;
     Ok(text)
 }

@@ -10,7 +10,8 @@ use Rattle.std.proofs.lemmas.List.{take_at, length-append}
 use Rattle.model.specs.Cbor.{Item, Items, Pairs, Unsigned, Negative, Bytes, Array, Map, Null, NoItems, NextItem, NoPairs, NextPair, items_count, pairs_count, head, text_of, items_text, pairs_text, nesting, items_nesting, pairs_nesting, IsInRange, ItemsAreInRange, PairsAreInRange, IsBeforeFirst, HasRisingKeys, ItemsHaveRisingKeys, PairsHaveRisingKeys}
 use Rattle.model.proofs.ItemTexts.{text_not_empty}
 use Rattle.cbor.specs.Reading.{◌>>=◌, head_at, bytes_at, null_at}
-use Rattle.cbor.specs.ItemReading.{Reader, members_at, front, entry_at, entries_at, array_at, map_at, single_at, item_of_major, item_with, item_at}
+use Rattle.cbor.specs.ItemReading.{Reader, items_at, pair_at, pairs_at, array_item_at, map_item_at, single_at, item_of_major, item_with, item_at}
+use Rattle.cbor.specs.Reading.{front}
 use Rattle.cbor.proofs.Steps.{IsBytes, AllByRecursion-bytes, bind_some, guard-true, guard_some, chosen, some_is, Takes, Takes-then, Takes-length}
 use Rattle.cbor.proofs.Reading.{head_takes, head_again, bytes_takes, bytes_again, null_takes, null_again}
 
@@ -38,17 +39,17 @@ pub record Reads (depth : ℕ) (read : Reader) : Type 0 where
 -- ---- members
 
 -- members that were read
-members_take : (depth : ℕ) (read : Reader) → Reads depth read → (count : ℕ) (bytes : List ℕ) (is : Items) (rest : List ℕ) → IsBytes bytes → members_at read count bytes ≡ Some (is, rest)
+items_take : (depth : ℕ) (read : Reader) → Reads depth read → (count : ℕ) (bytes : List ℕ) (is : Items) (rest : List ℕ) → IsBytes bytes → items_at read count bytes ≡ Some (is, rest)
     → Takes bytes (items_text is) rest × (items_count is ≡ count) × AreMembers depth is
-unfolding members_at
-members_take depth read laws zero bytes is rest fits e =
+unfolding items_at
+items_take depth read laws zero bytes is rest fits e =
     subst (λ (x : Items × List ℕ). Takes bytes (items_text x.0) x.1 × (items_count x.0 ≡ 0) × AreMembers depth x.0) (some_is (NoItems, bytes) (is, rest) e)
     (record { parts = refl; rest_fits = fits }, refl, record { in_range = tt; rising = tt; nest = omega arith })
-members_take depth read laws (suc count) bytes is rest fits e =
+items_take depth read laws (suc count) bytes is rest fits e =
     let a = bind_some (read bytes) _ (is, rest) e in
-    let b = bind_some (members_at read count a.0.1) _ (is, rest) a.2 in
+    let b = bind_some (items_at read count a.0.1) _ (is, rest) a.2 in
     let first = laws.takes bytes a.0.0 a.0.1 fits a.1 in
-    let others = members_take depth read laws count a.0.1 b.0.0 b.0.1 first.0.rest_fits b.1 in
+    let others = items_take depth read laws count a.0.1 b.0.0 b.0.1 first.0.rest_fits b.1 in
     let p = first.1 in
     let q = others.2 in
     subst (λ (x : Items × List ℕ). Takes bytes (items_text x.0) x.1 × (items_count x.0 ≡ suc count) × AreMembers depth x.0) (some_is (NextItem a.0.0 b.0.0, b.0.1) (is, rest) b.2) (
@@ -58,14 +59,14 @@ members_take depth read laws (suc count) bytes is rest fits e =
     )
 
 -- members that were written are read
-members_again : (depth : ℕ) (read : Reader) → Reads depth read → (is : Items) (rest : List ℕ) → AreMembers depth is → members_at read (items_count is) (items_text is ++ rest) ≡ Some (is, rest)
-unfolding members_at
-members_again depth read laws NoItems rest p = refl
-members_again depth read laws (NextItem i is) rest p =
+items_again : (depth : ℕ) (read : Reader) → Reads depth read → (is : Items) (rest : List ℕ) → AreMembers depth is → items_at read (items_count is) (items_text is ++ rest) ≡ Some (is, rest)
+unfolding items_at
+items_again depth read laws NoItems rest p = refl
+items_again depth read laws (NextItem i is) rest p =
     let n = p.nest in
     let first = laws.again i (items_text is ++ rest) (record { in_range = p.in_range.0; rising = p.rising.0; nests = omega arith }) in
-    let others = members_again depth read laws is rest (record { in_range = p.in_range.1; rising = p.rising.1; nest = omega arith }) in
-    ap (members_at read (suc (items_count is))) (append_assoc (text_of i) (items_text is) rest) ∙ rw (first, others) refl
+    let others = items_again depth read laws is rest (record { in_range = p.in_range.1; rising = p.rising.1; nest = omega arith }) in
+    ap (items_at read (suc (items_count is))) (append_assoc (text_of i) (items_text is) rest) ∙ rw (first, others) refl
 
 -- ---- entries
 
@@ -107,24 +108,24 @@ before_first_is k NoPairs h = tt
 before_first_is k (NextPair l w ps) h = h
 
 -- an entry that was read
-pub record TakesEntry (depth : ℕ) (before bytes : List ℕ) (key value : Item) (text rest : List ℕ) : Type 0 where
+pub record TakesPair (depth : ℕ) (before bytes : List ℕ) (key value : Item) (text rest : List ℕ) : Type 0 where
   pub taken : Takes bytes (text_of key ++ text_of value) rest
   pub key_fits : IsItem depth key
   pub value_fits : IsItem depth value
   pub text_is : text ≡ text_of key
   pub rises : slice_cmp nat_cmp before (text_of key) ≡ Less
 
-entry_takes : (depth : ℕ) (read : Reader) → Reads depth read → (before bytes : List ℕ) (key value : Item) (text rest : List ℕ) → IsBytes bytes → entry_at read before bytes ≡ Some (key, value, text, rest)
-    → TakesEntry depth before bytes key value text rest
-unfolding entry_at
-entry_takes depth read laws before bytes key value text rest fits e =
+pair_takes : (depth : ℕ) (read : Reader) → Reads depth read → (before bytes : List ℕ) (key value : Item) (text rest : List ℕ) → IsBytes bytes → pair_at read before bytes ≡ Some (key, value, text, rest)
+    → TakesPair depth before bytes key value text rest
+unfolding pair_at
+pair_takes depth read laws before bytes key value text rest fits e =
     let a = bind_some (read bytes) _ (key, value, text, rest) e in
     let g = guard-true (is_lt (slice_cmp nat_cmp before (front bytes a.0.1))) _ (key, value, text, rest) a.2 in
     let b = bind_some (read a.0.1) _ (key, value, text, rest) g.1 in
     let first = laws.takes bytes a.0.0 a.0.1 fits a.1 in
     let second = laws.takes a.0.1 b.0.0 b.0.1 first.0.rest_fits b.1 in
     let text-is = front_is bytes (text_of a.0.0) a.0.1 first.0 in
-    subst (λ (x : Item × Item × List ℕ × List ℕ). TakesEntry depth before bytes x.0 x.1 x.2 x.3) (some_is (a.0.0, b.0.0, front bytes a.0.1, b.0.1) (key, value, text, rest) b.2)
+    subst (λ (x : Item × Item × List ℕ × List ℕ). TakesPair depth before bytes x.0 x.1 x.2 x.3) (some_is (a.0.0, b.0.0, front bytes a.0.1, b.0.1) (key, value, text, rest) b.2)
     (record {
       taken = Takes-then bytes (text_of a.0.0) a.0.1 (text_of b.0.0) b.0.1 first.0 second.0;
       key_fits = first.1;
@@ -133,10 +134,10 @@ entry_takes depth read laws before bytes key value text rest fits e =
       rises = ap (slice_cmp nat_cmp before) (sym text-is) ∙ is_less _ g.0;
     })
 
-entry_again : (depth : ℕ) (read : Reader) → Reads depth read → (before : List ℕ) (key value : Item) (rest : List ℕ) → IsItem depth key → IsItem depth value → slice_cmp nat_cmp before (text_of key) ≡ Less
-    → entry_at read before (text_of key ++ (text_of value ++ rest)) ≡ Some (key, value, text_of key, rest)
-unfolding entry_at
-entry_again depth read laws before key value rest p q rises =
+pair_again : (depth : ℕ) (read : Reader) → Reads depth read → (before : List ℕ) (key value : Item) (rest : List ℕ) → IsItem depth key → IsItem depth value → slice_cmp nat_cmp before (text_of key) ≡ Less
+    → pair_at read before (text_of key ++ (text_of value ++ rest)) ≡ Some (key, value, text_of key, rest)
+unfolding pair_at
+pair_again depth read laws before key value rest p q rises =
     let first = laws.again key (text_of value ++ rest) p in
     let second = laws.again value rest q in
     let k = text_of key in
@@ -144,19 +145,19 @@ entry_again depth read laws before key value rest p q rises =
     let long : length (k ++ after) - length after ≡ length k = omega (arith, length-append k after) in
     rw (first, long, take_at k after (length k) refl, rises, second) refl
 
-entries_take : (depth : ℕ) (read : Reader) → Reads depth read → (before : List ℕ) (count : ℕ) (bytes : List ℕ) (ps : Pairs) (rest : List ℕ) → IsBytes bytes → entries_at read before count bytes ≡ Some (ps, rest)
+pairs_take : (depth : ℕ) (read : Reader) → Reads depth read → (before : List ℕ) (count : ℕ) (bytes : List ℕ) (ps : Pairs) (rest : List ℕ) → IsBytes bytes → pairs_at read before count bytes ≡ Some (ps, rest)
     → Takes bytes (pairs_text ps) rest × (pairs_count ps ≡ count) × AreEntries depth ps × IsBefore before ps
-unfolding entries_at
-entries_take depth read laws before zero bytes ps rest fits e =
+unfolding pairs_at
+pairs_take depth read laws before zero bytes ps rest fits e =
     subst (λ (x : Pairs × List ℕ). Takes bytes (pairs_text x.0) x.1 × (pairs_count x.0 ≡ 0) × AreEntries depth x.0 × IsBefore before x.0) (some_is (NoPairs, bytes) (ps, rest) e)
     (record { parts = refl; rest_fits = fits }, refl, record { in_range = tt; rising = tt; nest = omega arith }, tt)
-entries_take depth read laws before (suc count) bytes ps rest fits e =
-    let a = bind_some (entry_at read before bytes) _ (ps, rest) e in
-    let b = bind_some (entries_at read a.0.2 count a.0.3) _ (ps, rest) a.2 in
+pairs_take depth read laws before (suc count) bytes ps rest fits e =
+    let a = bind_some (pair_at read before bytes) _ (ps, rest) e in
+    let b = bind_some (pairs_at read a.0.2 count a.0.3) _ (ps, rest) a.2 in
     let k = a.0.0 in
     let v = a.0.1 in
-    let first = entry_takes depth read laws before bytes k v a.0.2 a.0.3 fits a.1 in
-    let others = entries_take depth read laws a.0.2 count a.0.3 b.0.0 b.0.1 first.taken.rest_fits b.1 in
+    let first = pair_takes depth read laws before bytes k v a.0.2 a.0.3 fits a.1 in
+    let others = pairs_take depth read laws a.0.2 count a.0.3 b.0.0 b.0.1 first.taken.rest_fits b.1 in
     let both = Takes-then bytes (text_of k ++ text_of v) a.0.3 (pairs_text b.0.0) b.0.1 first.taken others.0 in
     let p = first.key_fits in
     let q = first.value_fits in
@@ -172,15 +173,15 @@ entries_take depth read laws before (suc count) bytes ps rest fits e =
       first.rises,
     )
 
-entries_again : (depth : ℕ) (read : Reader) → Reads depth read → (before : List ℕ) (ps : Pairs) (rest : List ℕ) → AreEntries depth ps → IsBefore before ps → entries_at read before (pairs_count ps) (pairs_text ps ++ rest) ≡ Some (ps, rest)
-unfolding entries_at
-entries_again depth read laws before NoPairs rest p rises = refl
-entries_again depth read laws before (NextPair k v ps) rest p rises =
+pairs_again : (depth : ℕ) (read : Reader) → Reads depth read → (before : List ℕ) (ps : Pairs) (rest : List ℕ) → AreEntries depth ps → IsBefore before ps → pairs_at read before (pairs_count ps) (pairs_text ps ++ rest) ≡ Some (ps, rest)
+unfolding pairs_at
+pairs_again depth read laws before NoPairs rest p rises = refl
+pairs_again depth read laws before (NextPair k v ps) rest p rises =
     let n = p.nest in
-    let first = entry_again depth read laws before k v (pairs_text ps ++ rest) (record { in_range = p.in_range.0; rising = p.rising.0; nests = omega arith }) (record { in_range = p.in_range.1; rising = p.rising.1; nests = omega arith }) rises in
-    let others = entries_again depth read laws (text_of k) ps rest (record { in_range = p.in_range.2; rising = p.rising.3; nest = omega arith }) (before_first_is k ps p.rising.2) in
+    let first = pair_again depth read laws before k v (pairs_text ps ++ rest) (record { in_range = p.in_range.0; rising = p.rising.0; nests = omega arith }) (record { in_range = p.in_range.1; rising = p.rising.1; nests = omega arith }) rises in
+    let others = pairs_again depth read laws (text_of k) ps rest (record { in_range = p.in_range.2; rising = p.rising.3; nest = omega arith }) (before_first_is k ps p.rising.2) in
     let regrouped : pairs_text (NextPair k v ps) ++ rest ≡ text_of k ++ (text_of v ++ (pairs_text ps ++ rest)) = append_assoc (text_of k) (text_of v ++ pairs_text ps) rest ∙ ap (λ (t : List ℕ). text_of k ++ t) (append_assoc (text_of v) (pairs_text ps) rest) in
-    ap (entries_at read before (suc (pairs_count ps))) regrouped ∙ rw (first, others) refl
+    ap (pairs_at read before (suc (pairs_count ps))) regrouped ∙ rw (first, others) refl
 
 -- ---- items
 
@@ -194,34 +195,34 @@ nests_once (Map ps) = omega arith
 nests_once Null = omega arith
 
 -- an item that was read
-abbrev TakesItem : ℕ → List ℕ → Item × List ℕ → Type 0
-TakesItem depth bytes x = Takes bytes (text_of x.0) x.1 × IsItem depth x.0
+abbrev TakesNested : ℕ → List ℕ → Item × List ℕ → Type 0
+TakesNested depth bytes x = Takes bytes (text_of x.0) x.1 × IsItem depth x.0
 
-unsigned_takes : (bytes : List ℕ) (x : Item × List ℕ) → IsBytes bytes → (head_at 0 bytes >>= λ n. Some (Unsigned n.0, n.1)) ≡ Some x → TakesItem 1 bytes x
+unsigned_takes : (bytes : List ℕ) (x : Item × List ℕ) → IsBytes bytes → (head_at 0 bytes >>= λ n. Some (Unsigned n.0, n.1)) ≡ Some x → TakesNested 1 bytes x
 unsigned_takes bytes x fits e =
     let a = bind_some (head_at 0 bytes) _ x e in
     let t = head_takes 0 bytes a.0.0 a.0.1 fits a.1 in
-    subst (TakesItem 1 bytes) (some_is (Unsigned a.0.0, a.0.1) x a.2) (t.0, record { in_range = t.1; rising = tt; nests = omega arith })
+    subst (TakesNested 1 bytes) (some_is (Unsigned a.0.0, a.0.1) x a.2) (t.0, record { in_range = t.1; rising = tt; nests = omega arith })
 
-negative_takes : (bytes : List ℕ) (x : Item × List ℕ) → IsBytes bytes → (head_at 1 bytes >>= λ n. Some (Negative n.0, n.1)) ≡ Some x → TakesItem 1 bytes x
+negative_takes : (bytes : List ℕ) (x : Item × List ℕ) → IsBytes bytes → (head_at 1 bytes >>= λ n. Some (Negative n.0, n.1)) ≡ Some x → TakesNested 1 bytes x
 negative_takes bytes x fits e =
     let a = bind_some (head_at 1 bytes) _ x e in
     let t = head_takes 1 bytes a.0.0 a.0.1 fits a.1 in
-    subst (TakesItem 1 bytes) (some_is (Negative a.0.0, a.0.1) x a.2) (t.0, record { in_range = t.1; rising = tt; nests = omega arith })
+    subst (TakesNested 1 bytes) (some_is (Negative a.0.0, a.0.1) x a.2) (t.0, record { in_range = t.1; rising = tt; nests = omega arith })
 
-string_takes : (bytes : List ℕ) (x : Item × List ℕ) → IsBytes bytes → (bytes_at bytes >>= λ text. Some (Bytes text.0, text.1)) ≡ Some x → TakesItem 1 bytes x
+string_takes : (bytes : List ℕ) (x : Item × List ℕ) → IsBytes bytes → (bytes_at bytes >>= λ text. Some (Bytes text.0, text.1)) ≡ Some x → TakesNested 1 bytes x
 string_takes bytes x fits e =
     let a = bind_some (bytes_at bytes) _ x e in
     let t = bytes_takes bytes a.0.0 a.0.1 fits a.1 in
-    subst (TakesItem 1 bytes) (some_is (Bytes a.0.0, a.0.1) x a.2) (t.0, record { in_range = (t.1, AllByRecursion-bytes a.0.0 t.2); rising = tt; nests = omega arith })
+    subst (TakesNested 1 bytes) (some_is (Bytes a.0.0, a.0.1) x a.2) (t.0, record { in_range = (t.1, AllByRecursion-bytes a.0.0 t.2); rising = tt; nests = omega arith })
 
-nothing_takes : (bytes : List ℕ) (x : Item × List ℕ) → IsBytes bytes → (null_at bytes >>= λ rest. Some (Null, rest)) ≡ Some x → TakesItem 1 bytes x
+nothing_takes : (bytes : List ℕ) (x : Item × List ℕ) → IsBytes bytes → (null_at bytes >>= λ rest. Some (Null, rest)) ≡ Some x → TakesNested 1 bytes x
 nothing_takes bytes x fits e =
     let a = bind_some (null_at bytes) _ x e in
     let t = null_takes bytes a.0 fits a.1 in
-    subst (TakesItem 1 bytes) (some_is (Null, a.0) x a.2) (t, record { in_range = tt; rising = tt; nests = omega arith })
+    subst (TakesNested 1 bytes) (some_is (Null, a.0) x a.2) (t, record { in_range = tt; rising = tt; nests = omega arith })
 
-single_takes : (major : ℕ) (bytes : List ℕ) (x : Item × List ℕ) → IsBytes bytes → single_at major bytes ≡ Some x → TakesItem 1 bytes x
+single_takes : (major : ℕ) (bytes : List ℕ) (x : Item × List ℕ) → IsBytes bytes → single_at major bytes ≡ Some x → TakesNested 1 bytes x
 unfolding single_at
 single_takes major bytes x fits e =
     elim (chosen (eqb major 0) _ _ _ e) [
@@ -235,36 +236,36 @@ single_takes major bytes x fits e =
       ]
     ]
 
-array_takes : (depth : ℕ) (read : Reader) → Reads depth read → (bytes : List ℕ) (x : Item × List ℕ) → IsBytes bytes → array_at read bytes ≡ Some x → TakesItem (suc depth) bytes x
-unfolding array_at
+array_takes : (depth : ℕ) (read : Reader) → Reads depth read → (bytes : List ℕ) (x : Item × List ℕ) → IsBytes bytes → array_item_at read bytes ≡ Some x → TakesNested (suc depth) bytes x
+unfolding array_item_at
 array_takes depth read laws bytes x fits e =
     let a = bind_some (head_at 4 bytes) _ x e in
-    let b = bind_some (members_at read a.0.0 a.0.1) _ x a.2 in
+    let b = bind_some (items_at read a.0.0 a.0.1) _ x a.2 in
     let t = head_takes 4 bytes a.0.0 a.0.1 fits a.1 in
-    let m = members_take depth read laws a.0.0 a.0.1 b.0.0 b.0.1 t.0.rest_fits b.1 in
+    let m = items_take depth read laws a.0.0 a.0.1 b.0.0 b.0.1 t.0.rest_fits b.1 in
     let both = Takes-then bytes (head 4 a.0.0) a.0.1 (items_text b.0.0) b.0.1 t.0 m.0 in
     let p = m.2 in
-    subst (TakesItem (suc depth) bytes) (some_is (Array b.0.0, b.0.1) x b.2)
+    subst (TakesNested (suc depth) bytes) (some_is (Array b.0.0, b.0.1) x b.2)
     (subst (λ (k : ℕ). Takes bytes (head 4 k ++ items_text b.0.0) b.0.1) (sym m.1) both, record { in_range = (omega (arith, m.1, t.1), p.in_range); rising = p.rising; nests = omega (arith, p.nest) })
 
-map_takes : (depth : ℕ) (read : Reader) → Reads depth read → (bytes : List ℕ) (x : Item × List ℕ) → IsBytes bytes → map_at read bytes ≡ Some x → TakesItem (suc depth) bytes x
-unfolding map_at
+map_takes : (depth : ℕ) (read : Reader) → Reads depth read → (bytes : List ℕ) (x : Item × List ℕ) → IsBytes bytes → map_item_at read bytes ≡ Some x → TakesNested (suc depth) bytes x
+unfolding map_item_at
 map_takes depth read laws bytes x fits e =
     let a = bind_some (head_at 5 bytes) _ x e in
-    let b = bind_some (entries_at read [] a.0.0 a.0.1) _ x a.2 in
+    let b = bind_some (pairs_at read [] a.0.0 a.0.1) _ x a.2 in
     let t = head_takes 5 bytes a.0.0 a.0.1 fits a.1 in
-    let m = entries_take depth read laws [] a.0.0 a.0.1 b.0.0 b.0.1 t.0.rest_fits b.1 in
+    let m = pairs_take depth read laws [] a.0.0 a.0.1 b.0.0 b.0.1 t.0.rest_fits b.1 in
     let both = Takes-then bytes (head 5 a.0.0) a.0.1 (pairs_text b.0.0) b.0.1 t.0 m.0 in
     let p = m.2 in
-    subst (TakesItem (suc depth) bytes) (some_is (Map b.0.0, b.0.1) x b.2)
+    subst (TakesNested (suc depth) bytes) (some_is (Map b.0.0, b.0.1) x b.2)
     (subst (λ (k : ℕ). Takes bytes (head 5 k ++ pairs_text b.0.0) b.0.1) (sym m.1) both, record { in_range = (omega (arith, m.1, t.1), p.in_range); rising = p.rising; nests = omega (arith, p.nest) })
 
-deeper : (depth : ℕ) (bytes : List ℕ) (x : Item × List ℕ) → TakesItem 1 bytes x → TakesItem (suc depth) bytes x
+deeper : (depth : ℕ) (bytes : List ℕ) (x : Item × List ℕ) → TakesNested 1 bytes x → TakesNested (suc depth) bytes x
 deeper depth bytes x t =
     let p = t.1 in
     (t.0, record { in_range = p.in_range; rising = p.rising; nests = omega (arith, p.nests) })
 
-item_takes : (depth : ℕ) (read : Reader) → Reads depth read → (bytes : List ℕ) (x : Item × List ℕ) → IsBytes bytes → item_with read bytes ≡ Some x → TakesItem (suc depth) bytes x
+item_takes : (depth : ℕ) (read : Reader) → Reads depth read → (bytes : List ℕ) (x : Item × List ℕ) → IsBytes bytes → item_with read bytes ≡ Some x → TakesNested (suc depth) bytes x
 unfolding item_with item_of_major
 item_takes depth read laws [] x fits e = absurd cc
 item_takes depth read laws (first ∷ rest) x fits e =
@@ -286,7 +287,7 @@ of_major read major n (first ∷ more) rest e =
     ap (λ (m : ℕ). item_of_major read m (first ∷ more)) (eqb-true _ _ g.0)
 
 item_again : (depth : ℕ) (read : Reader) → Reads depth read → (item : Item) (rest : List ℕ) → IsItem (suc depth) item → item_with read (text_of item ++ rest) ≡ Some (item, rest)
-unfolding item_of_major single_at array_at map_at
+unfolding item_of_major single_at array_item_at map_item_at
 item_again depth read laws (Unsigned n) rest p =
     let h = head_again 0 n rest p.in_range in
     of_major read 0 n (head 0 n ++ rest) rest h ∙ rw h refl
@@ -301,13 +302,13 @@ item_again depth read laws (Array is) rest p =
     let n = p.nests in
     let count = items_count is in
     let h = head_again 4 count (items_text is ++ rest) p.in_range.0 in
-    let m = members_again depth read laws is rest (record { in_range = p.in_range.1; rising = p.rising; nest = omega arith }) in
+    let m = items_again depth read laws is rest (record { in_range = p.in_range.1; rising = p.rising; nest = omega arith }) in
     ap (item_with read) (append_assoc (head 4 count) (items_text is) rest) ∙ of_major read 4 count (head 4 count ++ (items_text is ++ rest)) (items_text is ++ rest) h ∙ rw (h, m) refl
 item_again depth read laws (Map ps) rest p =
     let n = p.nests in
     let count = pairs_count ps in
     let h = head_again 5 count (pairs_text ps ++ rest) p.in_range.0 in
-    let m = entries_again depth read laws [] ps rest (record { in_range = p.in_range.1; rising = p.rising; nest = omega arith }) (nothing_before ps p.in_range.1) in
+    let m = pairs_again depth read laws [] ps rest (record { in_range = p.in_range.1; rising = p.rising; nest = omega arith }) (nothing_before ps p.in_range.1) in
     ap (item_with read) (append_assoc (head 5 count) (pairs_text ps) rest) ∙ of_major read 5 count (head 5 count ++ (pairs_text ps ++ rest)) (pairs_text ps ++ rest) h ∙ rw (h, m) refl
 item_again depth read laws Null rest p =
     let h = head_again 7 22 rest (omega arith) in

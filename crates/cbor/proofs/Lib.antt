@@ -6,3 +6,9 @@ pub mod TreeLoops
 pub mod TreeClauses
 pub mod TreeWrites
 pub mod TreeCopies
+pub mod ShapeLaws
+pub mod ListLaws
+pub mod FieldLaws
+pub mod ListLoops
+pub mod ShapeWrites
+pub mod ForCallers

@@ -5,7 +5,9 @@ use Rattle.model.specs.Cbor.{Item, text_of, HasText, Spells}
 use Rattle.model.proofs.ItemTexts.{items_apart}
 use Rattle.cbor.specs.declared.fault.CborFault.{CborFault}
 use Rattle.cbor.specs.declared.fault.CborFault.TheVariants as faults
-use Rattle.cbor.specs.ItemReading.{item_at, front, Refuses, IfMalformed}
+use Rattle.cbor.specs.ItemReading.{item_at}
+use Rattle.cbor.specs.Gives.{Refuses, IfMalformed}
+use Rattle.cbor.specs.Reading.{front}
 use Rattle.cbor.proofs.Steps.{IsBytes}
 use Rattle.cbor.proofs.ItemLaws.{IsItem, front_is, item_reads}
 

@@ -4,10 +4,10 @@ use Rattle.cbor.specs.declared.major.Major.{Major}
 use Rattle.cbor.specs.declared.major.Major.TheVariants.{Unsigned, Negative, Bytes, Array, Map, Simple}
 
 -- the number of a major type
-abbrev pub number_of : Major → ℕ
-number_of Unsigned = 0
-number_of Negative = 1
-number_of Bytes = 2
-number_of Array = 4
-number_of Map = 5
-number_of Simple = 7
+abbrev pub major_number : Major → ℕ
+major_number Unsigned = 0
+major_number Negative = 1
+major_number Bytes = 2
+major_number Array = 4
+major_number Map = 5
+major_number Simple = 7

@@ -1,6 +1,7 @@
 -- Reading the parts of deterministic CBOR (RFC 8949, 3 and 4.2.1) from left to right: a reading gives the
 -- value that stands first and the bytes after it, or None where no such part stands there.
-use Rattle.std.specs.Prelude.{ℕ, Bool, true, false, ◌/◌, ◌%◌, List, [], ◌∷◌, length, take, drop, Option, Some, None, nat_lt, ◌==◌, if◌then◌else◌}
+use Rattle.std.specs.Prelude.{ℕ, Bool, true, false, ◌/◌, ◌%◌, ◌-◌, List, [], ◌∷◌, length, take, drop, Option, Some}
+use Rattle.std.specs.Prelude.{None, nat_lt, ◌==◌, if◌then◌else◌}
 use Rattle.std.specs.Int.{Width, w8, w16, w32, w64, byte_len, from_be_bytes}
 
 infixl 10 ◌>>=◌
@@ -13,6 +14,10 @@ None >>= f = None
 abbrev pub guard : Bool → Option (Unit {0})
 guard true = Some tt
 guard false = None
+
+-- the bytes that were read, where these are left
+abbrev pub front : List ℕ → List ℕ → List ℕ
+front bytes rest = take (length bytes - length rest) bytes
 
 -- the number in as many bytes as its width has, the highest first
 abbrev pub number_at : Width → List ℕ → Option (ℕ × List ℕ)

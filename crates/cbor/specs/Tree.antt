@@ -6,20 +6,20 @@ use Rattle.cbor.specs.declared.item.Item.TheVariants.{Unsigned, Negative, Bytes,
 use Rattle.cbor.specs.declared.item.Entry.{Entry}
 
 -- the item that the program's stands for
-abbrev pub told_item : Item → cbor.Item
-told_item (Unsigned n) = cbor.Unsigned n
-told_item (Negative n) = cbor.Negative n
-told_item (Bytes bytes) = cbor.Bytes bytes.items
-told_item (Array members) = cbor.Array members
-told_item (Map entries) = cbor.Map entries
-told_item Null = cbor.Null
+abbrev pub item_of : Item → cbor.Item
+item_of (Unsigned n) = cbor.Unsigned n
+item_of (Negative n) = cbor.Negative n
+item_of (Bytes bytes) = cbor.Bytes bytes.items
+item_of (Array members) = cbor.Array members
+item_of (Map entries) = cbor.Map entries
+item_of Null = cbor.Null
 
 -- members of an array
-abbrev pub told_members : List Item → cbor.Items
-told_members [] = cbor.NoItems
-told_members (i ∷ is) = cbor.NextItem (told_item i) (told_members is)
+abbrev pub members_of : List Item → cbor.Items
+members_of [] = cbor.NoItems
+members_of (i ∷ is) = cbor.NextItem (item_of i) (members_of is)
 
 -- entries of a map
-abbrev pub told_entries : List Entry → cbor.Pairs
-told_entries [] = cbor.NoPairs
-told_entries (e ∷ es) = cbor.NextPair (told_item e.key) (told_item e.value) (told_entries es)
+abbrev pub entries_of : List Entry → cbor.Pairs
+entries_of [] = cbor.NoPairs
+entries_of (e ∷ es) = cbor.NextPair (item_of e.key) (item_of e.value) (entries_of es)

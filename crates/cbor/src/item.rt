@@ -1,7 +1,7 @@
 //! Items as a tree (RFC 8949, section 3.1).
 
 ghost use Rattle.std.specs.Prelude.{◌≡◌};
-ghost use Rattle.cbor.specs.Tree.{told_members, told_entries};
+ghost use Rattle.cbor.specs.Tree.{members_of, entries_of};
 
 use std::marker::Model;
 
@@ -49,9 +49,9 @@ impl Model for Items {
 
     ghost coded = { coded_items };
 
-    ghost use Rattle.cbor.specs.Tree.{told_members};
+    ghost use Rattle.cbor.specs.Tree.{members_of};
 
-    ghost view = { λ a. told_members a.members.items };
+    ghost view = { λ a. members_of a.members.items };
 
     ghost size = { cbor.items_nesting };
 
@@ -68,9 +68,9 @@ impl Model for Entries {
 
     ghost coded = { coded_pairs };
 
-    ghost use Rattle.cbor.specs.Tree.{told_entries};
+    ghost use Rattle.cbor.specs.Tree.{entries_of};
 
-    ghost view = { λ a. told_entries a.entries.items };
+    ghost view = { λ a. entries_of a.entries.items };
 
     ghost size = { cbor.pairs_nesting };
 
@@ -80,32 +80,35 @@ impl Model for Entries {
 }
 
 impl Items {
-    /// The array of these members.
+    /// The array of these members, which may nest to any depth. To drop, to show, to copy and to write an item recurses
+    /// down its nesting, so that a very deep one may run out of stack. Only items that nest at most 64 deep have a
+    /// text: what is read never nests deeper.
     pub fn from_vec(members: Vec<Item>) -> Items
-        ensures { result ≡ told_members members.items }
+        ensures { result ≡ members_of members.items }
     {
         Items { members }
     }
 
     /// The members, in order.
     pub fn as_slice(&self) -> &[Item]
-        ensures { told_members result.now ≡ self.now }
+        ensures { members_of result.now ≡ self.now }
     {
         &self.members
     }
 }
 
 impl Entries {
-    /// The map of these entries.
+    /// The map of these entries, in this order, whether their keys rise or not. It may nest to any depth, as
+    /// [`Items::from_vec`] says.
     pub fn from_vec(entries: Vec<Entry>) -> Entries
-        ensures { result ≡ told_entries entries.items }
+        ensures { result ≡ entries_of entries.items }
     {
         Entries { entries }
     }
 
     /// The entries, in order.
     pub fn as_slice(&self) -> &[Entry]
-        ensures { told_entries result.now ≡ self.now }
+        ensures { entries_of result.now ≡ self.now }
     {
         &self.entries
     }

@@ -7,6 +7,7 @@ mod fault;
 mod item;
 mod major;
 mod reader;
+mod shapes;
 mod tree_clone;
 mod tree_reader;
 mod tree_writer;
@@ -15,12 +16,18 @@ mod writer;
 pub use fault::CborFault;
 pub use item::{Entries, Entry, Item, Items};
 pub use reader::{array, byte_string, fixed, map, negative, null, unsigned};
+pub use shapes::{
+    Decode, DecodeEntry, bounded, entries, entries_of_map, list, list_array, members, nonempty_map,
+    rising, short,
+};
 pub use tree_reader::{decode, read};
 pub use tree_writer::encode;
 pub use writer::{
     write_array, write_byte_string, write_map, write_negative, write_null, write_unsigned,
 };
 
+#[cfg(test)]
+mod shapes_tests;
 #[cfg(test)]
 mod tests;
 #[cfg(test)]

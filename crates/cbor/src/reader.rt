@@ -5,7 +5,7 @@
 ghost use Rattle.std.specs.Prelude.{◌≡◌, ℕ, ◌<◌, ◌^◌, List, ◌++◌, length, option_map, IfSome, IfNone};
 ghost use Rattle.model.specs.Cbor as cbor;
 ghost use Rattle.cbor.specs.Reading.{head_at, bytes_at, fixed_at, null_at};
-ghost use Rattle.cbor.specs.Major.{number_of};
+ghost use Rattle.cbor.specs.Major.{major_number};
 
 use crate::argument::argument;
 use crate::major::{Major, NULL};
@@ -13,9 +13,10 @@ use crate::major::{Major, NULL};
 /// The argument of a head of this major type.
 #[tactic(auto, unfolding(crate::specs::Reading::head_at))]
 fn head(bytes: &[u8], major: Major) -> Option<(u64, &[u8])>
-    ensures exact { option_map (λ x. (x.0, x.1.now)) result ≡ head_at (number_of major) bytes.now }
-    ensures found { IfSome result (λ x. bytes.now ≡ cbor.head (number_of major) x.0 ++ x.1.now) }
-    ensures none { IfNone result ((n : ℕ) (rest : List ℕ) → n < 2 ^ 64 → bytes.now ≡ cbor.head (number_of major) n ++ rest → ⊥) }
+    ensures exact { option_map (λ x. (x.0, x.1.now)) result ≡ head_at (major_number major) bytes.now }
+    ensures found { IfSome result (λ x. bytes.now ≡ cbor.head (major_number major) x.0 ++ x.1.now) }
+    ensures none { IfNone result ((n : ℕ) (rest : List ℕ) → n < 2 ^ 64 →
+        bytes.now ≡ cbor.head (major_number major) n ++ rest → ⊥) }
 {
     let (first, rest) = bytes.split_first()?;
     if first / 32 != major as u8 {
@@ -67,7 +68,8 @@ pub fn byte_string(bytes: &[u8]) -> Option<(&[u8], &[u8])>
 pub fn fixed<const N: usize>(bytes: &[u8]) -> Option<([u8; N], &[u8])>
     ensures exact { option_map (λ x. (x.0, x.1.now)) result ≡ fixed_at N bytes.now }
     ensures found { IfSome result (λ x. bytes.now ≡ cbor.head 2 N ++ x.0 ++ x.1.now) }
-    ensures none { IfNone result ((text rest : List ℕ) → length text ≡ N → bytes.now ≡ cbor.head 2 N ++ text ++ rest → ⊥) }
+    ensures none { IfNone result ((text rest : List ℕ) → length text ≡ N → bytes.now ≡ cbor.head 2 N ++ text ++ rest →
+        ⊥) }
 {
     let (text, rest) = byte_string(bytes)?;
     let text = <[u8; N]>::try_from(text).ok()?;

@@ -1,14 +1,14 @@
 //! Copies of items with all that is in them.
 
 ghost use Rattle.std.specs.Prelude.{◌≡◌, IfOk};
-ghost use Rattle.cbor.specs.Tree.{told_item, told_members, told_entries};
+ghost use Rattle.cbor.specs.Tree.{item_of, members_of, entries_of};
 
 use crate::item::{Entries, Entry, Item, Items};
 use std::alloc::{AllocError, Global};
 
 #[cycle(cloning)]
 fn clone_members(alloc: Global, members: &[Item]) -> Result<Items, AllocError>
-    ensures { IfOk result (λ copies. copies ≡ told_members members.now) }
+    ensures { IfOk result (λ copies. copies ≡ members_of members.now) }
 {
     let mut copies = Vec::new(alloc);
     for member in members {
@@ -19,7 +19,7 @@ fn clone_members(alloc: Global, members: &[Item]) -> Result<Items, AllocError>
 
 #[cycle(cloning)]
 fn clone_entries(alloc: Global, entries: &[Entry]) -> Result<Entries, AllocError>
-    ensures { IfOk result (λ copies. copies ≡ told_entries entries.now) }
+    ensures { IfOk result (λ copies. copies ≡ entries_of entries.now) }
 {
     let mut copies = Vec::new(alloc);
     for entry in entries {
@@ -32,7 +32,7 @@ fn clone_entries(alloc: Global, entries: &[Entry]) -> Result<Entries, AllocError
 
 #[cycle(cloning)]
 fn clone_item(alloc: Global, item: &Item) -> Result<Item, AllocError>
-    ensures { IfOk result (λ copy. told_item copy ≡ told_item item.now) }
+    ensures { IfOk result (λ copy. item_of copy ≡ item_of item.now) }
 {
     match item {
         Item::Unsigned(n) => Ok(Item::Unsigned(*n)),
@@ -47,7 +47,7 @@ fn clone_item(alloc: Global, item: &Item) -> Result<Item, AllocError>
 impl Item {
     /// The same item once more. Err where memory runs out.
     pub fn try_clone(&self, alloc: Global) -> Result<Item, AllocError>
-        ensures { IfOk result (λ copy. told_item copy ≡ told_item self.now) }
+        ensures { IfOk result (λ copy. item_of copy ≡ item_of self.now) }
     {
         clone_item(alloc, self)
     }

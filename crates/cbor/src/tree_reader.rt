@@ -4,8 +4,9 @@
 ghost use Rattle.std.specs.Prelude.{◌≡◌, ℕ, ◌≤◌, [], length, take, IfOk, IfErr};
 ghost use Rattle.model.specs.Cbor as cbor;
 ghost use Rattle.model.specs.Cbor.{Spells};
-ghost use Rattle.cbor.specs.Tree.{told_item};
-ghost use Rattle.cbor.specs.ItemReading.{Gives, IfMalformed, single_at, item_at, members_at, entry_at, entries_at, array_at, map_at};
+ghost use Rattle.cbor.specs.Tree.{item_of};
+ghost use Rattle.cbor.specs.ItemReading.{single_at, item_at, items_at, pair_at, pairs_at, array_item_at, map_item_at};
+ghost use Rattle.cbor.specs.Gives.{Gives, IfMalformed};
 
 use crate::fault::CborFault;
 use crate::item::{Entries, Entry, Item, Items};
@@ -15,7 +16,7 @@ use std::alloc::Global;
 /// An item that is no array and no map.
 #[tactic(auto, unfolding(crate::specs::ItemReading::single_at))]
 fn single(alloc: Global, major: u8, bytes: &[u8]) -> Result<(Item, &[u8]), CborFault>
-    ensures { Gives (λ x. (told_item x.0, x.1.now)) result (single_at major bytes.now) }
+    ensures { Gives (λ x. (item_of x.0, x.1.now)) result (single_at major bytes.now) }
 {
     match major {
         0 => {
@@ -45,7 +46,7 @@ fn members(
     count: u64,
     bytes: &[u8],
 ) -> Result<(Items, &[u8]), CborFault>
-    ensures { Gives (λ x. (x.0, x.1.now)) result (members_at (item_at depth) count bytes.now) }
+    ensures { Gives (λ x. (x.0, x.1.now)) result (items_at (item_at depth) count bytes.now) }
 {
     let mut members = Vec::new(alloc);
     let mut rest = bytes;
@@ -59,14 +60,15 @@ fn members(
 
 /// An entry whose key stands after the one with this text, and the text of its own key.
 #[cycle(reading)]
-#[tactic(auto, unfolding(crate::specs::ItemReading::entry_at))]
+#[tactic(auto, unfolding(crate::specs::ItemReading::pair_at))]
 fn entry<'a>(
     alloc: Global,
     depth: usize,
     before: &[u8],
     bytes: &'a [u8],
 ) -> Result<(Entry, &'a [u8], &'a [u8]), CborFault>
-    ensures { Gives (λ x. (told_item x.0.key, told_item x.0.value, x.1.now, x.2.now)) result (entry_at (item_at depth) before.now bytes.now) }
+    ensures { Gives (λ x. (item_of x.0.key, item_of x.0.value, x.1.now, x.2.now)) result
+        (pair_at (item_at depth) before.now bytes.now) }
 {
     let (key, after_key) = item(alloc, depth, bytes)?;
     let text = &bytes[..bytes.len() - after_key.len()];
@@ -85,7 +87,7 @@ fn entries(
     count: u64,
     bytes: &[u8],
 ) -> Result<(Entries, &[u8]), CborFault>
-    ensures { Gives (λ x. (x.0, x.1.now)) result (entries_at (item_at depth) [] count bytes.now) }
+    ensures { Gives (λ x. (x.0, x.1.now)) result (pairs_at (item_at depth) [] count bytes.now) }
 {
     let mut entries = Vec::new(alloc);
     let mut before = &bytes[..0];
@@ -101,9 +103,9 @@ fn entries(
 
 /// An array, whose members nest at most so deep.
 #[cycle(reading)]
-#[tactic(auto, unfolding(crate::specs::ItemReading::array_at))]
+#[tactic(auto, unfolding(crate::specs::ItemReading::array_item_at))]
 fn array(alloc: Global, depth: usize, bytes: &[u8]) -> Result<(Item, &[u8]), CborFault>
-    ensures { Gives (λ x. (told_item x.0, x.1.now)) result (array_at (item_at depth) bytes.now) }
+    ensures { Gives (λ x. (item_of x.0, x.1.now)) result (array_item_at (item_at depth) bytes.now) }
 {
     let (count, rest) = reader::array(bytes).ok_or(CborFault::Malformed)?;
     let (members, rest) = members(alloc, depth, count, rest)?;
@@ -112,9 +114,9 @@ fn array(alloc: Global, depth: usize, bytes: &[u8]) -> Result<(Item, &[u8]), Cbo
 
 /// A map, whose keys and values nest at most so deep.
 #[cycle(reading)]
-#[tactic(auto, unfolding(crate::specs::ItemReading::map_at))]
+#[tactic(auto, unfolding(crate::specs::ItemReading::map_item_at))]
 fn map(alloc: Global, depth: usize, bytes: &[u8]) -> Result<(Item, &[u8]), CborFault>
-    ensures { Gives (λ x. (told_item x.0, x.1.now)) result (map_at (item_at depth) bytes.now) }
+    ensures { Gives (λ x. (item_of x.0, x.1.now)) result (map_item_at (item_at depth) bytes.now) }
 {
     let (count, rest) = reader::map(bytes).ok_or(CborFault::Malformed)?;
     let (entries, rest) = entries(alloc, depth, count, rest)?;
@@ -125,7 +127,7 @@ fn map(alloc: Global, depth: usize, bytes: &[u8]) -> Result<(Item, &[u8]), CborF
 #[cycle(reading)]
 #[tactic(auto, unfolding(crate::specs::ItemReading::item_at, crate::specs::ItemReading::item_with, crate::specs::ItemReading::item_of_major))]
 fn item(alloc: Global, depth: usize, bytes: &[u8]) -> Result<(Item, &[u8]), CborFault>
-    ensures { Gives (λ x. (told_item x.0, x.1.now)) result (item_at depth bytes.now) }
+    ensures { Gives (λ x. (item_of x.0, x.1.now)) result (item_at depth bytes.now) }
 {
     if depth == 0 {
         return Err(CborFault::Malformed);
@@ -142,19 +144,27 @@ fn item(alloc: Global, depth: usize, bytes: &[u8]) -> Result<(Item, &[u8]), Cbor
 const MAX_NESTING: usize = 64;
 
 /// The item whose text the bytes begin with, and how many bytes that text has (RFC 8949, section 4.2.1).
-/// Malformed where the bytes begin with no item's text; what follows the text is not looked at.
+/// Malformed where the bytes begin with no item's text, OutOfMemory as [`decode`]; what follows the text is not
+/// looked at. Linear in the bytes of the text.
 pub fn read(alloc: Global, bytes: &[u8]) -> Result<(Item, usize), CborFault>
-    ensures found { IfOk result (λ x. (x.1 ≤ length bytes.now) × Spells (told_item x.0) (take x.1 bytes.now)) }
-    ensures malformed { IfErr result (λ fault. IfMalformed fault ((item : cbor.Item) (n : ℕ) → Spells item (take n bytes.now) → ⊥)) }
+    ensures found { IfOk result (λ x. (x.1 ≤ length bytes.now) × Spells (item_of x.0) (take x.1 bytes.now)) }
+    ensures malformed { IfErr result (λ fault. IfMalformed fault ((item : cbor.Item) (n : ℕ) →
+        Spells item (take n bytes.now) → ⊥)) }
 {
     let (item, rest) = item(alloc, MAX_NESTING, bytes)?;
     Ok((item, bytes.len() - rest.len()))
 }
 
 /// The item whose text the bytes are, all of them (RFC 8949, section 4.2.1). Malformed where the bytes are
-/// no item's text.
+/// no item's text, OutOfMemory where memory ran out before that was known: the tree grows as it is read. Linear in the
+/// bytes.
+///
+/// ```text
+/// let item = cbor::decode(alloc, b"\x82\x01\xf6")?; // the array of 1 and null
+/// assert_eq!(cbor::encode(alloc, &item)?.as_slice(), b"\x82\x01\xf6");
+/// ```
 pub fn decode(alloc: Global, bytes: &[u8]) -> Result<Item, CborFault>
-    ensures found { IfOk result (λ item. Spells (told_item item) bytes.now) }
+    ensures found { IfOk result (λ item. Spells (item_of item) bytes.now) }
     ensures malformed { IfErr result (λ fault. IfMalformed fault ((item : cbor.Item) → Spells item bytes.now → ⊥)) }
 {
     let (item, length) = read(alloc, bytes)?;

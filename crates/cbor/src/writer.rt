@@ -4,7 +4,7 @@
 
 ghost use Rattle.std.specs.Prelude.{◌≡◌, ◌<◌, ◌≤◌, ◌+◌, ◌++◌, length, OnOk, OnErr, vec_len, vec_capacity};
 ghost use Rattle.model.specs.Cbor as cbor;
-ghost use Rattle.cbor.specs.Major.{number_of};
+ghost use Rattle.cbor.specs.Major.{major_number};
 
 use crate::major::{Major, NULL};
 use std::alloc::AllocError;
@@ -12,9 +12,9 @@ use std::alloc::AllocError;
 /// The head of this major type with the argument `n`.
 #[tactic(auto, unfolding(model::specs::Cbor::head))]
 fn write_head(out: &mut Vec<u8>, major: Major, n: u64) -> Result<(), AllocError>
-    ensures ok { OnOk result (out.new.items ≡ out.old.items ++ cbor.head (number_of major) n) }
+    ensures ok { OnOk result (out.new.items ≡ out.old.items ++ cbor.head (major_number major) n) }
     ensures err { OnErr result (out.new.items ≡ out.old.items) }
-    ensures full { OnErr result (vec_capacity out.old < vec_len out.old + length (cbor.head (number_of major) n)) }
+    ensures full { OnErr result (vec_capacity out.old < vec_len out.old + length (cbor.head (major_number major) n)) }
     ensures capacity { vec_capacity out.old ≤ vec_capacity out.new }
 {
     let first = 32 * major as u8;
@@ -58,7 +58,8 @@ pub fn write_negative(out: &mut Vec<u8>, n: u64) -> Result<(), AllocError>
 pub fn write_byte_string(out: &mut Vec<u8>, bytes: &[u8]) -> Result<(), AllocError>
     ensures ok { OnOk result (out.new.items ≡ out.old.items ++ (cbor.head 2 (length bytes.now) ++ bytes.now)) }
     ensures err { OnErr result (out.new.items ≡ out.old.items) }
-    ensures full { OnErr result (vec_capacity out.old < vec_len out.old + length (cbor.head 2 (length bytes.now) ++ bytes.now)) }
+    ensures full { OnErr result (vec_capacity out.old < vec_len out.old + length (cbor.head 2 (length bytes.now) ++
+        bytes.now)) }
     ensures capacity { vec_capacity out.old ≤ vec_capacity out.new }
 {
     let start = out.len();

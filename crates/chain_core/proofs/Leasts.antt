@@ -12,7 +12,7 @@ use Rattle.model.specs.Block.{Block}
 use Rattle.model.specs.Chain.{tip_hash}
 use Rattle.model.proofs.Lists.{all_from_members, nothing_contained}
 use Rattle.chain_core.specs.Forks.{IsLeast}
-use Rattle.chain_core.specs.ForksView.{forks_of}
+use Rattle.chain_core.specs.Forks.{forks_of}
 
 -- no fork that was taken out ends in a lesser hash than the least so far
 pub record LeastSoFar (all rest : List (List Block)) (least : List Block) : Type 0 where

@@ -192,6 +192,13 @@ pub refused_step : (genesis : Genesis) (kept chain : List Block) (bytes : List �
 refused_step genesis kept chain bytes refusal followers s refused stands =
     (s, (subst (λ (u : State). IsRefused genesis u bytes refusal) (as_state genesis kept chain followers s stands) (refused_over genesis chain kept s.kept bytes refusal [] followers (same_live_of genesis kept chain followers s stands) refused), refl), stands)
 
+-- where no refusal applies to one state, none does to another with the same live blocks
+pub none_over : (genesis : Genesis) (kept chain : List Block) (bytes : List ℕ) (followers : Followers) → ((r : Refusal) → Applies genesis (state kept chain) bytes r → ⊥)
+    → (s : State) → Stands (held_of genesis kept chain followers) s → (r : Refusal) → Applies genesis s bytes r → ⊥
+none_over genesis kept chain bytes followers none s stands r applies =
+    let here : Applies genesis (state_with s.kept chain followers) bytes r = subst (λ (u : State). Applies genesis u bytes r) (sym (as_state genesis kept chain followers s stands)) applies in
+    none r (applies_over genesis chain s.kept kept bytes r followers [] (same_live_back genesis chain kept s.kept (same_live_of genesis kept chain followers s stands)) here)
+
 -- a block that is kept is kept by each state
 pub kept_step_of : (genesis : Genesis) (kept chain : List Block) (b : Block) (bytes : List ℕ) (new : List Block) (back added : ℕ) (followers : Followers) (s : State) → IsSound genesis kept chain
     → IsReadAs b bytes → ((refusal : Refusal) → Applies genesis (state kept chain) bytes refusal → ⊥)

@@ -2,7 +2,7 @@
 use Rattle.std.proofs.Common.{◌≡◌, suc, ◌-◌, List, [], ◌∷◌, length, Some, None, ap, ◌∙◌, arith}
 use Rattle.std.specs.Prelude.{slice_get, unwrap_or, replicate}
 use Rattle.model.specs.Block.{Block, block_hash_of}
-use Rattle.model.specs.Chain.{Tip, tip_at, tip_after, tip_hash, genesis_tip, point_of}
+use Rattle.model.specs.Chain.{Tip, tip_at, tip_after, tip_hash, genesis_tip, tip_point}
 
 some_same : {X : Type 0} (x y : X) → Some x ≡ Some y → x ≡ y
 some_same x y e = cc
@@ -19,5 +19,5 @@ pub tip_hash_of_last : (bs : List Block) (b : Block) → slice_get bs (length bs
 tip_hash_of_last bs b last = ap (λ (t : Tip). unwrap_or t.hash []) (tip_of_last genesis_tip bs b last)
 
 -- the point of a chain's last block
-pub point_of_last : (bs : List Block) (b : Block) → slice_get bs (length bs - 1) ≡ Some b → point_of bs ≡ record { number = b.header.number; hash = block_hash_of b }
+pub point_of_last : (bs : List Block) (b : Block) → slice_get bs (length bs - 1) ≡ Some b → tip_point bs ≡ record { number = b.header.number; hash = block_hash_of b }
 point_of_last bs b last = ap (λ (t : Tip). record { number = t.number; hash = unwrap_or t.hash (replicate 32 0) }) (tip_of_last genesis_tip bs b last)

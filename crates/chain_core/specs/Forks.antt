@@ -1,11 +1,13 @@
 -- The plain search: forks from the immutable tip, all of one length at a time.
-use Rattle.std.specs.Prelude.{◌≡◌, ◌≢◌, ℕ, ◌≤◌, List, [], ◌∷◌, ◌++◌, length, Contains}
+use Rattle.std.specs.Prelude.{◌≡◌, ◌≢◌, ℕ, ◌≤◌, List, [], ◌∷◌, ◌++◌, length, map, Contains}
 use Rattle.std.specs.List.{AllByRecursion}
+use Rattle.std.specs.Global.{Vec}
 use Rattle.std.specs.Ordering.{nat_cmp}
 use Rattle.std.specs.declared.cmp.Ordering.TheVariants.{Greater}
 use Rattle.std.specs.Cmp.Lexicographic.{slice_cmp}
 use Rattle.model.specs.Block.{Block, body_size_of}
-use Rattle.model.specs.Chain.{Genesis, Tip, tip_at, tip_after, genesis_tip, tip_hash, Follows, immutable_part, IsSelection, live_blocks}
+use Rattle.model.specs.Chain.{Genesis, Tip, tip_at, tip_after, genesis_tip, tip_hash, Follows, immutable_part}
+use Rattle.model.specs.Chain.{IsSelection, live_blocks}
 
 -- the block may come behind the tip, its body fits, and there is a ledger after it
 pub record GoesOn (genesis : Genesis) (tip : Tip) (b : Block) : Type 0 where
@@ -19,7 +21,8 @@ IsFork genesis kept tip [] = Unit {0}
 IsFork genesis kept tip (b ∷ bs) = GoesOn genesis tip b × Contains kept b × IsFork genesis kept (tip_at b) bs
 
 -- all forks of one length
-pub record AreForks (genesis : Genesis) (kept : List Block) (tip : Tip) (n : ℕ) (forks : List (List Block)) : Type 0 where
+pub record AreForks (genesis : Genesis) (kept : List Block) (tip : Tip) (n : ℕ)
+    (forks : List (List Block)) : Type 0 where
   pub sound : AllByRecursion (λ fork. IsFork genesis kept tip fork × (length fork ≡ n)) forks
   pub complete : (fork : List Block) → IsFork genesis kept tip fork → length fork ≡ n → Contains forks fork
 
@@ -31,17 +34,23 @@ pub record IsOneLonger (genesis : Genesis) (kept : List Block) (tip : Tip) (fork
   pub is : longer ≡ fork ++ block ∷ []
 
 -- all that one of these blocks makes of the fork
-pub record AreOneLonger (genesis : Genesis) (kept : List Block) (tip : Tip) (fork : List Block) (longer : List (List Block)) : Type 0 where
+pub record AreOneLonger (genesis : Genesis) (kept : List Block) (tip : Tip) (fork : List Block)
+    (longer : List (List Block)) : Type 0 where
   pub sound : AllByRecursion (IsOneLonger genesis kept tip fork) longer
-  pub complete : (b : Block) → GoesOn genesis (tip_after tip fork) b → Contains kept b → Contains longer (fork ++ b ∷ [])
+  pub complete : (b : Block) → GoesOn genesis (tip_after tip fork) b → Contains kept b
+      → Contains longer (fork ++ b ∷ [])
 
 -- all that one of these blocks makes of the forks
-pub record AreGrown (genesis : Genesis) (kept : List Block) (tip : Tip) (forks longer : List (List Block)) : Type 0 where
-  pub sound : AllByRecursion (λ new. (fork : List Block) × Contains forks fork × IsOneLonger genesis kept tip fork new) longer
-  pub complete : (fork : List Block) (b : Block) → Contains forks fork → GoesOn genesis (tip_after tip fork) b → Contains kept b → Contains longer (fork ++ b ∷ [])
+pub record AreGrown (genesis : Genesis) (kept : List Block) (tip : Tip)
+    (forks longer : List (List Block)) : Type 0 where
+  pub sound : AllByRecursion (λ new. (fork : List Block) × Contains forks fork
+      × IsOneLonger genesis kept tip fork new) longer
+  pub complete : (fork : List Block) (b : Block) → Contains forks fork → GoesOn genesis (tip_after tip fork) b
+      → Contains kept b → Contains longer (fork ++ b ∷ [])
 
 -- all forks of the greatest length that any has
-pub record AreLongest (genesis : Genesis) (kept : List Block) (tip : Tip) (n : ℕ) (forks : List (List Block)) : Type 0 where
+pub record AreLongest (genesis : Genesis) (kept : List Block) (tip : Tip) (n : ℕ)
+    (forks : List (List Block)) : Type 0 where
   pub all : AreForks genesis kept tip n forks
   pub some : forks ≢ []
   pub none_longer : (fork : List Block) → IsFork genesis kept tip fork → length fork ≤ n
@@ -58,3 +67,7 @@ IsLeast forks fork = AllByRecursion (λ other. slice_cmp nat_cmp (tip_hash fork)
 pub record IsChosenFork (genesis : Genesis) (kept chain fork : List Block) : Type 0 where
   pub selection : IsSelection genesis kept chain (immutable_part genesis chain ++ fork)
   pub live : AllByRecursion (Contains (live_blocks genesis kept chain)) fork
+
+-- what forks of the code stand for
+abbrev pub forks_of : List (Vec Block) → List (List Block)
+forks_of forks = map (λ fork. fork.items) forks

@@ -19,10 +19,13 @@ pub record Held : Type 0 where
 abbrev pub coded_held : Coded Held
 coded_held =
     code_by (Genesis × (List Block × (List Block × Followers)))
-    (coded× coded_genesis (coded× (coded_list coded_block) (coded× (coded_list coded_block) (coded_list (coded_option (coded_list coded_block))))))
-    (λ h. (h.genesis, (h.chain, (h.live, h.followers)))) (λ p. record { genesis = p.0; chain = p.1.0; live = p.1.1.0; followers = p.1.1.1 }) (λ _. refl)
+    (coded× coded_genesis (coded× (coded_list coded_block) (coded× (coded_list coded_block)
+    (coded_list (coded_option (coded_list coded_block))))))
+    (λ h. (h.genesis, (h.chain, (h.live, h.followers))))
+    (λ p. record { genesis = p.0; chain = p.1.0; live = p.1.1.0; followers = p.1.1.1 }) (λ _. refl)
 
--- The core stands for each state with this chain and these followers whose live blocks are those held, as members and in
+-- The core stands for each state with this chain and these followers whose live blocks are those held, as members and
+-- in
 -- number. Nothing is said of the other kept blocks.
 pub record Stands (held : Held) (s : State) : Type 0 where
   pub chain : held.chain ≡ s.chain
@@ -37,7 +40,8 @@ opening_held genesis = record { genesis = genesis; chain = []; live = []; follow
 
 -- what is held of kept blocks, a chain and followers
 abbrev pub held_of : Genesis → List Block → List Block → Followers → Held
-held_of genesis kept chain followers = record { genesis = genesis; chain = chain; live = live_blocks genesis kept chain; followers = followers }
+held_of genesis kept chain followers =
+    record { genesis = genesis; chain = chain; live = live_blocks genesis kept chain; followers = followers }
 
 -- what the fields of a core are: the chain is valid and of kept blocks, and no two live blocks have one hash
 pub record IsSound (genesis : Genesis) (kept chain : List Block) : Type 0 where

@@ -1,13 +1,7 @@
 pub mod Held
 pub mod Forks
-pub mod TipView
-pub mod GenesisView
-pub mod ForksView
-pub mod RefusalView
-pub mod Judging
+pub mod Views
+pub mod Texts
+pub mod Judgements
 pub mod Inside
-pub mod ReplyView
-pub mod PointView
-pub mod EventView
-pub mod Theorem
-pub mod FollowerView
+pub mod FollowerCalls

@@ -2,6 +2,7 @@
 
 use crate::arrival::ArriveReply;
 use crate::follower::{FollowerId, Instruction, NextFault, OpenFault};
+use std::alloc::AllocError;
 
 /// What comes to the node.
 #[derive(Debug, Drop)]
@@ -14,15 +15,13 @@ pub enum RawEvent {
     Next(FollowerId),
 }
 
-/// What the node answers to an event.
+/// What the node answers to an event, by the event's kind. Where memory ran out nothing changed.
 #[derive(Debug, Drop)]
 pub enum Reply {
     /// To bytes of a block.
-    Arrive(ArriveReply),
+    Arrive(Result<ArriveReply, AllocError>),
     /// To the opening of a follower.
     Open(Result<FollowerId, OpenFault>),
     /// To a follower that asks what comes next.
     Next(Result<Option<Instruction>, NextFault>),
-    /// To bytes of a block where memory ran out, and nothing changed.
-    OutOfMemory,
 }

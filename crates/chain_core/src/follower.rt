@@ -1,15 +1,18 @@
 //! Followers: clients that are told the selected chain, block by block.
 
-ghost use Rattle.std.specs.Prelude.{◌≡◌, ◌↔◌, ◌≤◌, ◌<◌, [], ◌∷◌, ◌++◌, List, IsTrue, IfOk, OnErr, IfErr, MatchOption, Some, None, length, slice_get, slice_set};
-ghost use Rattle.model.specs.Block.{Block as Told};
+ghost use Rattle.std.specs.Prelude.{◌≡◌, ◌↔◌, ◌<◌, [], ◌∷◌, ◌++◌, IsTrue, IfOk, OnErr, IfErr, MatchOption, Some};
+ghost use Rattle.std.specs.Prelude.{length};
+ghost use Rattle.model.specs.Block.{Block as Plain};
 ghost use Rattle.model.specs.Chain.{BeginsWith};
-ghost use Rattle.model.specs.Follower.{MayBeTold, follower_limit};
-ghost use Rattle.chain_core.specs.FollowerView.{told_instruction, followers_of, IsOpenFault, IsNextFault, IsTold, IsDueNothing};
+ghost use Rattle.model.specs.Limits.{follower_limit};
+ghost use Rattle.model.specs.Follower.{MayBeTold, IsDue, IsNextInstruction};
+ghost use Rattle.chain_core.specs.Views.{instruction_of, followers_of};
+ghost use Rattle.chain_core.specs.FollowerCalls.{IsOpenFault, IsNextFault, IsTold, IsNextFor};
 
-use crate::refusal::same_bytes;
 use block::Block;
 use ident::Point;
 use std::alloc::{AllocError, AllocFailed, Global};
+use std::fmt;
 use thiserror::Error;
 
 /// How many followers may be open.
@@ -19,6 +22,18 @@ pub const MAX_FOLLOWERS: usize = 1024;
 #[derive(Clone, Copy, Debug, PartialEq, Eq, PartialOrd, Ord, Hash)]
 pub struct FollowerId {
     pub number: u64,
+}
+
+impl fmt::Display for FollowerId {
+    ghost use Rattle.std.specs.Prelude.{Some, decimal};
+
+    ghost output = { λ id. Some (decimal id.number) };
+
+    /// Writes the number.
+    fn fmt<W: fmt::Write>(&self, f: &mut fmt::Formatter<W>) -> fmt::Result {
+        let number = self.number;
+        write!(f, "{number}")
+    }
 }
 
 /// What a follower is told.
@@ -52,11 +67,44 @@ pub enum NextFault {
     OutOfMemory,
 }
 
+impl From<AllocError> for OpenFault {
+    ghost use Rattle.std.specs.Prelude.{◌≡◌};
+    ghost use Rattle.chain_core.specs.declared.follower.OpenFault.TheVariants.{OutOfMemory};
+
+    ghost from_gives = { λ _ e. e ≡ OutOfMemory };
+
+    fn from(_error: AllocError) -> OpenFault {
+        OpenFault::OutOfMemory
+    }
+}
+
+impl<T: Drop> From<AllocFailed<T>> for OpenFault {
+    ghost use Rattle.std.specs.Prelude.{◌≡◌};
+    ghost use Rattle.chain_core.specs.declared.follower.OpenFault.TheVariants.{OutOfMemory};
+
+    ghost from_gives = { λ _ e. e ≡ OutOfMemory };
+
+    fn from(_error: AllocFailed<T>) -> OpenFault {
+        OpenFault::OutOfMemory
+    }
+}
+
+impl From<AllocError> for NextFault {
+    ghost use Rattle.std.specs.Prelude.{◌≡◌};
+    ghost use Rattle.chain_core.specs.declared.follower.NextFault.TheVariants.{OutOfMemory};
+
+    ghost from_gives = { λ _ e. e ≡ OutOfMemory };
+
+    fn from(_error: AllocError) -> NextFault {
+        NextFault::OutOfMemory
+    }
+}
+
 /// Whether the two blocks are the same.
 fn is_same_block(block: &Block, other: &Block) -> bool
     ensures { IsTrue result ↔ (block.now ≡ other.now) }
 {
-    same_bytes(block.bytes(), other.bytes())
+    block.eq(other)
 }
 
 /// Whether the chain begins with these blocks.
@@ -76,8 +124,7 @@ fn begins_with(chain: &[Block], told: &[Block]) -> bool
 
 /// The block of the chain that comes next, if what was told is a proper beginning of it.
 fn next_block<'a>(chain: &'a [Block], told: &[Block]) -> Option<&'a Block>
-    ensures { MatchOption result (BeginsWith chain.now told.now → length chain.now ≤ length told.now)
-        (λ b. BeginsWith chain.now told.now × (slice_get chain.now (length told.now) ≡ Some b.now)) }
+    ensures { MatchOption result ((b : Plain) → IsDue chain.now told.now b → ⊥) (λ b. IsDue chain.now told.now b.now) }
 {
     if begins_with(chain, told) {
         chain.get(told.len())
@@ -91,7 +138,8 @@ pub fn open_follower(
     alloc: Global,
     followers: &mut Vec<Vec<Block>>,
 ) -> Result<FollowerId, OpenFault>
-    ensures ok { IfOk result (λ id. (id.number ≡ length followers.old.items) × (id.number < follower_limit) × (followers_of followers.new.items ≡ followers_of followers.old.items ++ Some [] ∷ [])) }
+    ensures ok { IfOk result (λ id. (id.number ≡ length followers.old.items) × (id.number < follower_limit)
+        × (followers_of followers.new.items ≡ followers_of followers.old.items ++ Some [] ∷ [])) }
     ensures fault { IfErr result (λ e. IsOpenFault followers.old.items e) }
     ensures err { OnErr result (followers.new.items ≡ followers.old.items) }
 {
@@ -99,19 +147,20 @@ pub fn open_follower(
     if number >= MAX_FOLLOWERS {
         return Err(OpenFault::TooManyFollowers);
     }
-    match followers.push(Vec::new(alloc)) {
-        Ok(()) => Ok(FollowerId {
-            number: number as u64,
-        }),
-        Err(_) => Err(OpenFault::OutOfMemory),
-    }
+    followers.push(Vec::new(alloc))?;
+    Ok(FollowerId {
+        number: number as u64,
+    })
 }
 
 /// What a follower that was told these blocks is told next, with the chain that it has then been told.
 fn tell(chain: &[Block], told: &mut Vec<Block>) -> Result<Option<Instruction>, AllocError>
-    ensures ok { IfOk result (λ instruction. MayBeTold chain.now told.old.items (told_instruction instruction) told.new.items) }
-    // What is a proper beginning of the chain goes on by its next block.
-    ensures stays { IfOk result (λ instruction. instruction ≡ None → BeginsWith chain.now told.old.items → length chain.now ≤ length told.old.items) }
+    ensures ok { IfOk result (λ instruction. MayBeTold chain.now told.old.items
+        (instruction_of instruction) told.new.items) }
+    ensures next { IfOk result (λ instruction. IsNextInstruction chain.now told.old.items
+        (instruction_of instruction)) }
+    // Memory is asked for only where a block is due.
+    ensures memory { OnErr result ((b : Plain) × IsDue chain.now told.old.items b) }
     ensures err { OnErr result (told.new.items ≡ told.old.items) }
 {
     let Some(block) = next_block(chain, told) else {
@@ -128,17 +177,16 @@ pub fn tell_follower(
     followers: &mut Vec<Vec<Block>>,
     id: FollowerId,
 ) -> Result<Option<Instruction>, NextFault>
-    ensures ok { IfOk result (λ instruction. IsTold chain.now followers.old.items id.number (told_instruction instruction) followers.new.items) }
-    ensures due { IfOk result (λ instruction. IsDueNothing chain.now (followers_of followers.old.items) id.number instruction) }
-    ensures fault { IfErr result (λ e. IsNextFault followers.old.items id.number e) }
+    ensures ok { IfOk result (λ instruction. IsTold chain.now followers.old.items id.number
+        (instruction_of instruction) followers.new.items) }
+    ensures next { IfOk result (λ instruction. IsNextFor chain.now (followers_of followers.old.items) id.number
+        (instruction_of instruction)) }
+    ensures fault { IfErr result (λ e. IsNextFault chain.now followers.old.items id.number e) }
     ensures err { OnErr result (followers_of followers.new.items ≡ followers_of followers.old.items) }
 {
     if id.number >= followers.len() as u64 {
         return Err(NextFault::UnknownFollower);
     }
     let told = &mut followers[id.number as usize];
-    match tell(chain, told) {
-        Ok(instruction) => Ok(instruction),
-        Err(AllocError) => Err(NextFault::OutOfMemory),
-    }
+    Ok(tell(chain, told)?)
 }

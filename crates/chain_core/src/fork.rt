@@ -2,11 +2,11 @@
 
 ghost use Rattle.std.specs.Prelude.{◌≡◌, ◌↔◌, ◌≤◌, ℕ, List, [], ◌∷◌, ◌++◌, IsTrue, IfOk, OnOk};
 ghost use Rattle.std.specs.List.{AllByRecursion};
-ghost use Rattle.model.specs.Block.{Block as Told};
+ghost use Rattle.model.specs.Block.{Block as Plain};
 ghost use Rattle.chain_core.specs.Forks.{GoesOn, AreOneLonger, AreGrown, AreLongest};
-ghost use Rattle.chain_core.specs.ForksView.{forks_of};
-ghost use Rattle.chain_core.specs.TipView.{told_tip};
-ghost use Rattle.chain_core.specs.GenesisView.{told_genesis};
+ghost use Rattle.chain_core.specs.Forks.{forks_of};
+ghost use Rattle.chain_core.specs.Views.{tip_of};
+ghost use Rattle.chain_core.specs.Views.{genesis_of};
 
 use crate::genesis::Genesis;
 use crate::tip::Tip;
@@ -15,7 +15,7 @@ use std::alloc::{AllocError, Global};
 
 /// Whether the block may come behind the tip, its body fits, and there is a ledger after it.
 fn goes_on(genesis: &Genesis, tip: &Tip, block: &Block) -> bool
-    ensures { IsTrue result ↔ GoesOn (told_genesis genesis.now) (told_tip tip.now) block.now }
+    ensures { IsTrue result ↔ GoesOn (genesis_of genesis.now) (tip_of tip.now) block.now }
 {
     if block.number() <= tip.number || block.number() - tip.number != 1 {
         return false;
@@ -47,8 +47,8 @@ fn grow_fork(
     fork: &[Block],
     longer: &mut Vec<Vec<Block>>,
 ) -> Result<(), AllocError>
-    ensures { OnOk result ((more : List (List Told)) × (forks_of longer.new.items ≡ forks_of longer.old.items ++ more)
-        × AreOneLonger (told_genesis genesis.now) kept.now (told_tip from.now) fork.now more) }
+    ensures { OnOk result ((more : List (List Plain)) × (forks_of longer.new.items ≡ forks_of longer.old.items ++ more)
+        × AreOneLonger (genesis_of genesis.now) kept.now (tip_of from.now) fork.now more) }
 {
     let tip = from.after(fork);
     for block in kept {
@@ -67,7 +67,8 @@ fn grow(
     from: &Tip,
     forks: &[Vec<Block>],
 ) -> Result<Vec<Vec<Block>>, AllocError>
-    ensures { IfOk result (λ longer. AreGrown (told_genesis genesis.now) kept.now (told_tip from.now) (forks_of forks.now) (forks_of longer.items)) }
+    ensures { IfOk result (λ longer. AreGrown (genesis_of genesis.now) kept.now (tip_of from.now) (forks_of forks.now)
+        (forks_of longer.items)) }
 {
     let mut longer = Vec::new(alloc);
     for fork in forks {
@@ -95,7 +96,8 @@ pub fn longest_forks(
     kept: &[Block],
     from: &Tip,
 ) -> Result<Vec<Vec<Block>>, AllocError>
-    ensures { IfOk result (λ forks. (n : ℕ) × AreLongest (told_genesis genesis.now) kept.now (told_tip from.now) n (forks_of forks.items)) }
+    ensures { IfOk result (λ forks. (n : ℕ)
+        × AreLongest (genesis_of genesis.now) kept.now (tip_of from.now) n (forks_of forks.items)) }
 {
     let mut longest = vec![in alloc; Vec::new(alloc)]?;
     for _ in from.number..greatest_number(kept) {

@@ -3,7 +3,7 @@
 ghost use Rattle.std.specs.Prelude.{◌≡◌, ◌++◌, [], ◌∷◌, IfOk, OnOk, OnErr};
 ghost use Rattle.model.specs.Chain.{IsSelection};
 ghost use Rattle.model.specs.History.{IsChange};
-ghost use Rattle.chain_core.specs.GenesisView.{told_genesis};
+ghost use Rattle.chain_core.specs.Views.{genesis_of};
 ghost use Rattle.chain_core.specs.Held.{IsSound};
 
 use crate::genesis::Genesis;
@@ -19,9 +19,10 @@ pub fn keep(
     chain: &mut Vec<Block>,
     block: Block,
 ) -> Result<Change, AllocError>
-    requires { IsSound (told_genesis genesis.now) (kept.old.items ++ block ∷ []) chain.old.items }
+    requires { IsSound (genesis_of genesis.now) (kept.old.items ++ block ∷ []) chain.old.items }
     ensures kept { OnOk result (kept.new.items ≡ kept.old.items ++ block ∷ []) }
-    ensures selected { OnOk result (IsSelection (told_genesis genesis.now) kept.new.items chain.old.items chain.new.items) }
+    ensures selected { OnOk result
+        (IsSelection (genesis_of genesis.now) kept.new.items chain.old.items chain.new.items) }
     ensures change { IfOk result (λ change. IsChange chain.old.items chain.new.items change.back change.added) }
     ensures err { OnErr result ((kept.new.items ≡ kept.old.items) × (chain.new.items ≡ chain.old.items)) }
 {

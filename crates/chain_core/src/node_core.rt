@@ -7,8 +7,8 @@ use crate::follower::{
 };
 use crate::genesis::Genesis;
 use crate::keeping::keep;
-use crate::refusal::refusal_of;
-use block::{Block, ReadFault};
+use crate::refusal::first_refusal;
+use block::{Block, NoBlock};
 use ident::Point;
 use std::alloc::{AllocError, Global};
 use std::marker::Model;
@@ -38,20 +38,21 @@ impl Model for Core {
 }
 
 impl Core {
-    ghost use Rattle.std.specs.Prelude.{◌≡◌, IfOk, OnErr, length};
-    ghost use Rattle.model.specs.Chain.{point_of};
-    ghost use Rattle.model.specs.History.{State, Arrive, Open, Next, Step, IsRun};
-    ghost use Rattle.chain_core.specs.GenesisView.{told_genesis};
-    ghost use Rattle.chain_core.specs.PointView.{told_point};
-    ghost use Rattle.chain_core.specs.ReplyView.{told_arrival};
-    ghost use Rattle.chain_core.specs.EventView.{told_event, told_reply, told_open, told_next, history_of};
-    ghost use Rattle.chain_core.specs.FollowerView.{IsDueNothing};
-    ghost use Rattle.chain_core.specs.Theorem.{ChainTheorem};
+    ghost use Rattle.std.specs.Prelude.{◌≡◌, ◌<◌, IfOk, IfErr, OnErr};
+    ghost use Rattle.model.specs.Chain.{tip_point};
+    ghost use Rattle.model.specs.Limits.{follower_limit};
+    ghost use Rattle.model.specs.Follower.{free_id};
+    ghost use Rattle.model.specs.History as history;
+    ghost use Rattle.model.specs.History.{State, Arrive, Open, Next, Step, IsRun, ChainTheorem, Applies};
+    ghost use Rattle.ident.specs.PointView.{point_of};
+    ghost use Rattle.chain_core.specs.Views.{genesis_of, event_of, reply_of, arrive_reply_of, open_reply_of};
+    ghost use Rattle.chain_core.specs.Views.{next_reply_of, instruction_of, history_of, IsReplyTo, AreRepliesTo};
+    ghost use Rattle.chain_core.specs.FollowerCalls.{HasDue, IsNextFor};
     ghost use Rattle.chain_core.specs.Held.{opening_held, Stands};
 
     /// A core before anything arrived: the selected chain is empty. Takes no memory before the first block.
     pub fn new(alloc: Global, genesis: Genesis) -> Core
-        ensures { result ≡ opening_held (told_genesis genesis) }
+        ensures { result ≡ opening_held (genesis_of genesis) }
     {
         Core {
             alloc,
@@ -65,26 +66,31 @@ impl Core {
     /// Bytes of a block arrive. They are refused for the first reason that applies, or the block is kept and
     /// the chain is selected anew. Where memory runs out nothing changes.
     ///
-    /// Reads and hashes the bytes once and copies them once. Takes time that grows with the kept blocks times
+    /// Reads and hashes the bytes once, and copies them once where they aren't refused: a refusal takes no memory.
+    /// Takes time that grows with the kept blocks times
     /// the longest fork past the immutable tip.
     pub fn arrive(&mut self, bytes: &[u8]) -> Result<ArriveReply, AllocError>
         // For every state of the definitions that the core stands for, this is a step to one that it then stands for.
-        ensures step { IfOk result (λ reply. (s : State) → Stands self.old s → (t : State) × Step self.old.genesis s (Arrive bytes.now) (told_arrival reply) t × Stands self.new t) }
+        ensures step { (s : State) → Stands self.old s → (t : State)
+            × Step self.old.genesis s (Arrive bytes.now) (arrive_reply_of result) t × Stands self.new t }
+        // Memory is asked for only where no refusal applies.
+        ensures memory { OnErr result ((s : State) → Stands self.old s → (refusal : history.Refusal)
+            → Applies self.old.genesis s bytes.now refusal → ⊥) }
         ensures genesis { self.new.genesis ≡ self.old.genesis }
         ensures err { OnErr result (self.new ≡ self.old) }
     {
-        let block = match block::read(self.alloc, bytes) {
-            Ok(block) => block,
-            Err(ReadFault::TooLarge) => return Ok(ArriveReply::Refused(Refusal::TooLarge)),
-            Err(ReadFault::Malformed) => return Ok(ArriveReply::Refused(Refusal::Malformed)),
-            Err(ReadFault::BodyHashMismatch) => {
+        let found = match block::look(bytes) {
+            Ok(found) => found,
+            Err(NoBlock::TooLarge) => return Ok(ArriveReply::Refused(Refusal::TooLarge)),
+            Err(NoBlock::Malformed) => return Ok(ArriveReply::Refused(Refusal::Malformed)),
+            Err(NoBlock::BodyHashMismatch) => {
                 return Ok(ArriveReply::Refused(Refusal::BodyHashMismatch));
             }
-            Err(ReadFault::OutOfMemory) => return Err(AllocError),
         };
-        if let Some(refusal) = refusal_of(&self.genesis, &self.kept, &self.chain, &block) {
+        if let Some(refusal) = first_refusal(&self.genesis, &self.kept, &self.chain, &found) {
             return Ok(ArriveReply::Refused(refusal));
         }
+        let block = found.to_block(self.alloc)?;
         let change = keep(
             self.alloc,
             &self.genesis,
@@ -101,7 +107,10 @@ impl Core {
     /// Opens a follower of the least number that is free, 0 to 1,023. It was told nothing, and stands at genesis. Where
     /// there are 1,024, or memory runs out, nothing changes.
     pub fn open(&mut self) -> Result<FollowerId, OpenFault>
-        ensures step { (s : State) → Stands self.old s → (t : State) × Step self.old.genesis s Open (told_open result) t × Stands self.new t }
+        ensures step { (s : State) → Stands self.old s → (t : State)
+            × Step self.old.genesis s Open (open_reply_of result) t × Stands self.new t }
+        // Memory is asked for only where a number is free.
+        ensures memory { IfErr result (λ e. e ≡ OpenFault.OutOfMemory → free_id self.old.followers < follower_limit) }
         ensures genesis { self.new.genesis ≡ self.old.genesis }
         ensures err { OnErr result (self.new ≡ self.old) }
     {
@@ -109,14 +118,21 @@ impl Core {
     }
 
     /// What the follower of this number is told next: to put on the next block of the selected chain, where what it was
-    /// told is a proper beginning of that, and else nothing. A follower whose chain was left stays where it is, for now.
+    /// told is a proper beginning of that, and else nothing. A follower whose chain was left stays where it is, for
+    /// now.
     ///
     /// Where no such follower is open, or memory runs out, nothing changes. Takes no memory where it answers nothing.
     /// Compares what was told with the chain, block by block. Shares the block, and copies none of its bytes.
     pub fn next(&mut self, id: FollowerId) -> Result<Option<Instruction>, NextFault>
-        ensures step { (s : State) → Stands self.old s → (t : State) × Step self.old.genesis s (Next id.number) (told_next result) t × Stands self.new t }
-        // What is a proper beginning of the selected chain goes on.
-        ensures due { IfOk result (λ instruction. IsDueNothing self.old.chain self.old.followers id.number instruction) }
+        ensures step { (s : State) → Stands self.old s → (t : State)
+            × Step self.old.genesis s (Next id.number) (next_reply_of result) t × Stands self.new t }
+        // Where what the follower was told is a proper beginning of the selected chain, the instruction is its next
+        // block; else there is none.
+        ensures next { IfOk result (λ instruction. IsNextFor self.old.chain self.old.followers id.number
+            (instruction_of instruction)) }
+        // Memory is asked for only where a block is due.
+        ensures memory { IfErr result (λ e. e ≡ NextFault.OutOfMemory
+            → HasDue self.old.chain self.old.followers id.number) }
         ensures genesis { self.new.genesis ≡ self.old.genesis }
         ensures err { OnErr result (self.new ≡ self.old) }
     {
@@ -125,14 +141,13 @@ impl Core {
 
     /// Answers one event.
     fn answer(&mut self, event: &RawEvent) -> Reply
-        ensures step { (s : State) → Stands self.old s → (t : State) × Step self.old.genesis s (told_event event.now) (told_reply result) t × Stands self.new t }
+        ensures step { (s : State) → Stands self.old s → (t : State)
+            × Step self.old.genesis s (event_of event.now) (reply_of result) t × Stands self.new t }
+        ensures kind { IsReplyTo event.now result }
         ensures genesis { self.new.genesis ≡ self.old.genesis }
     {
         match event {
-            RawEvent::Arrive(bytes) => match self.arrive(bytes) {
-                Ok(reply) => Reply::Arrive(reply),
-                Err(AllocError) => Reply::OutOfMemory,
-            },
+            RawEvent::Arrive(bytes) => Reply::Arrive(self.arrive(bytes)),
             RawEvent::Open => Reply::Open(self.open()),
             RawEvent::Next(id) => Reply::Next(self.next(*id)),
         }
@@ -141,12 +156,15 @@ impl Core {
     /// Answers events in their order, one reply to each. Room for the replies is taken first: where memory runs
     /// out there, no event has come.
     pub fn run(&mut self, events: &[RawEvent]) -> Result<Vec<Reply>, AllocError>
-        // Each event has a reply.
-        ensures count { IfOk result (λ replies. length replies.items ≡ length events.now) }
-        // For every state of the definitions that the core stands for, the events with the replies are a run to one that it then stands for.
-        ensures run { IfOk result (λ replies. (s : State) → Stands self.old s → (t : State) × IsRun self.old.genesis s (history_of events.now replies.items) t × Stands self.new t) }
+        // Each event has a reply of its kind.
+        ensures kinds { IfOk result (λ replies. AreRepliesTo events.now replies.items) }
+        // For every state of the definitions that the core stands for, the events with the replies are a run to one
+        // that it then stands for.
+        ensures run { IfOk result (λ replies. (s : State) → Stands self.old s → (t : State)
+            × IsRun self.old.genesis s (history_of events.now replies.items) t × Stands self.new t) }
         // From a new core on, the chain theorem.
-        ensures theorem { IfOk result (λ replies. self.old ≡ opening_held self.old.genesis → ChainTheorem self.old.genesis (history_of events.now replies.items) self.new) }
+        ensures theorem { IfOk result (λ replies. self.old ≡ opening_held self.old.genesis → (t : State)
+            × ChainTheorem self.old.genesis (history_of events.now replies.items) t × Stands self.new t) }
         ensures genesis { self.new.genesis ≡ self.old.genesis }
         ensures err { OnErr result (self.new ≡ self.old) }
     {
@@ -160,7 +178,7 @@ impl Core {
 
     /// The last block of the selected chain, or the genesis point. Takes no memory.
     pub fn tip(&self) -> Point
-        ensures { told_point result ≡ point_of self.now.chain }
+        ensures { point_of result ≡ tip_point self.now.chain }
     {
         match self.chain.last() {
             Some(block) => block.point(),

@@ -1,18 +1,19 @@
 //! The selection rule over all kept blocks: the longest fork, of several the one with the least hash.
 
-ghost use Rattle.std.specs.Prelude.{◌≡◌, ◌↔◌, ◌≤◌, ◌<◌, ◌≢◌, ℕ, List, [], ◌++◌, IsTrue, IfSome, IfNone, MatchOption, IfOk, OnOk, OnErr, Contains, length, take, drop, slice_get, Some};
+ghost use Rattle.std.specs.Prelude.{◌≡◌, ◌↔◌, ◌≤◌, ◌<◌, ◌≢◌, ℕ, List, [], ◌++◌, IsTrue, IfSome, IfNone, MatchOption};
+ghost use Rattle.std.specs.Prelude.{IfOk, OnOk, OnErr, Contains, length, take, drop, slice_get, Some};
 ghost use Rattle.std.specs.List.{AllByRecursion};
 ghost use Rattle.std.specs.Ordering.{nat_cmp};
 ghost use Rattle.std.specs.declared.cmp.Ordering.TheVariants.{Less};
 ghost use Rattle.std.specs.Cmp.Lexicographic.{slice_cmp};
-ghost use Rattle.model.specs.Block.{Block as Told, block_hash_of};
+ghost use Rattle.model.specs.Block.{Block as Plain, block_hash_of};
 ghost use Rattle.model.specs.Chain.{tip_hash, IsSelection, immutable_length as immutable_count, immutable_part};
 ghost use Rattle.model.specs.Chain as chain;
 ghost use Rattle.model.specs.History.{IsCommonLength, IsChange};
 ghost use Rattle.chain_core.specs.Forks.{IsLeast, IsChosenFork, immutable_tip as end_of_immutable};
-ghost use Rattle.chain_core.specs.ForksView.{forks_of};
-ghost use Rattle.chain_core.specs.GenesisView.{told_genesis};
-ghost use Rattle.chain_core.specs.TipView.{told_tip};
+ghost use Rattle.chain_core.specs.Forks.{forks_of};
+ghost use Rattle.chain_core.specs.Views.{genesis_of};
+ghost use Rattle.chain_core.specs.Views.{tip_of};
 ghost use Rattle.chain_core.specs.Held.{IsSound};
 
 use crate::fork::longest_forks;
@@ -24,7 +25,7 @@ use std::alloc::{AllocError, Global};
 
 /// How many blocks of the chain are never left again.
 pub fn immutable_length(genesis: &Genesis, chain: &[Block]) -> usize
-    ensures count { result ≡ immutable_count (told_genesis genesis.now) chain.now }
+    ensures count { result ≡ immutable_count (genesis_of genesis.now) chain.now }
     ensures within { result ≤ length chain.now }
 {
     if genesis.k < chain.len() as u64 {
@@ -62,7 +63,7 @@ fn ends_lesser(fork: &[Block], other: &[Block]) -> bool
 
 /// How many blocks two forks have in common, from the first one on.
 fn common_length(old: &[Block], new: &[Block]) -> usize
-    requires { (b c : Told) → Contains old.now b → Contains new.now c → block_hash_of b ≡ block_hash_of c → b ≡ c }
+    requires { (b c : Plain) → Contains old.now b → Contains new.now c → block_hash_of b ≡ block_hash_of c → b ≡ c }
     ensures { IsCommonLength old.now new.now result }
 {
     let shorter = old.len().min(new.len());
@@ -76,7 +77,8 @@ fn common_length(old: &[Block], new: &[Block]) -> usize
 
 /// How long these forks are, which all are as long.
 fn fork_length(forks: &[Vec<Block>]) -> usize
-    ensures { (n : ℕ) → forks_of forks.now ≢ [] → AllByRecursion (λ fork. length fork ≡ n) (forks_of forks.now) → result ≡ n }
+    ensures { (n : ℕ) → forks_of forks.now ≢ [] → AllByRecursion (λ fork. length fork ≡ n) (forks_of forks.now)
+        → result ≡ n }
 {
     match forks.first() {
         Some(fork) => fork.len(),
@@ -87,7 +89,8 @@ fn fork_length(forks: &[Vec<Block>]) -> usize
 /// The fork whose last block has the least hash, if there are any.
 fn least_fork(mut forks: Vec<Vec<Block>>) -> Option<Vec<Block>>
     requires { AllByRecursion (λ fork. fork ≢ []) (forks_of forks.items) }
-    ensures some { IfSome result (λ fork. Contains (forks_of forks.items) fork.items × IsLeast (forks_of forks.items) fork.items) }
+    ensures some { IfSome result (λ fork. Contains (forks_of forks.items) fork.items
+        × IsLeast (forks_of forks.items) fork.items) }
     ensures none { IfNone result (forks_of forks.items ≡ []) }
 {
     let mut least = forks.pop()?;
@@ -119,7 +122,7 @@ fn switch_to(
 
 /// Where the immutable part of the chain ends.
 fn immutable_tip(genesis: &Genesis, chain: &[Block]) -> Tip
-    ensures { told_tip result ≡ end_of_immutable (told_genesis genesis.now) chain.now }
+    ensures { tip_of result ≡ end_of_immutable (genesis_of genesis.now) chain.now }
 {
     Tip::genesis().after(&chain[..immutable_length(genesis, chain)])
 }
@@ -131,10 +134,10 @@ fn chosen_fork(
     kept: &[Block],
     chain: &[Block],
 ) -> Result<Option<Vec<Block>>, AllocError>
-    requires { IsSound (told_genesis genesis.now) kept.now chain.now }
+    requires { IsSound (genesis_of genesis.now) kept.now chain.now }
     ensures { IfOk result (λ found. MatchOption found
-        (IsSelection (told_genesis genesis.now) kept.now chain.now chain.now)
-        (λ fork. IsChosenFork (told_genesis genesis.now) kept.now chain.now fork.items)) }
+        (IsSelection (genesis_of genesis.now) kept.now chain.now chain.now)
+        (λ fork. IsChosenFork (genesis_of genesis.now) kept.now chain.now fork.items)) }
 {
     let from = immutable_tip(genesis, chain);
     let forks = longest_forks(alloc, genesis, kept, &from)?;
@@ -158,8 +161,8 @@ pub fn select(
     kept: &[Block],
     chain: &mut Vec<Block>,
 ) -> Result<Change, AllocError>
-    requires { IsSound (told_genesis genesis.now) kept.now chain.old.items }
-    ensures ok { IfOk result (λ change. IsSelection (told_genesis genesis.now) kept.now chain.old.items chain.new.items
+    requires { IsSound (genesis_of genesis.now) kept.now chain.old.items }
+    ensures ok { IfOk result (λ change. IsSelection (genesis_of genesis.now) kept.now chain.old.items chain.new.items
         × IsChange chain.old.items chain.new.items change.back change.added) }
     ensures err { OnErr result (chain.new.items ≡ chain.old.items) }
 {

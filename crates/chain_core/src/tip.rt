@@ -3,7 +3,7 @@
 ghost use Rattle.std.specs.Prelude.{◌≡◌, ◌++◌};
 ghost use Rattle.model.specs.Chain.{tip_at, tip_after};
 ghost use Rattle.model.specs.Chain as chain;
-ghost use Rattle.chain_core.specs.TipView.{told_tip};
+ghost use Rattle.chain_core.specs.Views.{tip_of};
 
 use block::Block;
 use ident::BlockHash;
@@ -19,7 +19,7 @@ pub struct Tip {
 impl Tip {
     /// The end of the chain without a block.
     pub fn genesis() -> Tip
-        ensures { told_tip result ≡ chain.genesis_tip }
+        ensures { tip_of result ≡ chain.genesis_tip }
     {
         Tip {
             number: 0,
@@ -30,7 +30,7 @@ impl Tip {
 
     /// The end of a chain that ends in this block.
     pub fn at(block: &Block) -> Tip
-        ensures { told_tip result ≡ tip_at block.now }
+        ensures { tip_of result ≡ tip_at block.now }
     {
         Tip {
             number: block.number(),
@@ -41,7 +41,7 @@ impl Tip {
 
     /// The end of a chain that goes on from here by these blocks.
     pub fn after(self, blocks: &[Block]) -> Tip
-        ensures { told_tip result ≡ tip_after (told_tip self) blocks.now }
+        ensures { tip_of result ≡ tip_after (tip_of self) blocks.now }
     {
         match blocks.last() {
             Some(block) => Tip::at(block),

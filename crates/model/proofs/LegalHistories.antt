@@ -43,7 +43,7 @@ distinct_with genesis s bytes b distinct spelled not_refused = with_test (nat_lt
 -- ---- what each step keeps
 
 -- a state as legal histories leave it
-pub record IsSound (genesis : Genesis) (s : State) : Type 0 where
+pub record IsSoundState (genesis : Genesis) (s : State) : Type 0 where
   pub valid : IsValidChain genesis s.chain
   pub longest : NoneLonger genesis s.kept s.chain
   pub distinct : HaveDistinctHashes (live_of genesis s)
@@ -52,14 +52,14 @@ no_longer_than_nothing : (genesis : Genesis) → NoneLonger genesis [] []
 no_longer_than_nothing genesis [] candidate = omega arith
 no_longer_than_nothing genesis (b ∷ bs) candidate = absurd (nothing_contained b candidate.members.0)
 
-pub opening_sound : (genesis : Genesis) → IsSound genesis opening
+pub opening_sound : (genesis : Genesis) → IsSoundState genesis opening
 opening_sound genesis = record {
   valid = record { linked = tt; sizes = tt; ledger = refl };
   longest = no_longer_than_nothing genesis;
   distinct = tt;
 }
 
-keeps_sound : (genesis : Genesis) (s : State) (bytes : List ℕ) (back added : ℕ) (t : State) → IsSound genesis s → Keeps genesis s bytes back added t → IsSound genesis t
+keeps_sound : (genesis : Genesis) (s : State) (bytes : List ℕ) (back added : ℕ) (t : State) → IsSoundState genesis s → Keeps genesis s bytes back added t → IsSoundState genesis t
 keeps_sound genesis s bytes back added t sound keeps =
     let more = selection_not_shorter genesis t.kept s.chain t.chain keeps.selection in
     let distinct : HaveDistinctHashes (live_blocks genesis t.kept s.chain) = subst (λ (bs : List Block). HaveDistinctHashes (live_blocks genesis bs s.chain)) (sym keeps.kept) (distinct_with genesis s bytes keeps.block sound.distinct keeps.read keeps.not_refused) in
@@ -92,30 +92,30 @@ kind_of genesis s (Next id) UnknownFollower t step = Quiet (Next id) UnknownFoll
 kind_of genesis s event OutOfMemory t step = Quiet event OutOfMemory t (record { kept = ap (λ (u : State). u.kept) step; chain = ap (λ (u : State). u.chain) step; counted = λ n. refl; brings_none = λ b no'. no' })
 kind_of genesis s event reply t step = absurd step
 
-quiet_sound : (genesis : Genesis) (s : State) (event : Event) (reply : Reply) (t : State) → IsSound genesis s → IsQuiet s event reply t → IsSound genesis t
+quiet_sound : (genesis : Genesis) (s : State) (event : Event) (reply : Reply) (t : State) → IsSoundState genesis s → IsQuiet s event reply t → IsSoundState genesis t
 quiet_sound genesis s event reply t sound quiet = record {
   valid = subst (IsValidChain genesis) (sym quiet.chain) sound.valid;
   longest = subst (λ (bs : List Block). NoneLonger genesis bs t.chain) (sym quiet.kept) (subst (λ (c : List Block). NoneLonger genesis s.kept c) (sym quiet.chain) sound.longest);
   distinct = subst (λ (bs : List Block). HaveDistinctHashes (live_blocks genesis bs t.chain)) (sym quiet.kept) (subst (λ (c : List Block). HaveDistinctHashes (live_blocks genesis s.kept c)) (sym quiet.chain) sound.distinct);
 }
 
-kind_sound : (genesis : Genesis) (s : State) (event : Event) (reply : Reply) (t : State) → IsSound genesis s → Kind genesis s event reply t → IsSound genesis t
+kind_sound : (genesis : Genesis) (s : State) (event : Event) (reply : Reply) (t : State) → IsSoundState genesis s → Kind genesis s event reply t → IsSoundState genesis t
 kind_sound genesis s event reply t sound (Keeping bytes back added u keeps) = keeps_sound genesis s bytes back added u sound keeps
 kind_sound genesis s event reply t sound (Quiet e r u quiet) = quiet_sound genesis s e r u sound quiet
 
-pub step_sound : (genesis : Genesis) (s : State) (event : Event) (reply : Reply) (t : State) → IsSound genesis s → Step genesis s event reply t → IsSound genesis t
+pub step_sound : (genesis : Genesis) (s : State) (event : Event) (reply : Reply) (t : State) → IsSoundState genesis s → Step genesis s event reply t → IsSoundState genesis t
 step_sound genesis s event reply t sound step = kind_sound genesis s event reply t sound (kind_of genesis s event reply t step)
 
-pub run_sound : (genesis : Genesis) (s : State) (es : List Entry) (t : State) → IsSound genesis s → IsRun genesis s es t → IsSound genesis t
-run_sound genesis s [] t sound run = subst (IsSound genesis) (sym run) sound
+pub run_sound : (genesis : Genesis) (s : State) (es : List Entry) (t : State) → IsSoundState genesis s → IsRun genesis s es t → IsSoundState genesis t
+run_sound genesis s [] t sound run = subst (IsSoundState genesis) (sym run) sound
 run_sound genesis s (e ∷ es) t sound run = run_sound genesis run.0 es t (step_sound genesis s e.event e.reply run.0 sound run.1) run.2
 
-pub legal_sound : (genesis : Genesis) (history : List Entry) (s : State) → IsLegal genesis history s → IsSound genesis s
+pub legal_sound : (genesis : Genesis) (history : List Entry) (s : State) → IsLegal genesis history s → IsSoundState genesis s
 legal_sound genesis history s legal = run_sound genesis opening history s (opening_sound genesis) legal
 
 -- ---- a history determines its state
 
-keeps_one : (genesis : Genesis) (s : State) (bytes : List ℕ) (back added : ℕ) (t u : State) → IsSound genesis s → Keeps genesis s bytes back added t → Keeps genesis s bytes back added u → t ≡ u
+keeps_one : (genesis : Genesis) (s : State) (bytes : List ℕ) (back added : ℕ) (t u : State) → IsSoundState genesis s → Keeps genesis s bytes back added t → Keeps genesis s bytes back added u → t ≡ u
 keeps_one genesis s bytes back added t u sound first second =
     let blocks : first.block ≡ second.block = one_block first.block second.block bytes first.read.spelled second.read.spelled in
     let kept : t.kept ≡ u.kept = first.kept ∙ (ap (λ (b : Block). b ∷ s.kept) blocks ∙ sym second.kept) in
@@ -138,7 +138,7 @@ instructs_one s id instruction t u first second =
     let now : first.now ≡ second.now = replayed_one first.before instruction first.now second.now first.told.replayed (subst (λ (old : List Block). IsReplayed old instruction second.now) (sym before) second.told.replayed) in
     first.after ∙ ((λ i. record { kept = s.kept; chain = s.chain; followers = slice_set s.followers id (Some (now i)) }) ∙ sym second.after)
 
-pub step_one : (genesis : Genesis) (s : State) (event : Event) (reply : Reply) (t u : State) → IsSound genesis s → Step genesis s event reply t → Step genesis s event reply u → t ≡ u
+pub step_one : (genesis : Genesis) (s : State) (event : Event) (reply : Reply) (t u : State) → IsSoundState genesis s → Step genesis s event reply t → Step genesis s event reply u → t ≡ u
 step_one genesis s (Arrive bytes) (Kept back added) t u sound first second = keeps_one genesis s bytes back added t u sound first second
 step_one genesis s (Arrive bytes) (Refused refusal) t u sound first second = first.1 ∙ sym second.1
 step_one genesis s Open (Opened id) t u sound first second = first.after ∙ sym second.after
@@ -148,7 +148,7 @@ step_one genesis s (Next id) UnknownFollower t u sound first second = first.1 �
 step_one genesis s event OutOfMemory t u sound first second = first ∙ sym second
 step_one genesis s event reply t u sound first second = absurd first
 
-pub run_one : (genesis : Genesis) (s : State) (es : List Entry) (t u : State) → IsSound genesis s → IsRun genesis s es t → IsRun genesis s es u → t ≡ u
+pub run_one : (genesis : Genesis) (s : State) (es : List Entry) (t u : State) → IsSoundState genesis s → IsRun genesis s es t → IsRun genesis s es u → t ≡ u
 run_one genesis s [] t u sound first second = first ∙ sym second
 run_one genesis s (e ∷ es) t u sound first second =
     let mids : second.0 ≡ first.0 = step_one genesis s e.event e.reply second.0 first.0 sound second.1 first.1 in

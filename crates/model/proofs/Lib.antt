@@ -12,4 +12,4 @@ pub mod Chains
 pub mod Selections
 pub mod Changes
 pub mod LegalHistories
-pub mod Telling
+pub mod ToldChains

@@ -1,7 +1,9 @@
--- Values and what is minted have one item each.
-use Rattle.std.proofs.Common.{◌≡◌, ℕ, List, [], ◌∷◌, map, ℤ, pos, negsuc, refl}
+-- Values and what is minted have one item each, and one text.
+use Rattle.std.proofs.Common.{◌≡◌, ℕ, List, [], ◌∷◌, ◌++◌, map, ℤ, pos, negsuc, refl}
 use Rattle.model.specs.Cbor.{Item, Unsigned, pairs_of, map_of}
-use Rattle.model.specs.Value.{Token, Policy, Value, item_of_number, entry_of_token, entry_of_policy, item_of_assets, coin_with, item_of_value}
+use Rattle.model.specs.Value.{Token, Policy, Value, Mint, item_of_number, entry_of_token, entry_of_policy, item_of_assets, coin_with, item_of_value, SpellsValue, SpellsMint}
+use Rattle.model.proofs.ItemTexts.{one_item}
+use Rattle.model.proofs.ScriptTexts.{spellings_apart}
 use Rattle.model.proofs.Members.{unsigned_is, bytes_is, map_is, two_are, same_entries}
 
 -- whole numbers with one item are one number
@@ -38,3 +40,29 @@ pub same_value : (a b : Value) → item_of_value a ≡ item_of_value b → a ≡
 same_value a b e =
     let both = same_coin a.coin b.coin a.assets b.assets e in
     λ i. record { coin = both.0 i; assets = both.1 i }
+
+-- mints with one item are one mint
+pub same_mint : (a b : Mint) → item_of_assets item_of_number a ≡ item_of_assets item_of_number b → a ≡ b
+same_mint = same_assets item_of_number same_number
+
+-- ---- texts
+
+-- values with one text are one value
+pub one_value : (a b : Value) (bytes : List ℕ) → SpellsValue a bytes → SpellsValue b bytes → a ≡ b
+one_value a b bytes p q = same_value a b (one_item (item_of_value a) (item_of_value b) bytes p.spelled q.spelled)
+
+-- no value's text begins another's
+pub values_apart : (a b : Value) (s t x y : List ℕ) → SpellsValue a s → SpellsValue b t → s ++ x ≡ t ++ y → (a ≡ b) × (x ≡ y)
+values_apart a b s t x y p q e =
+    let both = spellings_apart (item_of_value a) (item_of_value b) s t x y p.spelled q.spelled e in
+    (same_value a b both.0, both.1)
+
+-- mints with one text are one mint
+pub one_mint : (a b : Mint) (bytes : List ℕ) → SpellsMint a bytes → SpellsMint b bytes → a ≡ b
+one_mint a b bytes p q = same_mint a b (one_item (item_of_assets item_of_number a) (item_of_assets item_of_number b) bytes p.spelled q.spelled)
+
+-- no mint's text begins another's
+pub mints_apart : (a b : Mint) (s t x y : List ℕ) → SpellsMint a s → SpellsMint b t → s ++ x ≡ t ++ y → (a ≡ b) × (x ≡ y)
+mints_apart a b s t x y p q e =
+    let both = spellings_apart (item_of_assets item_of_number a) (item_of_assets item_of_number b) s t x y p.spelled q.spelled e in
+    (same_mint a b both.0, both.1)

@@ -1,7 +1,8 @@
 -- Blocks: a header and whole transactions under one hash (this project's own shape).
-use Rattle.std.specs.Prelude.{◌≡◌, ℕ, ◌<◌, ◌^◌, List, [], ◌∷◌, length, map, Option, Some, None, IfSome}
+use Rattle.std.specs.Prelude.{◌≡◌, ℕ, ◌<◌, List, [], ◌∷◌, length, map, Option, Some, None, IfSome}
 use Rattle.std.specs.List.{AllByRecursion}
 use Rattle.sha2.specs.Sha256.{sha256}
+use Rattle.model.specs.Limits.{hash_size, number_limit}
 use Rattle.model.specs.Cbor.{Item, Unsigned, Bytes, Null, array_of, text_of, Spells}
 use Rattle.model.specs.Transaction.{Transaction, item_of_transaction, IsTransaction}
 
@@ -22,7 +23,8 @@ item_of_previous (Some hash) = Bytes hash
 
 abbrev pub item_of_header : Header → Item
 item_of_header header =
-    array_of (Unsigned header.number ∷ Unsigned header.slot ∷ item_of_previous header.previous ∷ Bytes header.body_hash ∷ [])
+    array_of (Unsigned header.number ∷ Unsigned header.slot ∷ item_of_previous header.previous
+    ∷ Bytes header.body_hash ∷ [])
 
 -- the array of the transactions
 abbrev pub item_of_transactions : List Transaction → Item
@@ -33,10 +35,10 @@ item_of_block block = array_of (item_of_header block.header ∷ item_of_transact
 
 -- numbers and slots are below 2 ^ 63, and hashes have 32 bytes
 pub record IsHeader (header : Header) : Type 0 where
-  pub number : header.number < 2 ^ 63
-  pub slot : header.slot < 2 ^ 63
-  pub previous : IfSome header.previous (λ hash. length hash ≡ 32)
-  pub body_hash : length header.body_hash ≡ 32
+  pub number : header.number < number_limit
+  pub slot : header.slot < number_limit
+  pub previous : IfSome header.previous (λ hash. length hash ≡ hash_size)
+  pub body_hash : length header.body_hash ≡ hash_size
 
 pub record IsBlock (block : Block) : Type 0 where
   pub header : IsHeader block.header

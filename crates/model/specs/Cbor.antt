@@ -1,11 +1,13 @@
 -- Deterministic CBOR (RFC 8949, 4.2.1), as far as blocks and transactions use it: unsigned and negative
 -- numbers, byte strings, arrays, maps and null. Each item has one text.
-use Rattle.std.specs.Prelude.{◌≡◌, ℕ, suc, ◌+◌, ◌*◌, ◌^◌, ◌<◌, ◌≤◌, max, List, [], ◌∷◌, ◌++◌, length, nat_lt, if◌then◌else◌}
+use Rattle.std.specs.Prelude.{◌≡◌, ℕ, suc, ◌+◌, ◌*◌, ◌^◌, ◌<◌, ◌≤◌, max, List, [], ◌∷◌, ◌++◌, length, nat_lt}
+use Rattle.std.specs.Prelude.{if◌then◌else◌}
 use Rattle.std.specs.Int.{w16, w32, w64, to_be_bytes}
 use Rattle.std.specs.List.{AllByRecursion}
 use Rattle.std.specs.Ordering.{nat_cmp}
 use Rattle.std.specs.declared.cmp.Ordering.TheVariants.{Less}
 use Rattle.std.specs.Cmp.Lexicographic.{slice_cmp}
+use Rattle.model.specs.Limits.{nesting_limit}
 
 mutual
   -- an item (RFC 8949, 3.1); `Negative n` stands for -1 - n
@@ -138,13 +140,14 @@ abbrev mutual
 
   pub PairsHaveRisingKeys : Pairs → Type 0
   PairsHaveRisingKeys NoPairs = Unit {0}
-  PairsHaveRisingKeys (NextPair k v ps) = HasRisingKeys k × HasRisingKeys v × IsBeforeFirst k ps × PairsHaveRisingKeys ps
+  PairsHaveRisingKeys (NextPair k v ps) = HasRisingKeys k × HasRisingKeys v × IsBeforeFirst k ps
+      × PairsHaveRisingKeys ps
 
--- which items have a text: no item nests deeper than 64 (this project's own)
+-- which items have a text: none nests deeper than the limit (this project's own)
 pub record HasText (item : Item) : Type 0 where
   pub in_range : IsInRange item
   pub rising : HasRisingKeys item
-  pub nests : nesting item ≤ 64
+  pub nests : nesting item ≤ nesting_limit
 
 -- the bytes are the one text of the item
 pub record Spells (item : Item) (bytes : List ℕ) : Type 0 where

@@ -1,10 +1,12 @@
 -- Valid chains, the immutable part, candidates and the selection rule (the Consensus and Storage Layer
 -- report, chain selection and the chain database).
-use Rattle.std.specs.Prelude.{◌≡◌, ◌≢◌, ℕ, ◌+◌, ◌-◌, ◌≤◌, ◌<◌, List, [], ◌∷◌, length, take, filter, nat_lt, Contains, Option, Some, None, IsSome, option_and_then, unwrap_or, replicate}
+use Rattle.std.specs.Prelude.{◌≡◌, ◌≢◌, ℕ, ◌+◌, ◌-◌, ◌≤◌, ◌<◌, List, [], ◌∷◌, length, take, filter, nat_lt, Contains}
+use Rattle.std.specs.Prelude.{Option, Some, None, IsSome, option_and_then, unwrap_or, replicate}
 use Rattle.std.specs.List.{AllByRecursion}
 use Rattle.std.specs.Ordering.{nat_cmp}
 use Rattle.std.specs.declared.cmp.Ordering.TheVariants.{Greater}
 use Rattle.std.specs.Cmp.Lexicographic.{slice_cmp}
+use Rattle.model.specs.Limits.{hash_size}
 use Rattle.model.specs.Transaction.{Transaction, Input, Output}
 use Rattle.model.specs.Block.{Block, block_hash_of, body_size_of}
 
@@ -116,10 +118,10 @@ pub record Point : Type 0 where
   pub hash : List ℕ
 
 -- where a chain ends, as a point
-abbrev pub point_of : List Block → Point
-point_of chain = record {
+abbrev pub tip_point : List Block → Point
+tip_point chain = record {
   number = (tip_after genesis_tip chain).number;
-  hash = unwrap_or (tip_after genesis_tip chain).hash (replicate 32 0);
+  hash = unwrap_or (tip_after genesis_tip chain).hash (replicate hash_size 0);
 }
 
 -- the longest candidate, and of several the one whose last block has the least hash, compared as bytes
@@ -130,7 +132,11 @@ pub record IsChosen (genesis : Genesis) (kept selected chosen : List Block) : Ty
   pub least : (other : List Block) → IsCandidate genesis kept selected other → length other ≡ length chosen
       → slice_cmp nat_cmp (tip_hash chosen) (tip_hash other) ≢ Greater
 
--- the selection rule: the chain stays where no candidate is longer, and else becomes the chosen one
+-- SELECTION RULE (the Consensus and Storage Layer report, chain selection; the tie is this project's own).
+-- It is asked anew after each block that is kept, over all kept blocks. Candidates are the valid chains of these
+-- through
+-- the immutable tip: where none is longer than the selected chain that stays, and else it becomes the longest one, of
+-- several the one with the least hash at its end.
 pub data IsSelection (genesis : Genesis) (kept selected : List Block) : List Block → Type 0 where
   Stays : NoneLonger genesis kept selected → IsSelection genesis kept selected selected
   Changes : (chosen : List Block) → IsChosen genesis kept selected chosen → IsSelection genesis kept selected chosen

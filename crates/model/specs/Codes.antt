@@ -1,18 +1,23 @@
--- Codes of the definitions' values, each a one to one map into trees of numbers, so that a value can be what a type stands for.
--- Those of recursive data are read back from the tree; those of records are the codes of their fields.
+-- THIS FILE MAY BE SKIPPED: it defines nothing that the node means. A type of the code can stand for a value only if
+-- that
+-- value has a code, a one to one map into trees of numbers; here are these codes, each with its proof that it is one to
+-- one. Those of recursive data are read back from the tree; those of records are the codes of their fields.
 use Rattle.std.specs.Prelude.{◌≡◌, ◌⊎◌, ℕ, zero, suc, List, [], ◌∷◌, Option}
 use mathlib.Core.Path.{refl, sym, ap, ◌∙◌}
 use mathlib.Core.Logic.{inl, inr}
 use base.Stored.{Gv, gnil, gnum, gcons, num}
 use Rattle.std.specs.Coded.{Coded, coded_ℕ, coded_ℤ, coded_list, coded×, coded⊎, coded_option, code_by}
-use Rattle.model.specs.Cbor.{Item, Items, Pairs, Unsigned, Negative, Bytes, Array, Map, Null, NoItems, NextItem, NoPairs, NextPair}
+use Rattle.model.specs.Cbor.{Item, Items, Pairs, Unsigned, Negative, Bytes, Array, Map, Null, NoItems, NextItem}
+use Rattle.model.specs.Cbor.{NoPairs, NextPair}
 use Rattle.model.specs.Value.{Token, Policy, Value, Mint}
-use Rattle.model.specs.Script.{Script, Scripts, RequireSignature, RequireAllOf, RequireAnyOf, RequireMOf, RequireTimeStart, RequireTimeExpire, NoScripts, NextScript}
+use Rattle.model.specs.Script.{Script, Scripts, RequireSignature, RequireAllOf, RequireAnyOf, RequireMOf}
+use Rattle.model.specs.Script.{RequireTimeStart, RequireTimeExpire, NoScripts, NextScript}
 use Rattle.model.specs.Transaction.{Credential, KeyHash, ScriptHash, Address, Input, Output, KeyWitness, Transaction}
 use Rattle.model.specs.Block.{Header, Block}
 use Rattle.model.specs.Chain.{Genesis, Ledger, Tip}
 use Rattle.model.specs.Follower.{Followers}
-use Rattle.model.specs.History.{State, Refusal, TooLarge, Malformed, BodyHashMismatch, TooOld, Known, Clash, VolatileFull, number_of}
+use Rattle.model.specs.History.{State, Refusal, TooLarge, Malformed, BodyHashMismatch, TooOld, Known, Clash}
+use Rattle.model.specs.History.{VolatileFull, refusal_number}
 
 -- ---- bytes
 
@@ -143,7 +148,8 @@ abbrev mutual
   script_from (gnum n) = RequireTimeStart 0
   script_from (gcons gnil scripts) = RequireTimeStart 0
   script_from (gcons (gnum n) scripts) = RequireTimeStart 0
-  script_from (gcons (gcons kind rest) scripts) = script_of_kind (num kind) (num rest) (bytes_from rest) (scripts_from scripts)
+  script_from (gcons (gcons kind rest) scripts) = script_of_kind (num kind) (num rest) (bytes_from rest)
+      (scripts_from scripts)
 
   pub scripts_from : Gv → Scripts
   scripts_from gnil = NoScripts
@@ -169,24 +175,31 @@ abbrev pub coded_script : Coded Script
 coded_script = record { code = tree_of_script; inj = λ a b e. sym (script_back a) ∙ ap script_from e ∙ script_back b }
 
 abbrev pub coded_scripts : Coded Scripts
-coded_scripts = record { code = tree_of_scripts; inj = λ a b e. sym (scripts_back a) ∙ ap scripts_from e ∙ scripts_back b }
+coded_scripts = record {
+  code = tree_of_scripts;
+  inj = λ a b e. sym
+      (scripts_back a) ∙ ap scripts_from e ∙ scripts_back b;
+}
 
 -- ---- values
 
 -- an asset with its quantity
 abbrev pub coded_token : {Q : Type 0} → Coded Q → Coded (Token Q)
 coded_token {Q} quantity =
-    code_by (List ℕ × Q) (coded× coded_bytes quantity) (λ t. (t.name, t.quantity)) (λ p. record { name = p.0; quantity = p.1 }) (λ _. refl)
+    code_by (List ℕ × Q) (coded× coded_bytes quantity) (λ t. (t.name, t.quantity))
+    (λ p. record { name = p.0; quantity = p.1 }) (λ _. refl)
 
 -- the assets of one policy
 abbrev pub coded_policy : {Q : Type 0} → Coded Q → Coded (Policy Q)
 coded_policy {Q} quantity =
-    code_by (List ℕ × List (Token Q)) (coded× coded_bytes (coded_list (coded_token quantity))) (λ p. (p.id, p.tokens)) (λ p. record { id = p.0; tokens = p.1 }) (λ _. refl)
+    code_by (List ℕ × List (Token Q)) (coded× coded_bytes (coded_list (coded_token quantity))) (λ p. (p.id, p.tokens))
+    (λ p. record { id = p.0; tokens = p.1 }) (λ _. refl)
 
 -- what an output holds
 abbrev pub coded_value : Coded Value
 coded_value =
-    code_by (ℕ × List (Policy ℕ)) (coded× coded_ℕ (coded_list (coded_policy coded_ℕ))) (λ v. (v.coin, v.assets)) (λ p. record { coin = p.0; assets = p.1 }) (λ _. refl)
+    code_by (ℕ × List (Policy ℕ)) (coded× coded_ℕ (coded_list (coded_policy coded_ℕ))) (λ v. (v.coin, v.assets))
+    (λ p. record { coin = p.0; assets = p.1 }) (λ _. refl)
 
 -- what a transaction makes or takes away
 abbrev pub coded_mint : Coded Mint
@@ -211,36 +224,43 @@ credential_back (ScriptHash hash) = refl
 
 -- what unlocks an output
 abbrev pub coded_credential : Coded Credential
-coded_credential = code_by (List ℕ ⊎ List ℕ) (coded⊎ coded_bytes coded_bytes) hash_of_credential credential_of_hash credential_back
+coded_credential = code_by (List ℕ
+    ⊎ List ℕ) (coded⊎ coded_bytes coded_bytes) hash_of_credential credential_of_hash credential_back
 
 -- an address
 abbrev pub coded_address : Coded Address
 coded_address =
-    code_by (ℕ × Credential) (coded× coded_ℕ coded_credential) (λ a. (a.network, a.payment)) (λ p. record { network = p.0; payment = p.1 }) (λ _. refl)
+    code_by (ℕ × Credential) (coded× coded_ℕ coded_credential) (λ a. (a.network, a.payment))
+    (λ p. record { network = p.0; payment = p.1 }) (λ _. refl)
 
 -- an output of an earlier transaction
 abbrev pub coded_input : Coded Input
 coded_input =
-    code_by (List ℕ × ℕ) (coded× coded_bytes coded_ℕ) (λ i. (i.transaction, i.index)) (λ p. record { transaction = p.0; index = p.1 }) (λ _. refl)
+    code_by (List ℕ × ℕ) (coded× coded_bytes coded_ℕ) (λ i. (i.transaction, i.index))
+    (λ p. record { transaction = p.0; index = p.1 }) (λ _. refl)
 
 -- an output
 abbrev pub coded_output : Coded Output
 coded_output =
-    code_by (Address × Value) (coded× coded_address coded_value) (λ o. (o.address, o.value)) (λ p. record { address = p.0; value = p.1 }) (λ _. refl)
+    code_by (Address × Value) (coded× coded_address coded_value) (λ o. (o.address, o.value))
+    (λ p. record { address = p.0; value = p.1 }) (λ _. refl)
 
 -- a key and its signature
 abbrev pub coded_key_witness : Coded KeyWitness
 coded_key_witness =
-    code_by (List ℕ × List ℕ) (coded× coded_bytes coded_bytes) (λ w. (w.key, w.signature)) (λ p. record { key = p.0; signature = p.1 }) (λ _. refl)
+    code_by (List ℕ × List ℕ) (coded× coded_bytes coded_bytes) (λ w. (w.key, w.signature))
+    (λ p. record { key = p.0; signature = p.1 }) (λ _. refl)
 
 -- the fields of a transaction, as pairs
 abbrev pub TransactionFields : Type 0
-TransactionFields = List Input × (List Output × (ℕ × (Option ℕ × (Option ℕ × (Mint × (List KeyWitness × List Script))))))
+TransactionFields = List Input × (List Output × (ℕ × (Option ℕ
+    × (Option ℕ × (Mint × (List KeyWitness × List Script))))))
 
 -- those fields
 abbrev pub coded_transaction_fields : Coded TransactionFields
 coded_transaction_fields =
-    coded× (coded_list coded_input) (coded× (coded_list coded_output) (coded× coded_ℕ (coded× (coded_option coded_ℕ) (coded× (coded_option coded_ℕ)
+    coded× (coded_list coded_input) (coded× (coded_list coded_output)
+    (coded× coded_ℕ (coded× (coded_option coded_ℕ) (coded× (coded_option coded_ℕ)
     (coded× coded_mint (coded× (coded_list coded_key_witness) (coded_list coded_script)))))))
 
 -- a transaction
@@ -256,7 +276,8 @@ coded_transaction =
 -- a header
 abbrev pub coded_header : Coded Header
 coded_header =
-    code_by (ℕ × (ℕ × (Option (List ℕ) × List ℕ))) (coded× coded_ℕ (coded× coded_ℕ (coded× (coded_option coded_bytes) coded_bytes)))
+    code_by (ℕ × (ℕ × (Option (List ℕ)
+    × List ℕ))) (coded× coded_ℕ (coded× coded_ℕ (coded× (coded_option coded_bytes) coded_bytes)))
     (λ h. (h.number, (h.slot, (h.previous, h.body_hash))))
     (λ p. record { number = p.0; slot = p.1.0; previous = p.1.1.0; body_hash = p.1.1.1 })
     (λ _. refl)
@@ -264,7 +285,8 @@ coded_header =
 -- a block
 abbrev pub coded_block : Coded Block
 coded_block =
-    code_by (Header × List Transaction) (coded× coded_header (coded_list coded_transaction)) (λ b. (b.header, b.transactions)) (λ p. record { header = p.0; transactions = p.1 }) (λ _. refl)
+    code_by (Header × List Transaction) (coded× coded_header (coded_list coded_transaction))
+    (λ b. (b.header, b.transactions)) (λ p. record { header = p.0; transactions = p.1 }) (λ _. refl)
 
 -- ---- chains and histories
 
@@ -279,7 +301,9 @@ coded_genesis =
 -- the unspent outputs, and the fees so far
 abbrev pub coded_ledger : Coded Ledger
 coded_ledger =
-    code_by (List (Input × Output) × ℕ) (coded× (coded_list (coded× coded_input coded_output)) coded_ℕ) (λ l. (l.utxo, l.fees)) (λ p. record { utxo = p.0; fees = p.1 }) (λ _. refl)
+    code_by (List (Input × Output)
+    × ℕ) (coded× (coded_list (coded× coded_input coded_output)) coded_ℕ) (λ l. (l.utxo, l.fees))
+    (λ p. record { utxo = p.0; fees = p.1 }) (λ _. refl)
 
 -- where a chain ends
 abbrev pub coded_tip : Coded Tip
@@ -292,22 +316,24 @@ coded_tip =
 -- what is kept, the selected chain, and the followers
 abbrev pub coded_state : Coded State
 coded_state =
-    code_by (List Block × (List Block × Followers)) (coded× (coded_list coded_block) (coded× (coded_list coded_block) (coded_list (coded_option (coded_list coded_block)))))
+    code_by (List Block × (List Block
+    × Followers)) (coded× (coded_list coded_block) (coded× (coded_list coded_block)
+    (coded_list (coded_option (coded_list coded_block)))))
     (λ s. (s.kept, (s.chain, s.followers))) (λ p. record { kept = p.0; chain = p.1.0; followers = p.1.1 }) (λ _. refl)
 
 -- the refusal of a number
-abbrev pub refusal_of : ℕ → Refusal
-refusal_of zero = TooLarge
-refusal_of (suc zero) = TooLarge
-refusal_of (suc (suc zero)) = Malformed
-refusal_of (suc (suc (suc zero))) = BodyHashMismatch
-refusal_of (suc (suc (suc (suc zero)))) = TooOld
-refusal_of (suc (suc (suc (suc (suc zero))))) = Known
-refusal_of (suc (suc (suc (suc (suc (suc zero)))))) = Clash
-refusal_of (suc (suc (suc (suc (suc (suc (suc n))))))) = VolatileFull
+abbrev pub refusal_at : ℕ → Refusal
+refusal_at zero = TooLarge
+refusal_at (suc zero) = TooLarge
+refusal_at (suc (suc zero)) = Malformed
+refusal_at (suc (suc (suc zero))) = BodyHashMismatch
+refusal_at (suc (suc (suc (suc zero)))) = TooOld
+refusal_at (suc (suc (suc (suc (suc zero))))) = Known
+refusal_at (suc (suc (suc (suc (suc (suc zero)))))) = Clash
+refusal_at (suc (suc (suc (suc (suc (suc (suc n))))))) = VolatileFull
 
 -- a refusal comes back from its number
-pub refusal_back : (r : Refusal) → refusal_of (number_of r) ≡ r
+pub refusal_back : (r : Refusal) → refusal_at (refusal_number r) ≡ r
 refusal_back TooLarge = refl
 refusal_back Malformed = refl
 refusal_back BodyHashMismatch = refl
@@ -318,4 +344,4 @@ refusal_back VolatileFull = refl
 
 -- why bytes are refused
 abbrev pub coded_refusal : Coded Refusal
-coded_refusal = code_by ℕ coded_ℕ number_of refusal_of refusal_back
+coded_refusal = code_by ℕ coded_ℕ refusal_number refusal_at refusal_back

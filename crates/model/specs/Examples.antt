@@ -29,7 +29,8 @@ first_header body_hash = record { number = 1; slot = 1; previous = None; body_ha
 
 -- a header that names a block before it
 abbrev pub later_header : ℕ → ℕ → List ℕ → List ℕ → Header
-later_header number slot previous body_hash = record { number = number; slot = slot; previous = Some previous; body_hash = body_hash }
+later_header number slot previous body_hash =
+    record { number = number; slot = slot; previous = Some previous; body_hash = body_hash }
 
 -- the block of this header that holds no transaction
 abbrev pub empty_block : Header → Block

@@ -1,16 +1,13 @@
 -- Followers: clients that are told the selected chain, block by block (the Consensus and Storage Layer
 -- report, followers). What is promised of an instruction so far is `MayBeTold` alone.
-use Rattle.std.specs.Prelude.{◌≡◌, ℕ, suc, ◌⊎◌, List, [], ◌∷◌, ◌++◌, take, Option, Some, None, slice_get, unwrap_or}
-use Rattle.model.specs.Block.{Block, IsReadAs}
-use Rattle.model.specs.Chain.{Point, point_of, BeginsWith}
+use Rattle.std.specs.Prelude.{◌≡◌, ℕ, suc, ◌⊎◌, List, [], ◌∷◌, ◌++◌, length, take, Option, Some, None, slice_get}
+use Rattle.std.specs.Prelude.{unwrap_or}
+use Rattle.model.specs.Block.{Block, IsReadAs, block_text}
+use Rattle.model.specs.Chain.{Point, tip_point, BeginsWith}
 
 -- for each number the chain that its follower was told, and None where no follower of that number is open
 abbrev pub Followers : Type 0
 Followers = List (Option (List Block))
-
--- how many followers may be open (this project's own)
-abbrev pub follower_limit : ℕ
-follower_limit = 1024
 
 -- the chain that the follower of this number was told, if it is open
 abbrev pub told_by : Followers → ℕ → Option (List Block)
@@ -38,10 +35,22 @@ pub data Instruction : Type 0 where
 abbrev pub IsReplayed : List Block → Instruction → List Block → Type 0
 IsReplayed old Stay new = new ≡ old
 IsReplayed old (AddBlock bytes) new = (b : Block) × IsReadAs b bytes × (new ≡ old ++ b ∷ [])
-IsReplayed old (RollBack point) new = (new ≡ take point.number old) × (point_of new ≡ point)
+IsReplayed old (RollBack point) new = (new ≡ take point.number old) × (tip_point new ≡ point)
 
 -- Where the chain is selected, a follower that was told the one chain may get this instruction, and has then
 -- been told the other: it was told nothing else, or what is a beginning of the selected chain.
 pub record MayBeTold (selected old : List Block) (instruction : Instruction) (new : List Block) : Type 0 where
   pub replayed : IsReplayed old instruction new
   pub told : (new ≡ old) ⊎ BeginsWith selected new
+
+-- What is told is a proper beginning of the selected chain, and this block comes next.
+pub record IsDue (selected told : List Block) (b : Block) : Type 0 where
+  pub begins : BeginsWith selected told
+  pub next : slice_get selected (length told) ≡ Some b
+
+-- Which instruction a follower gets today that was told these blocks: to put on the block that is due, and none where
+-- no block is due. A follower whose chain was abandoned stays where it is.
+abbrev pub IsNextInstruction : List Block → List Block → Instruction → Type 0
+IsNextInstruction selected told Stay = (b : Block) → IsDue selected told b → ⊥
+IsNextInstruction selected told (AddBlock bytes) = (b : Block) × IsDue selected told b × (bytes ≡ block_text b)
+IsNextInstruction selected told (RollBack point) = ⊥

@@ -1,9 +1,11 @@
 -- Histories: which bytes arrived, what was answered, and what is then kept and selected (this project's
 -- own, over the Consensus and Storage Layer report's rules).
-use Rattle.std.specs.Prelude.{◌≡◌, ◌≢◌, ◌++◌, ℕ, ◌+◌, ◌-◌, ◌≤◌, ◌<◌, ◌⊎◌, List, [], ◌∷◌, length, take, Contains, Some, None, slice_set}
+use Rattle.std.specs.Prelude.{◌≡◌, ◌≢◌, ◌++◌, ℕ, ◌+◌, ◌-◌, ◌≤◌, ◌<◌, ◌⊎◌, List, [], ◌∷◌, length, take, Contains, Some}
+use Rattle.std.specs.Prelude.{None, slice_set}
 use Rattle.model.specs.Block.{Block, IsReadAs, block_text, block_hash_of, body_hash_of}
-use Rattle.model.specs.Chain.{Genesis, immutable_length, live_blocks, IsSelection, BeginsWith}
-use Rattle.model.specs.Follower.{Followers, Instruction, follower_limit, told_by, free_id, with_opened, MayBeTold}
+use Rattle.model.specs.Chain.{Genesis, immutable_length, live_blocks, IsSelection, BeginsWith, IsValidChain, NoneLonger}
+use Rattle.model.specs.Limits.{block_size_limit, follower_limit}
+use Rattle.model.specs.Follower.{Followers, Instruction, told_by, free_id, with_opened, MayBeTold}
 
 -- the blocks that were kept, the newest first; the selected chain, its first block first; and the open
 -- followers
@@ -27,14 +29,14 @@ pub data Refusal : Type 0 where
   Clash : Refusal
   VolatileFull : Refusal
 
-abbrev pub number_of : Refusal → ℕ
-number_of TooLarge = 1
-number_of Malformed = 2
-number_of BodyHashMismatch = 3
-number_of TooOld = 4
-number_of Known = 5
-number_of Clash = 6
-number_of VolatileFull = 7
+abbrev pub refusal_number : Refusal → ℕ
+refusal_number TooLarge = 1
+refusal_number Malformed = 2
+refusal_number BodyHashMismatch = 3
+refusal_number TooOld = 4
+refusal_number Known = 5
+refusal_number Clash = 6
+refusal_number VolatileFull = 7
 
 -- the bytes are read as a block that has this property
 abbrev pub IsBlockWith : List ℕ → (Block → Type 0) → Type 0
@@ -45,18 +47,20 @@ live_of genesis s = live_blocks genesis s.kept s.chain
 
 -- the condition of each refusal
 abbrev pub Applies : Genesis → State → List ℕ → Refusal → Type 0
-Applies genesis s bytes TooLarge = 1048576 < length bytes
+Applies genesis s bytes TooLarge = block_size_limit < length bytes
 Applies genesis s bytes Malformed = (b : Block) → IsReadAs b bytes → ⊥
 Applies genesis s bytes BodyHashMismatch = IsBlockWith bytes (λ b. b.header.body_hash ≢ body_hash_of b.transactions)
 Applies genesis s bytes TooOld = IsBlockWith bytes (λ b. b.header.number ≤ immutable_length genesis s.chain)
 Applies genesis s bytes Known = (b : Block) × Contains (live_of genesis s) b × (block_text b ≡ bytes)
-Applies genesis s bytes Clash = IsBlockWith bytes (λ b. (c : Block) × (Contains (live_of genesis s) c ⊎ Contains s.chain c) × (block_hash_of c ≡ block_hash_of b) × (block_text c ≢ bytes))
+Applies genesis s bytes Clash = IsBlockWith bytes (λ b. (c : Block)
+    × (Contains (live_of genesis s) c ⊎ Contains s.chain c) × (block_hash_of c ≡ block_hash_of b)
+    × (block_text c ≢ bytes))
 Applies genesis s bytes VolatileFull = genesis.max_volatile ≤ length (live_of genesis s)
 
 -- the first refusal that applies
 pub record IsRefused (genesis : Genesis) (s : State) (bytes : List ℕ) (refusal : Refusal) : Type 0 where
   pub applies : Applies genesis s bytes refusal
-  pub first : (other : Refusal) → number_of other < number_of refusal → Applies genesis s bytes other → ⊥
+  pub first : (other : Refusal) → refusal_number other < refusal_number refusal → Applies genesis s bytes other → ⊥
 
 -- ---- steps
 
@@ -92,7 +96,10 @@ pub record IsChange (old new : List Block) (back added : ℕ) : Type 0 where
   pub left : back + common ≡ length old
   pub put_on : added + common ≡ length new
 
--- the bytes are read as a block that is kept, and the chain is then selected anew
+-- RULE OF A KEPT BLOCK (the report, addition of a block to the chain database).
+-- Bytes are kept where they are read as a block and no refusal applies. The block joins the kept ones, the selection
+-- rule
+-- then says which chain is selected, and the reply counts the blocks rolled back and put on. Followers are told later.
 pub record Keeps (genesis : Genesis) (s : State) (bytes : List ℕ) (back added : ℕ) (t : State) : Type 0 where
   pub block : Block
   pub read : IsReadAs block bytes
@@ -116,8 +123,10 @@ pub record Instructs (s : State) (id : ℕ) (instruction : Instruction) (t : Sta
   pub told : MayBeTold s.chain before instruction now
   pub after : t ≡ record { kept = s.kept; chain = s.chain; followers = slice_set s.followers id (Some now) }
 
--- from one state an event may be answered so, and leave the other. What is refused changes nothing, nor
--- does want of memory
+-- STEP RULE (this project's own, over the report's interface of the chain database).
+-- From one state an event may be answered so, and leave the other; each kind of event has its own replies. What is
+-- refused
+-- changes nothing, nor does want of memory, which may be answered to any event.
 abbrev pub Step : Genesis → State → Event → Reply → State → Type 0
 Step genesis s (Arrive bytes) (Kept back added) t = Keeps genesis s bytes back added t
 Step genesis s (Arrive bytes) (Refused refusal) t = IsRefused genesis s bytes refusal × (t ≡ s)
@@ -176,3 +185,14 @@ pub record WasSelected (genesis : Genesis) (history : List Entry) (chain : List 
   pub state : State
   pub legal : IsLegal genesis past state
   pub begins : BeginsWith state.chain chain
+
+-- ---- the chain theorem
+
+-- The history is legal and leaves this state; the selected chain is valid; no valid chain of kept blocks through the
+-- immutable tip is longer; and what each follower was told is the beginning of a chain that was selected at some time
+-- of the history.
+pub record ChainTheorem (genesis : Genesis) (history : List Entry) (state : State) : Type 0 where
+  pub legal : IsLegal genesis history state
+  pub valid : IsValidChain genesis state.chain
+  pub longest : NoneLonger genesis state.kept state.chain
+  pub told : (id : ℕ) (told : List Block) → told_by state.followers id ≡ Some told → WasSelected genesis history told

@@ -1,3 +1,4 @@
+pub mod Limits
 pub mod Cbor
 pub mod Value
 pub mod Script

@@ -1,6 +1,7 @@
 -- Native scripts (Shelley-MA, multi-signature and time locks).
 use Rattle.std.specs.Prelude.{◌≡◌, ℕ, List, [], ◌∷◌, length}
 use Rattle.sha2.specs.Sha256.{sha256}
+use Rattle.model.specs.Limits.{hash_size}
 use Rattle.model.specs.Cbor.{Item, Items, Unsigned, Bytes, Array, NoItems, NextItem, array_of, text_of, Spells}
 
 mutual
@@ -36,7 +37,7 @@ abbrev mutual
 -- each key hash has 32 bytes
 abbrev mutual
   pub IsScript : Script → Type 0
-  IsScript (RequireSignature hash) = length hash ≡ 32
+  IsScript (RequireSignature hash) = length hash ≡ hash_size
   IsScript (RequireAllOf ss) = AreScripts ss
   IsScript (RequireAnyOf ss) = AreScripts ss
   IsScript (RequireMOf n ss) = AreScripts ss

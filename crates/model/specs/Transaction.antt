@@ -6,6 +6,7 @@ use Rattle.std.specs.Ordering.{nat_cmp, ordering_then}
 use Rattle.std.specs.declared.cmp.Ordering.{Ordering}
 use Rattle.std.specs.Cmp.Lexicographic.{slice_cmp}
 use Rattle.sha2.specs.Sha256.{sha256}
+use Rattle.model.specs.Limits.{hash_size}
 use Rattle.model.specs.Cbor.{Item, Unsigned, Bytes, Null, array_of, map_of, text_of, Spells}
 use Rattle.model.specs.Value.{Value, Mint, item_of_value, item_of_assets, item_of_number, IsValue, IsMint}
 use Rattle.model.specs.Script.{Script, item_of_script, IsScript, script_hash_of}
@@ -95,10 +96,10 @@ payment_hash (ScriptHash hash) = hash
 
 pub record IsAddress (address : Address) : Type 0 where
   pub network : address.network < 16
-  pub hash : length (payment_hash address.payment) ≡ 32
+  pub hash : length (payment_hash address.payment) ≡ hash_size
 
 pub record IsInput (input : Input) : Type 0 where
-  pub transaction : length input.transaction ≡ 32
+  pub transaction : length input.transaction ≡ hash_size
   pub index : input.index ≤ 65535
 
 pub record IsOutput (output : Output) : Type 0 where
@@ -106,7 +107,7 @@ pub record IsOutput (output : Output) : Type 0 where
   pub value : IsValue output.value
 
 pub record IsKeyWitness (witness : KeyWitness) : Type 0 where
-  pub key : length witness.key ≡ 32
+  pub key : length witness.key ≡ hash_size
   pub signature : length witness.signature ≡ 64
 
 -- by the bytes of the transaction's identifier, then by the index

@@ -1,6 +1,8 @@
 -- Values of several assets (Shelley-MA, the coin and the asset maps of outputs and of mint).
-use Rattle.std.specs.Prelude.{◌≡◌, ◌≢◌, ℕ, ◌≤◌, ◌<◌, ◌^◌, ℤ, pos, negsuc, ◌+ℤ◌, List, [], ◌∷◌, length, map, bytes_eq, if◌then◌else◌}
+use Rattle.std.specs.Prelude.{◌≡◌, ◌≢◌, ℕ, ◌≤◌, ◌<◌, ℤ, pos, negsuc, ◌+ℤ◌, List, [], ◌∷◌, length, map, bytes_eq}
+use Rattle.std.specs.Prelude.{if◌then◌else◌}
 use Rattle.std.specs.List.{AllByRecursion}
+use Rattle.model.specs.Limits.{hash_size, name_size_limit, number_limit}
 use Rattle.model.specs.Cbor.{Item, Unsigned, Negative, Bytes, array_of, map_of, Spells}
 
 -- an asset name, 0 to 32 bytes, with its quantity
@@ -48,9 +50,9 @@ item_of_value value = coin_with value.coin value.assets
 -- names of at most 32 bytes, identifiers of 32, and no policy without an asset. That names and
 -- policies rise is said by the item, whose keys they are.
 pub record IsPolicy {Q : Type 0} (IsQuantity : Q → Type 0) (policy : Policy Q) : Type 0 where
-  pub id : length policy.id ≡ 32
+  pub id : length policy.id ≡ hash_size
   pub not_empty : policy.tokens ≢ []
-  pub tokens : AllByRecursion (λ token. (length token.name ≤ 32) × IsQuantity token.quantity) policy.tokens
+  pub tokens : AllByRecursion (λ token. (length token.name ≤ name_size_limit) × IsQuantity token.quantity) policy.tokens
 
 -- quantities of an output are 1 to 2 ^ 64 - 1, of which the item says the upper bound
 abbrev pub IsValue : Value → Type 0
@@ -58,8 +60,8 @@ IsValue value = AllByRecursion (IsPolicy (λ q. q ≢ 0)) value.assets
 
 -- a minted quantity is -2 ^ 63 to 2 ^ 63 - 1, and not 0
 abbrev pub IsMintedQuantity : ℤ → Type 0
-IsMintedQuantity (pos n) = (n ≢ 0) × (n < 2 ^ 63)
-IsMintedQuantity (negsuc n) = n < 2 ^ 63
+IsMintedQuantity (pos n) = (n ≢ 0) × (n < number_limit)
+IsMintedQuantity (negsuc n) = n < number_limit
 
 abbrev pub IsMint : Mint → Type 0
 IsMint mint = AllByRecursion (IsPolicy IsMintedQuantity) mint
@@ -85,12 +87,14 @@ pub data Asset : Type 0 where
 -- what there is under a name, each quantity read as a whole number: 0 where there is none
 abbrev pub named_amount : {Q : Type 0} → (Q → ℤ) → List ℕ → List (Token Q) → ℤ
 named_amount whole name [] = pos 0
-named_amount whole name (t ∷ ts) = (if bytes_eq name t.name then whole t.quantity else pos 0) +ℤ named_amount whole name ts
+named_amount whole name (t ∷ ts) =
+    (if bytes_eq name t.name then whole t.quantity else pos 0) +ℤ named_amount whole name ts
 
 -- what there is under a name of a policy
 abbrev pub policy_amount : {Q : Type 0} → (Q → ℤ) → (policy name : List ℕ) → List (Policy Q) → ℤ
 policy_amount whole policy name [] = pos 0
-policy_amount whole policy name (p ∷ ps) = (if bytes_eq policy p.id then named_amount whole name p.tokens else pos 0) +ℤ policy_amount whole policy name ps
+policy_amount whole policy name (p ∷ ps) =
+    (if bytes_eq policy p.id then named_amount whole name p.tokens else pos 0) +ℤ policy_amount whole policy name ps
 
 -- how much of an asset is held, ada counted in lovelace
 abbrev pub amount_of : Asset → Value → ℤ

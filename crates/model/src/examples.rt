@@ -4,7 +4,8 @@ ghost use Rattle.std.specs.List.{AllByRecursion};
 ghost use Rattle.model.specs.Cbor.{Item, Unsigned, Negative, Null, text_of, Spells};
 ghost use Rattle.model.specs.Script.{Script, RequireTimeStart, SpellsScript};
 ghost use Rattle.model.specs.Block.{item_of_header, block_text, SpellsBlock};
-ghost use Rattle.model.specs.Examples.{small_map, nested, nested_script, nested_script_text, first_header, later_header, empty_block};
+ghost use Rattle.model.specs.Examples.{small_map, nested, nested_script, nested_script_text, first_header};
+ghost use Rattle.model.specs.Examples.{later_header, empty_block};
 
 /// Numbers and null.
 pub fn texts_of_numbers()
@@ -46,16 +47,20 @@ pub fn texts_of_scripts()
 
 /// The header of a first block, and the block without transactions.
 pub fn texts_of_first_blocks()
-    ensures header { (hash : List ℕ) → length hash ≡ 32 → text_of (item_of_header (first_header hash)) ≡ 0x84 ∷ 0x01 ∷ 0x01 ∷ 0xf6 ∷ 0x58 ∷ 0x20 ∷ hash }
+    ensures header { (hash : List ℕ) → length hash ≡ 32
+        → text_of (item_of_header (first_header hash)) ≡ 0x84 ∷ 0x01 ∷ 0x01 ∷ 0xf6 ∷ 0x58 ∷ 0x20 ∷ hash }
     ensures block { (hash : List ℕ) → length hash ≡ 32 → AllByRecursion (λ b. b < 256) hash
-        → SpellsBlock (empty_block (first_header hash)) (0x82 ∷ 0x84 ∷ 0x01 ∷ 0x01 ∷ 0xf6 ∷ 0x58 ∷ 0x20 ∷ (hash ++ 0x80 ∷ [])) }
+        → SpellsBlock (empty_block (first_header hash)) (0x82 ∷ 0x84 ∷ 0x01 ∷ 0x01 ∷ 0xf6 ∷ 0x58 ∷ 0x20 ∷ (hash
+        ++ 0x80 ∷ [])) }
     ensures bytes { (hash : List ℕ) → length hash ≡ 32 → length (block_text (empty_block (first_header hash))) ≡ 40 }
 {}
 
 /// How long a header is that names a block before it, and its block without transactions.
 pub fn lengths_of_later_blocks()
-    ensures header { (number slot : ℕ) (previous body_hash : List ℕ) → number < 24 → slot < 24 → length previous ≡ 32 → length body_hash ≡ 32
+    ensures header { (number slot : ℕ) (previous body_hash : List ℕ) → number < 24 → slot < 24 → length previous ≡ 32
+        → length body_hash ≡ 32
         → length (text_of (item_of_header (later_header number slot previous body_hash))) ≡ 71 }
-    ensures block { (number slot : ℕ) (previous body_hash : List ℕ) → number < 24 → slot < 24 → length previous ≡ 32 → length body_hash ≡ 32
+    ensures block { (number slot : ℕ) (previous body_hash : List ℕ) → number < 24 → slot < 24 → length previous ≡ 32
+        → length body_hash ≡ 32
         → length (block_text (empty_block (later_header number slot previous body_hash))) ≡ 73 }
 {}

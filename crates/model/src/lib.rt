@@ -13,9 +13,10 @@ pub use examples::{
     texts_of_numbers, texts_of_scripts,
 };
 pub use histories::{
-    change_counts, immutable_part_grows, kept_blocks, live_hashes_differ, one_selection, one_state,
-    selected_chain, told_chains,
+    chain_theorem, change_counts, immutable_part_grows, kept_blocks, live_hashes_differ,
+    one_selection, one_state, selected_chain, told_chains,
 };
 pub use texts::{
-    one_text_of_blocks, one_text_of_items, one_text_of_scripts, one_text_of_transactions,
+    one_text_of_blocks, one_text_of_items, one_text_of_mints, one_text_of_scripts,
+    one_text_of_transactions, one_text_of_values,
 };

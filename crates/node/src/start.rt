@@ -33,8 +33,10 @@ fn run_reader<R: Read, W: Write>(
     reader: &mut R,
     out: &mut W,
 ) -> Result<(), ScenarioFault>
-    ensures ok { OnOk result (IfSome (R.remaining reader.old) (λ text. EndsWell script_genesis text (W.contents out.old) (W.contents out.new))) }
-    ensures fault { IfErr result (λ why. IfSome (R.remaining reader.old) (λ text. EndsBySome text (W.contents out.old) (W.contents out.new) why)) }
+    ensures ok { OnOk result (IfSome (R.remaining reader.old)
+        (λ text. EndsWell script_genesis text (W.contents out.old) (W.contents out.new))) }
+    ensures fault { IfErr result (λ why. IfSome (R.remaining reader.old)
+        (λ text. EndsBySome text (W.contents out.old) (W.contents out.new) why)) }
 {
     let Ok(mut reader) = BufReader::new(alloc, reader) else {
         return Err(ScenarioFault::OutOfMemory);
@@ -48,10 +50,12 @@ fn run_file<'a, R: Files + AllocGlobal, W: Write>(
     path: &'a str,
     out: &mut W,
 ) -> Result<(), Failure<'a>> {
-    let Ok(mut file) = File::open(rt, path) else {
+    let Ok(file) = File::open(rt, path) else {
         return Err(Failure::CannotRead(path));
     };
-    match run_reader(rt.alloc(), &mut file, out) {
+    // One byte more than a script may have makes its line a bad one, so a line without end takes no more memory.
+    let mut script = file.take(scenario::MAX_SCRIPT_SIZE + 1);
+    match run_reader(rt.alloc(), &mut script, out) {
         Ok(()) => Ok(()),
         Err(fault) => Err(Failure::Scenario(fault)),
     }
@@ -60,9 +64,13 @@ fn run_file<'a, R: Files + AllocGlobal, W: Write>(
 /// Tells why a command line is no job, and answers the status.
 fn refuse<O: Write, E: Write>(error: &Error, out: &mut O, err: &mut E) -> u8
     ensures memory { kind_of error.now ≡ ErrorKind.OutOfMemory → result ≡ 1 }
-    ensures mistake { kind_of error.now ≢ ErrorKind.OutOfMemory → kind_of error.now ≢ ErrorKind.DisplayHelp → kind_of error.now ≢ ErrorKind.DisplayVersion → result ≡ 2 }
+    ensures mistake { kind_of error.now ≢ ErrorKind.OutOfMemory → kind_of error.now ≢ ErrorKind.DisplayHelp
+        → kind_of error.now ≢ ErrorKind.DisplayVersion → result ≡ 2 }
     ensures status { result ≤ 2 }
-    ensures never_done { result ≡ 0 → (kind_of error.now ≡ ErrorKind.DisplayHelp) ⊎ (kind_of error.now ≡ ErrorKind.DisplayVersion) }
+    ensures quiet { result ≡ 0 → err.new ≡ err.old }
+    ensures refused { result ≡ 2 → out.new ≡ out.old }
+    ensures never_done { result ≡ 0 → (kind_of error.now ≡ ErrorKind.DisplayHelp)
+        ⊎ (kind_of error.now ≡ ErrorKind.DisplayVersion) }
 {
     if error.kind() == ErrorKind::OutOfMemory {
         return fail(&ScenarioFault::OutOfMemory, err);
@@ -77,6 +85,27 @@ fn refuse<O: Write, E: Write>(error: &Error, out: &mut O, err: &mut E) -> u8
     }
 }
 
+/// Does a job, and answers the status: 0 where it was done, and else 1 with one line on standard error.
+fn do_job<R: Files + AllocGlobal, O: Write, E: Write>(
+    rt: &R,
+    job: &Job<'_>,
+    out: &mut O,
+    err: &mut E,
+) -> u8
+    ensures status { result ≤ 1 }
+    ensures quiet { result ≡ 0 → err.new ≡ err.old }
+{
+    match job {
+        Job::Run { genesis: _, script } => match run_file(rt, *script, out) {
+            Ok(()) => 0,
+            Err(failure) => {
+                let _ = write!(err, "{failure}\n");
+                1
+            }
+        },
+    }
+}
+
 /// Does what the words of the command line ask for. Answers 0 where that was done, 2 for a refused command line
 /// and else 1 with one line on standard error.
 pub fn start<R: Files + AllocGlobal, O: Write, E: Write>(
@@ -85,16 +114,14 @@ pub fn start<R: Files + AllocGlobal, O: Write, E: Write>(
     out: &mut O,
     err: &mut E,
 ) -> u8
-    ensures { result ≤ 2 }
+    ensures status { result ≤ 2 }
+    // Where that was done nothing is written on standard error.
+    ensures quiet { result ≡ 0 → err.new ≡ err.old }
+    // For a refused command line nothing is written on standard output.
+    ensures refused { result ≡ 2 → out.new ≡ out.old }
 {
     match job(rt.alloc(), words) {
-        Ok(Job::Run { genesis: _, script }) => match run_file(rt, script, out) {
-            Ok(()) => 0,
-            Err(failure) => {
-                let _ = write!(err, "{failure}\n");
-                1
-            }
-        },
+        Ok(job) => do_job(rt, &job, out, err),
         Err(error) => refuse(&error, out, err),
     }
 }

@@ -5,11 +5,11 @@ use Rattle.std.specs.Option.{option_or}
 use Rattle.std.specs.List.{find}
 use Rattle.std.specs.Map.{lookup}
 use Rattle.std.specs.BTreeMap.{insert_entry}
-use Rattle.ident.specs.ByteKeys.{at_bytes}
-use Rattle.ident.proofs.ByteKeys.{has_bytes, by_bytes, same_from, lookup_insert}
+use Rattle.byte_keys.specs.ByteKeys.{at_bytes}
+use Rattle.byte_keys.proofs.ForCallers.{has_bytes, by_bytes, same_from, lookup_insert}
 use Rattle.scenario.specs.declared.names.Names.{Names}
 use Rattle.scenario.specs.Names.{Bound, Binding, bound_to, first_name, has_hash}
-use Rattle.scenario.specs.NamesView.{AreBound, told_bound}
+use Rattle.scenario.specs.NamesView.{AreBound, bound_of}
 use Rattle.std.proofs.lemmas.Map.Text.{is_eq-slice_cmp}
 
 -- ---- maps
@@ -62,7 +62,7 @@ map_none g (Some x) h = cc
 
 -- the names of the code with one more
 pub bound_after : (old new : Names) (names : List Binding) (b : Binding) → AreBound old names
-    → ((q : List ℕ) → option_map told_bound (at_bytes (λ k. k.items) q new.by_name) ≡ option_or (option_map told_bound (at_bytes (λ k. k.items) q old.by_name)) (cond (bytes_eq q b.name) (Some b.bound) None))
+    → ((q : List ℕ) → option_map bound_of (at_bytes (λ k. k.items) q new.by_name) ≡ option_or (option_map bound_of (at_bytes (λ k. k.items) q old.by_name)) (cond (bytes_eq q b.name) (Some b.bound) None))
     → ((q : List ℕ) → option_map (λ n. n.items) (at_bytes (λ k. k.bytes) q new.by_hash) ≡ option_or (option_map (λ n. n.items) (at_bytes (λ k. k.bytes) q old.by_hash)) (cond (has_hash q b.bound.place) (Some b.name) None))
     → AreBound new (names ++ b ∷ [])
 bound_after old new names b bound by_name by_hash = record {

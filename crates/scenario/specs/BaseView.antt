@@ -3,5 +3,5 @@ use Rattle.std.specs.Prelude.{option_map}
 use Rattle.scenario.specs.declared.building.Base as code
 use Rattle.scenario.specs.Meaning.{Base}
 
-abbrev pub told_base : code.Base → Base
-told_base base = record { number = base.number; hash = option_map (λ h. h.bytes) base.hash }
+abbrev pub base_of : code.Base → Base
+base_of base = record { number = base.number; hash = option_map (λ h. h.bytes) base.hash }

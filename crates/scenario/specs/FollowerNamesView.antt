@@ -3,7 +3,7 @@ use Rattle.std.specs.Prelude.{◌≡◌, ℕ, List, Option, Some, None, IsSome}
 use Rattle.chain_core.specs.declared.follower.FollowerId.{FollowerId}
 use Rattle.scenario.specs.declared.follower_names.FollowerNames.{FollowerNames}
 use Rattle.scenario.specs.Names.{FollowerName, follower_named}
-use Rattle.ident.specs.ByteKeys.{at_bytes}
+use Rattle.byte_keys.specs.ByteKeys.{at_bytes}
 
 -- the number that a key has, if it has one: a key without one only takes room
 abbrev pub number_at : Option (Option FollowerId) → Option ℕ

@@ -2,6 +2,7 @@ pub mod Text
 pub mod Line
 pub mod LineView
 pub mod Answer
+pub mod WordsView
 pub mod Names
 pub mod NamesView
 pub mod FollowerNamesView
@@ -12,4 +13,3 @@ pub mod Run
 pub mod SessionView
 pub mod Written
 pub mod Ending
-pub mod OutcomeView

@@ -1,13 +1,12 @@
 -- What a line of a script says, by itself.
-use Rattle.std.specs.Prelude.{ℕ, List, [], ◌∷◌, Option, Some, None, option_map, Result, Ok, Err, ◌==◌, if◌then◌else◌, bytes_eq, codes}
+use Rattle.std.specs.Prelude.{ℕ, List, [], ◌∷◌, Option, Some, None, option_map, unwrap_or, Result, Ok, Err, ◌==◌}
+use Rattle.std.specs.Prelude.{if◌then◌else◌, bytes_eq, codes}
 use Rattle.std.specs.List.{list_all}
 use Rattle.hex.specs.Hex.{decode_of}
 use Rattle.hex.specs.declared.error.FromHexError.{FromHexError}
-use Rattle.scenario.specs.declared.fault.LineFault.{LineFault}
-use Rattle.scenario.specs.declared.fault.LineFault.TheVariants.{BadLine}
 use Rattle.scenario.specs.declared.line.Form.{Form}
 use Rattle.scenario.specs.declared.line.Form.TheVariants.{Whole, Cut, Extended}
-use Rattle.scenario.specs.Text.{content_of, is_printable, words_of, is_name, number_of}
+use Rattle.scenario.specs.Text.{content_of, is_printable, words_of, is_name, parse_number}
 
 -- what a block goes on from
 pub data Parent : Type 0 where
@@ -25,11 +24,6 @@ pub data Line : Type 0 where
   AskNext : (name : List ℕ) → Line
   AskTip : Line
 
--- the value, or the fault BadLine where there is none
-abbrev pub or_bad_line : {X : Type 0} → Option X → Result X LineFault
-or_bad_line None = Err BadLine
-or_bad_line (Some x) = Ok x
-
 -- how the bytes of an `arrive` line arrive, by its first word
 abbrev pub form_of : List ℕ → Option Form
 form_of word =
@@ -44,8 +38,8 @@ word_of Whole = codes "arrive"
 word_of Cut = codes "arrive-cut"
 word_of Extended = codes "arrive-ext"
 
-abbrev pub parent_of : List ℕ → Option Parent
-parent_of word =
+abbrev pub parse_parent : List ℕ → Option Parent
+parse_parent word =
     if bytes_eq word (codes "genesis") then Some Genesis
     else if is_name word then Some (After word)
     else None
@@ -72,7 +66,8 @@ block_of_parts name (Some parent) (Some slot) = Some (DefineBlock name parent sl
 
 abbrev pub block_line : (word name parent slot : List ℕ) → Option Line
 block_line word name parent slot =
-    if bytes_eq word (codes "block") then (if is_name name then block_of_parts name (parent_of parent) (number_of slot) else None) else None
+    if bytes_eq word (codes "block") then (if is_name name then block_of_parts name (parse_parent parent)
+    (parse_number slot) else None) else None
 
 -- the bytes that hexadecimal digits say, if there are digits and their number is even
 abbrev pub decoded : Result (List ℕ) FromHexError → Option (List ℕ)
@@ -83,9 +78,14 @@ abbrev pub digits_bytes : List ℕ → Option (List ℕ)
 digits_bytes [] = None
 digits_bytes (d ∷ ds) = decoded (decode_of (d ∷ ds))
 
+-- the bytes, where digits say some
+abbrev pub said_bytes : List ℕ → List ℕ
+said_bytes digits = unwrap_or (digits_bytes digits) []
+
 abbrev pub raw_line : (word name digits : List ℕ) → Option Line
 raw_line word name digits =
-    if bytes_eq word (codes "raw") then (if is_name name then option_map (DefineRaw name) (digits_bytes digits) else None) else None
+    if bytes_eq word (codes "raw") then (if is_name name then option_map (DefineRaw name)
+    (digits_bytes digits) else None) else None
 
 -- what the words of a line say
 abbrev pub said_by : List (List ℕ) → Option Line
@@ -102,5 +102,5 @@ line_of_content [] = Some Nothing
 line_of_content (b ∷ bs) = if b == 35 then Some Nothing else said_by (words_of (b ∷ bs))
 
 -- what a line says, if it is one
-abbrev pub line_of : List ℕ → Option Line
-line_of line = if list_all is_printable (content_of line) then line_of_content (content_of line) else None
+abbrev pub parse_line : List ℕ → Option Line
+parse_line line = if list_all is_printable (content_of line) then line_of_content (content_of line) else None

@@ -5,15 +5,15 @@ use Rattle.scenario.specs.declared.line.Line.{Line}
 use Rattle.scenario.specs.declared.line.Line.TheVariants as line
 use Rattle.scenario.specs.Line as spec
 
-abbrev pub told_parent : Parent → spec.Parent
-told_parent parent.Genesis = spec.Genesis
-told_parent (parent.After name) = spec.After name.text.now
+abbrev pub parent_of : Parent → spec.Parent
+parent_of parent.Genesis = spec.Genesis
+parent_of (parent.After name) = spec.After name.text.now
 
-abbrev pub told_line : Line → spec.Line
-told_line line.Nothing = spec.Nothing
-told_line (line.Block name parent slot) = spec.DefineBlock name.text.now (told_parent parent) slot
-told_line (line.Raw name bytes) = spec.DefineRaw name.text.now bytes.items
-told_line (line.Arrive form name) = spec.Arrive form name.text.now
-told_line (line.Open name) = spec.OpenFollower name.text.now
-told_line (line.Next name) = spec.AskNext name.text.now
-told_line line.Tip = spec.AskTip
+abbrev pub line_of : Line → spec.Line
+line_of line.Nothing = spec.Nothing
+line_of (line.Block name parent slot) = spec.DefineBlock name.text.now (parent_of parent) slot
+line_of (line.Raw name digits) = spec.DefineRaw name.text.now (spec.said_bytes digits.text.now)
+line_of (line.Arrive form name) = spec.Arrive form name.text.now
+line_of (line.Open name) = spec.OpenFollower name.text.now
+line_of (line.Next name) = spec.AskNext name.text.now
+line_of line.Tip = spec.AskTip

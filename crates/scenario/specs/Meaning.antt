@@ -1,5 +1,8 @@
 -- What a line means where some names are bound: what it does, or the first of its faults.
-use Rattle.std.specs.Prelude.{ℕ, ◌+◌, ◌-◌, ◌^◌, ◌&&◌, List, [], ◌∷◌, ◌++◌, length, take, Option, Some, None, option_map, option_and_then, Result, Ok, Err, is_some, nat_lt, nat_le, if◌then◌else◌}
+use Rattle.std.specs.Prelude.{ℕ, ◌+◌, ◌-◌, ◌&&◌, List, [], ◌∷◌, ◌++◌, length, take, Option, Some, None, option_map}
+use Rattle.std.specs.Prelude.{option_and_then, Result, Ok, Err, is_some, nat_lt, nat_le, if◌then◌else◌}
+use Rattle.model.specs.Limits.{number_limit}
+use Rattle.scenario.specs.Text.{script_size_limit}
 use Rattle.model.specs.Block.{Header, Block, block_text, block_hash_of, body_hash_of}
 use Rattle.model.specs.Chain.{Point}
 use Rattle.model.specs.Examples.{empty_block}
@@ -7,7 +10,8 @@ use Rattle.scenario.specs.declared.fault.LineFault.{LineFault}
 use Rattle.scenario.specs.declared.fault.LineFault.TheVariants.{BadLine, UnknownName, NameTaken, NotBuilt}
 use Rattle.scenario.specs.declared.line.Form.{Form}
 use Rattle.scenario.specs.declared.line.Form.TheVariants.{Whole, Cut, Extended}
-use Rattle.scenario.specs.Line.{Parent, Genesis, After, Line, Nothing, DefineBlock, DefineRaw, Arrive, OpenFollower, AskNext, AskTip, line_of}
+use Rattle.scenario.specs.Line.{Parent, Genesis, After, Line, Nothing, DefineBlock, DefineRaw, Arrive, OpenFollower}
+use Rattle.scenario.specs.Line.{AskNext, AskTip, parse_line}
 use Rattle.scenario.specs.Names.{Bound, Binding, bound_to, AllNames, follower_named}
 
 -- what a line does: nothing, it binds a name, bytes arrive, a follower is opened, the follower of a number is told
@@ -37,28 +41,34 @@ abbrev pub base_at : Point → Base
 base_at place = record { number = place.number; hash = Some place.hash }
 
 -- the parent of a block. A name that isn't bound to a block of a `block` line is no parent
-abbrev pub base_of : List Binding → Parent → Option Base
-base_of names Genesis = Some (record { number = 0; hash = None })
-base_of names (After name) = option_map base_at (option_and_then (λ b. b.place) (bound_to name names))
+abbrev pub base_after : List Binding → Parent → Option Base
+base_after names Genesis = Some (record { number = 0; hash = None })
+base_after names (After name) = option_map base_at (option_and_then (λ b. b.place) (bound_to name names))
 
 -- the header of the block with no transaction that goes on from here
 abbrev pub header_on : Base → ℕ → Header
-header_on base slot = record { number = base.number + 1; slot = slot; previous = base.hash; body_hash = body_hash_of [] }
+header_on base slot =
+    record { number = base.number + 1; slot = slot; previous = base.hash; body_hash = body_hash_of [] }
 
 abbrev pub block_on : Base → ℕ → Block
 block_on base slot = empty_block (header_on base slot)
 
 -- the text of the block, with its place
 abbrev pub bound_block : Block → Bound
-bound_block block = record { bytes = block_text block; place = Some (record { number = block.header.number; hash = block_hash_of block }) }
+bound_block block = record {
+  bytes = block_text block;
+  place = Some
+      (record { number = block.header.number; hash = block_hash_of block });
+}
 
 abbrev pub bound_raw : List ℕ → Bound
 bound_raw bytes = record { bytes = bytes; place = None }
 
--- the block, if its number and its slot are below 2 ^ 63
+-- the block, if its number and its slot are below the limit
 abbrev pub built : Base → ℕ → Result Bound LineFault
 built base slot =
-    if nat_lt (base.number + 1) (2 ^ 63) && nat_lt slot (2 ^ 63) then Ok (bound_block (block_on base slot)) else Err NotBuilt
+    if nat_lt (base.number + 1) number_limit
+    && nat_lt slot number_limit then Ok (bound_block (block_on base slot)) else Err NotBuilt
 
 -- ---- what the lines mean
 
@@ -93,7 +103,8 @@ next_meaning name (Some id) = Ok (TellsFollower name id)
 -- what a line means, or the first fault
 abbrev pub meaning_in : AllNames → Line → Result Meaning LineFault
 meaning_in names Nothing = Ok DoesNothing
-meaning_in names (DefineBlock name parent slot) = block_meaning names.of_bytes name (base_of names.of_bytes parent) slot
+meaning_in names (DefineBlock name parent slot) = block_meaning names.of_bytes name
+    (base_after names.of_bytes parent) slot
 meaning_in names (DefineRaw name bytes) = binds_free names.of_bytes name (Ok (bound_raw bytes))
 meaning_in names (Arrive form name) = arrival_meaning form name (bound_to name names.of_bytes)
 meaning_in names (OpenFollower name) = opening_meaning name (follower_named name names.of_followers)
@@ -104,7 +115,7 @@ abbrev pub meaning_if_line : AllNames → Option Line → Result Meaning LineFau
 meaning_if_line names None = Err BadLine
 meaning_if_line names (Some line) = meaning_in names line
 
--- what a line means that comes behind so many bytes of the script. No script is longer than 4,194,304 bytes
+-- what a line means that comes after so many bytes of the script, which may not be too long
 abbrev pub meaning_of : ℕ → AllNames → List ℕ → Result Meaning LineFault
 meaning_of before names line =
-    if nat_le (before + length line) 4194304 then meaning_if_line names (line_of line) else Err BadLine
+    if nat_le (before + length line) script_size_limit then meaning_if_line names (parse_line line) else Err BadLine

@@ -1,15 +1,16 @@
 -- What the names of the code stand for.
 use Rattle.std.specs.Prelude.{◌≡◌, ℕ, List, option_map}
-use Rattle.ident.specs.ByteKeys.{at_bytes}
-use Rattle.chain_core.specs.PointView.{told_point}
+use Rattle.byte_keys.specs.ByteKeys.{at_bytes}
+use Rattle.ident.specs.PointView.{point_of}
 use Rattle.scenario.specs.declared.names.Bound as code
 use Rattle.scenario.specs.declared.names.Names.{Names}
 use Rattle.scenario.specs.Names.{Bound, Binding, bound_to, first_name}
 
-abbrev pub told_bound : code.Bound → Bound
-told_bound b = record { bytes = b.bytes.items; place = option_map told_point b.place }
+abbrev pub bound_of : code.Bound → Bound
+bound_of b = record { bytes = b.bytes.items; place = option_map point_of b.place }
 
 -- the names stand for these bindings: each name has what is bound to it, and each block its first name
 pub record AreBound (code : Names) (names : List Binding) : Type 0 where
-  pub by_name : (name : List ℕ) → option_map told_bound (at_bytes (λ k. k.items) name code.by_name) ≡ bound_to name names
-  pub by_hash : (hash : List ℕ) → option_map (λ n. n.items) (at_bytes (λ k. k.bytes) hash code.by_hash) ≡ first_name hash names
+  pub by_name : (name : List ℕ) → option_map bound_of (at_bytes (λ k. k.items) name code.by_name) ≡ bound_to name names
+  pub by_hash : (hash : List ℕ)
+      → option_map (λ n. n.items) (at_bytes (λ k. k.bytes) hash code.by_hash) ≡ first_name hash names

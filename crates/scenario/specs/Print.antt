@@ -3,30 +3,15 @@ use Rattle.std.specs.Prelude.{◌≡◌, ℕ, List, [], ◌∷◌, ◌++◌, dec
 use Rattle.model.specs.Block.{Block, IsReadAs, block_hash_of}
 use Rattle.model.specs.Chain.{Point}
 use Rattle.model.specs.Follower.{Instruction, Stay, AddBlock, RollBack}
-use Rattle.model.specs.History.{Refusal, TooLarge, Malformed, BodyHashMismatch, TooOld, Known, Clash, VolatileFull, number_of, Reply, Kept, Refused, Opened, TooManyFollowers, Instructed, UnknownFollower, OutOfMemory}
+use Rattle.model.specs.History.{Reply, Opened, TooManyFollowers, Instructed, UnknownFollower, OutOfMemory}
+use Rattle.chain_core.specs.Texts.{arrive_reply_text}
 use Rattle.scenario.specs.declared.line.Form.{Form}
 use Rattle.scenario.specs.Line.{word_of}
 use Rattle.scenario.specs.Names.{Binding, printed_name}
 
-abbrev pub refusal_name : Refusal → List ℕ
-refusal_name TooLarge = codes "TooLarge"
-refusal_name Malformed = codes "Malformed"
-refusal_name BodyHashMismatch = codes "BodyHashMismatch"
-refusal_name TooOld = codes "TooOld"
-refusal_name Known = codes "Known"
-refusal_name Clash = codes "Clash"
-refusal_name VolatileFull = codes "VolatileFull"
-
-abbrev pub reply_text : Reply → List ℕ
-reply_text (Kept back added) = codes "kept back " ++ decimal back ++ codes " added " ++ decimal added
-reply_text (Refused refusal) = codes "refused " ++ decimal (number_of refusal) ++ codes " " ++ refusal_name refusal
-reply_text OutOfMemory = codes "out of memory"
--- no arrival is answered otherwise
-reply_text reply = []
-
 -- what an arrival prints: the line's first word, the name and the reply
 abbrev pub arrival_text : Form → List ℕ → Reply → List ℕ
-arrival_text form name reply = word_of form ++ codes " " ++ name ++ codes ": " ++ reply_text reply ++ 10 ∷ []
+arrival_text form name reply = word_of form ++ codes " " ++ name ++ codes ": " ++ arrive_reply_text reply ++ 10 ∷ []
 
 -- what the opening of a follower is answered
 abbrev pub opening_reply_text : Reply → List ℕ
@@ -51,7 +36,8 @@ tip_text names point = codes "tip: " ++ decimal point.number ++ codes " " ++ poi
 -- what a follower is told: nothing, the name of the block whose bytes it is to put on, or of the place to go back to
 abbrev pub IsInstructionText : List Binding → Instruction → List ℕ → Type 0
 IsInstructionText names Stay text = text ≡ codes "none"
-IsInstructionText names (AddBlock bytes) text = (b : Block) × IsReadAs b bytes × (text ≡ codes "add " ++ printed_name (block_hash_of b) names)
+IsInstructionText names (AddBlock bytes) text = (b : Block) × IsReadAs b bytes
+    × (text ≡ codes "add " ++ printed_name (block_hash_of b) names)
 IsInstructionText names (RollBack point) text = text ≡ codes "rollback " ++ point_name names point
 
 -- what a follower is answered that asks what comes next

@@ -1,17 +1,19 @@
 -- What a script prints, and how its run ends.
-use Rattle.std.specs.Prelude.{◌≡◌, ℕ, ◌+◌, ◌≤◌, List, [], ◌∷◌, ◌++◌, length, Option, Some, Ok, Err}
+use Rattle.std.specs.Prelude.{◌≡◌, ◌≢◌, ℕ, ◌+◌, List, [], ◌∷◌, ◌++◌, length, Option, Some, Ok, Err}
 use Rattle.std.specs.List.{concat}
 use Rattle.std.specs.Io.KnownBytes.{Appends}
 use Rattle.model.specs.Block.{Block}
-use Rattle.model.specs.Chain.{Genesis, point_of, BeginsWith}
-use Rattle.model.specs.Follower.{Stay, told_by}
-use Rattle.model.specs.History.{State, opening, Arrive, Open, Next, Reply, Opened, Instructed, Step}
+use Rattle.model.specs.Chain.{Genesis, tip_point}
+use Rattle.model.specs.Follower.{told_by, IsDue, IsNextInstruction, Instruction}
+use Rattle.model.specs.History.{State, opening, Event, Arrive, Open, Next, Reply, Opened, Instructed, OutOfMemory, Step}
+use Rattle.model.specs.History.{Entry, ChainTheorem}
 use Rattle.scenario.specs.declared.fault.LineFault.{LineFault}
 use Rattle.scenario.specs.declared.fault.ScenarioFault.{ScenarioFault}
 use Rattle.scenario.specs.declared.fault.ScenarioFault.TheVariants as fault
 use Rattle.scenario.specs.Text.{lines_of}
 use Rattle.scenario.specs.Names.{FollowerName, AllNames}
-use Rattle.scenario.specs.Meaning.{Meaning, DoesNothing, Binds, Arrives, OpensFollower, TellsFollower, PrintsTip, formed, meaning_of}
+use Rattle.scenario.specs.Meaning.{Meaning, DoesNothing, Binds, Arrives, OpensFollower, TellsFollower, PrintsTip}
+use Rattle.scenario.specs.Meaning.{formed, meaning_of}
 use Rattle.scenario.specs.Print.{arrival_text, opening_text, tip_text, IsNextText}
 
 -- the node's state with the names that are bound
@@ -41,47 +43,75 @@ pub record WasOpened (genesis : Genesis) (s : Scene) (name : List ℕ) (reply : 
   pub step : Step genesis s.state Open reply t.state
   pub names : t.names ≡ record s.names { of_followers = names_opened s.names.of_followers name reply }
 
--- what the follower of this number was told is the whole selected chain, or no beginning of that
-abbrev pub NothingIsDue : State → ℕ → Type 0
-NothingIsDue s id = (told : List Block) → told_by s.followers id ≡ Some told → BeginsWith s.chain told → length s.chain ≤ length told
+-- for what the follower of this number was told the instruction is the one that is due
+abbrev pub IsNextFor : State → ℕ → Instruction → Type 0
+IsNextFor s id instruction = (told : List Block) → told_by s.followers id ≡ Some told
+    → IsNextInstruction s.chain told instruction
 
--- a follower that asked what comes next was answered so, by a step of the definitions. It is told nothing only where there
--- is nothing that it could put on
+-- a block is due for the follower of this number
+abbrev pub HasDue : State → ℕ → Type 0
+HasDue s id = (told : List Block) × (b : Block) × (told_by s.followers id ≡ Some told) × IsDue s.chain told b
+
+-- a follower that asked what comes next was answered so, by a step of the definitions. It is told exactly what is due,
+-- and
+-- memory runs out only where a block is
 pub record WasTold (genesis : Genesis) (s : Scene) (id : ℕ) (reply : Reply) (t : Scene) : Type 0 where
   pub step : Step genesis s.state (Next id) reply t.state
-  pub due : reply ≡ Instructed Stay → NothingIsDue s.state id
+  pub next : (instruction : Instruction) → reply ≡ Instructed instruction → IsNextFor s.state id instruction
+  pub due : reply ≡ OutOfMemory → HasDue s.state id
   pub names : t.names ≡ s.names
 
--- from one scene a line that means this prints so, and leaves the other. Each event may be answered that
--- memory ran out, which is a step too
-abbrev pub Acts : Genesis → Scene → Meaning → List ℕ → Scene → Type 0
-Acts genesis s DoesNothing out t = (out ≡ []) × (t ≡ s)
-Acts genesis s (Binds binding) out t = (out ≡ []) × (t ≡ record s { names = record s.names { of_bytes = s.names.of_bytes ++ binding ∷ [] } })
-Acts genesis s (Arrives form name bytes) out t = (reply : Reply) × Arrived genesis s (formed form bytes) reply t × (out ≡ arrival_text form name reply)
-Acts genesis s (OpensFollower name) out t = (reply : Reply) × WasOpened genesis s name reply t × (out ≡ opening_text name reply)
-Acts genesis s (TellsFollower name id) out t = (reply : Reply) × WasTold genesis s id reply t × IsNextText s.names.of_bytes name reply out
-Acts genesis s PrintsTip out t = (out ≡ tip_text s.names.of_bytes (point_of s.state.chain)) × (t ≡ s)
+-- an event with its reply, as the one entry of a history
+abbrev pub entry : Event → Reply → List Entry
+entry event reply = record { event = event; reply = reply } ∷ []
 
--- a line behind so many bytes has no fault, and prints so
-pub record Obeys (genesis : Genesis) (before : ℕ) (s : Scene) (line out : List ℕ) (t : Scene) : Type 0 where
+-- From one scene a line that means this prints so, and leaves the other; these are its event and the reply that is
+-- printed, if it has an event. Each event may be answered that memory ran out, which is a step too.
+abbrev pub Acts : Genesis → Scene → Meaning → (out : List ℕ) → List Entry → Scene → Type 0
+Acts genesis s DoesNothing out entries t = (out ≡ []) × (entries ≡ []) × (t ≡ s)
+Acts genesis s (Binds binding) out entries t =
+    (out ≡ []) × (entries ≡ []) × (t ≡ record s {
+      names = record s.names {
+        of_bytes = s.names.of_bytes
+            ++ binding ∷ [];
+      };
+    })
+Acts genesis s (Arrives form name bytes) out entries t = (reply : Reply) × Arrived genesis s (formed form bytes) reply t
+    × (out ≡ arrival_text form name reply) × (entries ≡ entry (Arrive (formed form bytes)) reply)
+Acts genesis s (OpensFollower name) out entries t = (reply : Reply) × WasOpened genesis s name reply t
+    × (out ≡ opening_text name reply) × (entries ≡ entry Open reply)
+Acts genesis s (TellsFollower name id) out entries t = (reply : Reply) × WasTold genesis s id reply t
+    × IsNextText s.names.of_bytes name reply out × (entries ≡ entry (Next id) reply)
+Acts genesis s PrintsTip out entries t = (out ≡ tip_text s.names.of_bytes (tip_point s.state.chain)) × (entries ≡ [])
+    × (t ≡ s)
+
+-- a line after so many bytes has no fault, and prints so
+pub record Obeys (genesis : Genesis) (before : ℕ) (s : Scene) (line out : List ℕ) (entries : List Entry)
+    (t : Scene) : Type 0 where
   pub meaning : Meaning
   pub is_meant : meaning_of before s.names line ≡ Ok meaning
-  pub acts : Acts genesis s meaning out t
+  pub acts : Acts genesis s meaning out entries t
 
--- lines behind so many bytes print so, one after the other
-abbrev pub Prints : Genesis → ℕ → Scene → List (List ℕ) → List ℕ → Scene → Type 0
-Prints genesis before s [] out t = (out ≡ []) × (t ≡ s)
-Prints genesis before s (line ∷ lines) out t = (first : List ℕ) × (rest : List ℕ) × (mid : Scene)
-    × Obeys genesis before s line first mid × Prints genesis (before + length line) mid lines rest t × (out ≡ first ++ rest)
+-- lines after so many bytes print so, one after the other, and this is the history of their events with the replies
+-- that are printed
+abbrev pub Prints : Genesis → ℕ → Scene → List (List ℕ) → List ℕ → List Entry → Scene → Type 0
+Prints genesis before s [] out history t = (out ≡ []) × (history ≡ []) × (t ≡ s)
+Prints genesis before s (line ∷ lines) out history t = (first rest : List ℕ) × (entries later : List Entry)
+    × (mid : Scene)
+    × Obeys genesis before s line first entries mid × Prints genesis (before + length line) mid lines rest later t
+    × (out ≡ first ++ rest) × (history ≡ entries ++ later)
 
--- lines from the beginning of a script print so
-abbrev pub PrintsFirst : Genesis → List (List ℕ) → List ℕ → Scene → Type 0
-PrintsFirst genesis lines out t = Prints genesis 0 opening_scene lines out t
-
--- all lines of the text print so
-pub record PrintsAll (genesis : Genesis) (text out : List ℕ) : Type 0 where
+-- Lines from the beginning of a script are obeyed and print so. The chain theorem holds of their events with the
+-- replies
+-- that are printed: they are a legal history, it leaves the state whose tip and followers are printed, the selected
+-- chain is valid, and none is longer.
+pub record AreObeyed (genesis : Genesis) (lines : List (List ℕ)) (out : List ℕ) : Type 0 where
   pub scene : Scene
-  pub prints : PrintsFirst genesis (lines_of text) out scene
+  pub history : List Entry
+  pub prints : Prints genesis 0 opening_scene lines out history scene
+  pub theorem : ChainTheorem genesis history scene.state
+
+-- ---- ends
 
 -- the line of this number is the first one with a fault, and the lines before it print so
 pub record StopsAt (genesis : Genesis) (text : List ℕ) (number : ℕ) (fault : LineFault) (out : List ℕ) : Type 0 where
@@ -90,39 +120,59 @@ pub record StopsAt (genesis : Genesis) (text : List ℕ) (number : ℕ) (fault :
   pub after : List (List ℕ)
   pub lines : lines_of text ≡ before ++ line ∷ after
   pub counted : length before + 1 ≡ number
-  pub scene : Scene
-  pub prints : PrintsFirst genesis before out scene
-  pub is_fault : meaning_of (length (concat before)) scene.names line ≡ Err fault
+  pub obeyed : AreObeyed genesis before out
+  pub is_fault : meaning_of (length (concat before)) obeyed.scene.names line ≡ Err fault
 
--- of a text of which this is left some first lines were read as a whole, and what was written is a
--- beginning of what these print
+-- of a text of which this is left some first lines were read, and these bytes more; what was written is exactly what
+-- the lines print
 pub record BreaksOff (genesis : Genesis) (text left out : List ℕ) : Type 0 where
   pub lines : List (List ℕ)
   pub after : List (List ℕ)
   pub begins : lines_of text ≡ lines ++ after
   pub more : List ℕ
   pub read : text ≡ concat lines ++ (more ++ left)
+  pub obeyed : AreObeyed genesis lines out
+
+-- the same where memory ran out: if the bytes more are a line with its line feed, that line has no fault
+pub record RunsShort (genesis : Genesis) (text left out : List ℕ) : Type 0 where
+  pub broken : BreaksOff genesis text left out
+  pub has_no_fault : (content : List ℕ) → broken.more ≡ content ++ 10 ∷ []
+      → (meaning : Meaning)
+      × (meaning_of (length (concat broken.lines)) broken.obeyed.scene.names broken.more ≡ Ok meaning)
+
+-- of what the last line prints that was read a part was written, and not all; of those before it all
+pub record StopsWriting (genesis : Genesis) (text left out : List ℕ) : Type 0 where
+  pub lines : List (List ℕ)
+  pub line : List ℕ
+  pub after : List (List ℕ)
+  pub begins : lines_of text ≡ lines ++ line ∷ after
+  pub read : text ≡ concat lines ++ (line ++ left)
+  pub before : List ℕ
   pub printed : List ℕ
-  pub scene : Scene
-  pub prints : PrintsFirst genesis lines printed scene
+  pub obeyed_before : AreObeyed genesis lines before
+  pub obeyed : AreObeyed genesis (lines ++ line ∷ []) (before ++ printed)
+  pub part : List ℕ
   pub unwritten : List ℕ
-  pub part : printed ≡ out ++ unwritten
+  pub parts : printed ≡ part ++ unwritten
+  pub not_all : unwritten ≢ []
+  pub written : out ≡ before ++ part
 
 -- the end of a run without fault: what all lines of the text print was written
 pub record EndsWell (genesis : Genesis) (text : List ℕ) (old new : Option (List ℕ)) : Type 0 where
   pub out : List ℕ
   pub written : Appends old new out
-  pub prints : PrintsAll genesis text out
+  pub obeyed : AreObeyed genesis (lines_of text) out
 
 -- what was written at a fault, where this is left of the text
 abbrev pub IsFaultOf : Genesis → List ℕ → List ℕ → List ℕ → ScenarioFault → Type 0
 IsFaultOf genesis text left out (fault.Line number why) = StopsAt genesis text number why out
 IsFaultOf genesis text left out fault.ReadFailed = BreaksOff genesis text left out
-IsFaultOf genesis text left out fault.WriteFailed = BreaksOff genesis text left out
-IsFaultOf genesis text left out fault.OutOfMemory = BreaksOff genesis text left out
+IsFaultOf genesis text left out fault.WriteFailed = StopsWriting genesis text left out
+IsFaultOf genesis text left out fault.OutOfMemory = RunsShort genesis text left out
 
 -- the end of a run by a fault
-pub record EndsBy (genesis : Genesis) (text : List ℕ) (remaining old new : Option (List ℕ)) (why : ScenarioFault) : Type 0 where
+pub record EndsBy (genesis : Genesis) (text : List ℕ) (remaining old new : Option (List ℕ))
+    (why : ScenarioFault) : Type 0 where
   pub left : List ℕ
   pub remains : remaining ≡ Some left
   pub out : List ℕ

@@ -2,10 +2,10 @@
 
 ghost use Rattle.std.specs.Prelude.{◌≡◌, List, option_map};
 ghost use Rattle.scenario.specs.Names.{Binding};
-ghost use Rattle.scenario.specs.NamesView.{AreBound, told_bound};
-ghost use Rattle.scenario.specs.LineView.{told_parent};
-ghost use Rattle.scenario.specs.Meaning.{base_of, built};
-ghost use Rattle.scenario.specs.BaseView.{told_base};
+ghost use Rattle.scenario.specs.NamesView.{AreBound, bound_of};
+ghost use Rattle.scenario.specs.LineView.{parent_of};
+ghost use Rattle.scenario.specs.Meaning.{base_after, built};
+ghost use Rattle.scenario.specs.BaseView.{base_of};
 ghost use Rattle.scenario.specs.Answer.{Answers};
 
 use crate::fault::LineFault;
@@ -13,7 +13,7 @@ use crate::line::Parent;
 use crate::names::{Bound, Names};
 use crate::stop::Stop;
 use block::{Header, WriteFault};
-use ident::BlockHash;
+use ident::{BlockHash, Point};
 use std::alloc::Global;
 
 /// What a block goes on from: how many blocks there are up to here, and the hash of the last one.
@@ -24,8 +24,9 @@ pub struct Base {
 }
 
 /// The parent of a block, if it is known.
-pub fn base_of(names: &Names, parent: Parent<'_>) -> Option<Base>
-    ensures { (bound : List Binding) → AreBound names.now bound → option_map told_base result ≡ base_of bound (told_parent parent.entry) }
+pub fn base_after(names: &Names, parent: Parent<'_>) -> Option<Base>
+    ensures { (bound : List Binding) → AreBound names.now bound
+        → option_map base_of result ≡ base_after bound (parent_of parent.entry) }
 {
     match parent {
         Parent::Genesis => Some(Base {
@@ -45,7 +46,7 @@ pub fn base_of(names: &Names, parent: Parent<'_>) -> Option<Base>
 
 /// The block with no transaction that goes on from here.
 pub fn build(alloc: Global, base: Base, slot: u64) -> Result<Bound, Stop>
-    ensures { Answers told_bound (built (told_base base) slot) result }
+    ensures { Answers bound_of (built (base_of base) slot) result }
 {
     let Some(number) = base.number.checked_add(1) else {
         return Err(Stop::Fault(LineFault::NotBuilt));
@@ -61,12 +62,16 @@ pub fn build(alloc: Global, base: Base, slot: u64) -> Result<Bound, Stop>
         Err(WriteFault::OutOfRange) => return Err(Stop::Fault(LineFault::NotBuilt)),
         Err(WriteFault::OutOfMemory) => return Err(Stop::OutOfMemory),
     };
-    // What was written is read again, so memory alone can lack.
-    let Ok(block) = block::read(alloc, &bytes) else {
-        return Err(Stop::OutOfMemory);
+    let place = match block::look(&bytes) {
+        Ok(block) => Point {
+            number: block.number(),
+            hash: block.hash(),
+        },
+        // What was written is a block.
+        Err(_) => unreachable!(),
     };
     Ok(Bound {
         bytes,
-        place: Some(block.point()),
+        place: Some(place),
     })
 }

@@ -29,7 +29,8 @@ impl FollowerNames {
 
     /// The follower that has a name.
     pub fn get(&self, name: &[u8]) -> Option<FollowerId>
-        ensures { (names : List FollowerName) → AreNamed self.now names → option_map (λ id. id.number) result ≡ follower_named name.now names }
+        ensures { (names : List FollowerName) → AreNamed self.now names
+            → option_map (λ id. id.number) result ≡ follower_named name.now names }
     {
         match self.by_name.get(name) {
             Some(Some(id)) => Some(*id),
@@ -52,7 +53,8 @@ impl FollowerNames {
     /// Binds a name that is free and has its room. Takes no memory.
     pub fn bind(&mut self, name: &[u8], id: FollowerId)
         requires { HasRoom self.old name.now }
-        ensures { (names : List FollowerName) → AreNamed self.old names → follower_named name.now names ≡ None → AreNamed self.new (names ++ record { name = name.now; id = id.number } ∷ []) }
+        ensures { (names : List FollowerName) → AreNamed self.old names → follower_named name.now names ≡ None
+            → AreNamed self.new (names ++ record { name = name.now; id = id.number } ∷ []) }
     {
         if let Some(place) = self.by_name.get_mut(name) {
             *place = Some(id);

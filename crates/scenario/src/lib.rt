@@ -3,6 +3,7 @@
 #![tactic(auto)]
 
 mod building;
+mod digits;
 mod fault;
 mod follower_names;
 mod line;
@@ -17,7 +18,7 @@ mod stop;
 mod words;
 
 pub use fault::{LineFault, ScenarioFault};
-pub use runner::run;
+pub use runner::{MAX_SCRIPT_SIZE, run};
 
 #[cfg(test)]
 mod tests;

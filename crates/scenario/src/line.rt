@@ -1,21 +1,15 @@
 //! What a line of a script says, by itself.
 
-ghost use Rattle.std.specs.Prelude.{◌≡◌, map, option_map, if◌then◌else◌, Some, None};
-ghost use Rattle.scenario.specs.Line.{line_of, line_of_content, said_by, form_of, word_of, parent_of, or_bad_line, tip_line, block_line, arrive_line, named_line, raw_line, digits_bytes};
-ghost use Rattle.scenario.specs.Text.{is_name, words_of};
-ghost use Rattle.scenario.specs.LineView.{told_line, told_parent};
-ghost use Rattle.scenario.specs.Answer.{Answers};
+ghost use Rattle.std.specs.Prelude.{◌≡◌, option_map};
+ghost use Rattle.scenario.specs.Line.{parse_line, said_by, form_of, word_of, parse_parent, tip_line, block_line};
+ghost use Rattle.scenario.specs.Line.{arrive_line, named_line, raw_line};
+ghost use Rattle.scenario.specs.WordsView.{words_left};
+ghost use Rattle.scenario.specs.LineView.{line_of, parent_of};
 
-use crate::fault::LineFault;
+use crate::digits::Digits;
 use crate::name::Name;
-use crate::number::number_of;
-use crate::stop::Stop;
-use crate::words;
-use hex::FromHexError;
-use std::alloc::Global;
-
-/// The most words that a line has.
-const MOST_WORDS: usize = 4;
+use crate::number::parse_number;
+use crate::words::{self, Words};
 
 /// How bytes arrive.
 #[derive(Clone, Copy, Debug, PartialEq, Eq)]
@@ -24,7 +18,7 @@ pub enum Form {
     Whole,
     /// Without the last byte.
     Cut,
-    /// With a zero behind them.
+    /// With a zero after them.
     Extended,
 }
 
@@ -66,7 +60,7 @@ pub enum Parent<'a> {
 impl<'a> Parent<'a> {
     /// The parent that a word says.
     fn of_word(word: &'a [u8]) -> Option<Parent<'a>>
-        ensures { option_map told_parent result ≡ parent_of word.entry.now }
+        ensures { option_map parent_of result ≡ parse_parent word.entry.now }
     {
         if word == b"genesis".as_slice() {
             return Some(Parent::Genesis);
@@ -77,7 +71,7 @@ impl<'a> Parent<'a> {
 }
 
 /// What a line says.
-#[derive(Debug, Drop)]
+#[derive(Clone, Copy, Debug)]
 pub enum Line<'a> {
     /// Nothing: the line is empty or a comment.
     Nothing,
@@ -90,7 +84,7 @@ pub enum Line<'a> {
     /// Bytes.
     Raw {
         name: Name<'a>,
-        bytes: Vec<u8>,
+        digits: Digits<'a>,
     },
     /// The bytes of a name arrive.
     Arrive {
@@ -109,23 +103,9 @@ pub enum Line<'a> {
     Tip,
 }
 
-/// What the bytes of a raw line are.
-fn raw_bytes(alloc: Global, digits: &[u8]) -> Result<Vec<u8>, Stop>
-    ensures { Answers (λ b. b.items) (or_bad_line (digits_bytes digits.now)) result }
-{
-    if digits.is_empty() {
-        return Err(Stop::Fault(LineFault::BadLine));
-    }
-    match hex::decode(alloc, digits) {
-        Ok(bytes) => Ok(bytes),
-        Err(FromHexError::OutOfMemory) => Err(Stop::OutOfMemory),
-        Err(_) => Err(Stop::Fault(LineFault::BadLine)),
-    }
-}
-
 /// The line `tip`.
 fn tip_line<'a>(word: &[u8]) -> Option<Line<'a>>
-    ensures { option_map told_line result ≡ tip_line word.now }
+    ensures { option_map line_of result ≡ tip_line word.now }
 {
     if word == b"tip".as_slice() {
         Some(Line::Tip)
@@ -136,7 +116,7 @@ fn tip_line<'a>(word: &[u8]) -> Option<Line<'a>>
 
 /// The line in which the bytes of a name arrive.
 fn arrive_line<'a>(word: &[u8], name: &'a [u8]) -> Option<Line<'a>>
-    ensures { option_map told_line result ≡ arrive_line (form_of word.now) name.entry.now }
+    ensures { option_map line_of result ≡ arrive_line (form_of word.now) name.entry.now }
 {
     let form = Form::of_word(word)?;
     let name = Name::of_word(name)?;
@@ -145,7 +125,7 @@ fn arrive_line<'a>(word: &[u8], name: &'a [u8]) -> Option<Line<'a>>
 
 /// The line of two words: what is done, and the name that it is done to.
 fn named_line<'a>(word: &[u8], name: &'a [u8]) -> Option<Line<'a>>
-    ensures { option_map told_line result ≡ named_line word.now name.entry.now }
+    ensures { option_map line_of result ≡ named_line word.now name.entry.now }
 {
     if word == b"open".as_slice() {
         let name = Name::of_word(name)?;
@@ -159,81 +139,60 @@ fn named_line<'a>(word: &[u8], name: &'a [u8]) -> Option<Line<'a>>
 }
 
 /// The line in which bytes are defined.
-fn raw_line<'a>(alloc: Global, word: &[u8], name: &'a [u8], digits: &[u8]) -> Result<Line<'a>, Stop>
-    ensures { Answers told_line (or_bad_line (raw_line word.now name.entry.now digits.now)) result }
+fn raw_line<'a>(word: &[u8], name: &'a [u8], digits: &'a [u8]) -> Option<Line<'a>>
+    ensures { option_map line_of result ≡ raw_line word.now name.entry.now digits.entry.now }
 {
     if word != b"raw".as_slice() {
-        return Err(Stop::Fault(LineFault::BadLine));
+        return None;
     }
-    let Some(name) = Name::of_word(name) else {
-        return Err(Stop::Fault(LineFault::BadLine));
-    };
-    match raw_bytes(alloc, digits) {
-        Ok(bytes) => Ok(Line::Raw { name, bytes }),
-        Err(stop) => Err(stop),
-    }
+    let name = Name::of_word(name)?;
+    let digits = Digits::of_word(digits)?;
+    Some(Line::Raw { name, digits })
 }
 
 /// The line in which a block is defined.
 fn block_line<'a>(word: &[u8], name: &'a [u8], parent: &'a [u8], slot: &[u8]) -> Option<Line<'a>>
-    ensures { option_map told_line result ≡ block_line word.now name.entry.now parent.entry.now slot.now }
+    ensures { option_map line_of result ≡ block_line word.now name.entry.now parent.entry.now slot.now }
 {
     if word != b"block".as_slice() {
         return None;
     }
     let name = Name::of_word(name)?;
     let parent = Parent::of_word(parent)?;
-    let slot = number_of(slot)?;
+    let slot = parse_number(slot)?;
     Some(Line::Block { name, parent, slot })
 }
 
-/// The line, or the fault BadLine where there is none.
-fn or_bad_line(line: Option<Line<'_>>) -> Result<Line<'_>, Stop>
-    ensures { Answers told_line (or_bad_line (option_map told_line line.entry)) result }
-{
-    match line {
-        Some(line) => Ok(line),
-        None => Err(Stop::Fault(LineFault::BadLine)),
-    }
-}
-
 /// What the words of a line say.
-fn said_by<'a>(alloc: Global, words: &[&'a [u8]]) -> Result<Line<'a>, Stop>
-    ensures { Answers told_line (or_bad_line (said_by (map (λ w. w.now) words.now))) result }
+fn said_by(mut words: Words<'_>) -> Option<Line<'_>>
+    ensures { option_map line_of result ≡ said_by (words_left words.entry) }
 {
-    match words {
-        [] => Err(Stop::Fault(LineFault::BadLine)),
-        [word] => or_bad_line(tip_line(*word)),
-        [word, name] => or_bad_line(named_line(*word, *name)),
-        [word, name, digits] => raw_line(alloc, *word, *name, *digits),
-        [word, name, parent, slot] => or_bad_line(block_line(*word, *name, *parent, *slot)),
-        _ => Err(Stop::Fault(LineFault::BadLine)),
+    let first = words.next_word();
+    let second = words.next_word();
+    let third = words.next_word();
+    let fourth = words.next_word();
+    let fifth = words.next_word();
+    match (first, second, third, fourth, fifth) {
+        (Some(word), None, _, _, _) => tip_line(word),
+        (Some(word), Some(name), None, _, _) => named_line(word, name),
+        (Some(word), Some(name), Some(digits), None, _) => raw_line(word, name, digits),
+        (Some(word), Some(name), Some(parent), Some(slot), None) => {
+            block_line(word, name, parent, slot)
+        }
+        _ => None,
     }
 }
 
-/// What a line says that isn't empty and no comment. Its words are looked at where there are not too many.
-fn line_of_words<'a>(alloc: Global, content: &'a [u8]) -> Result<Line<'a>, Stop>
-    ensures { Answers told_line (or_bad_line (said_by (words_of content.entry.now))) result }
-{
-    if words::count_spaces(content) >= MOST_WORDS {
-        return Err(Stop::Fault(LineFault::BadLine));
-    }
-    let Ok(words) = words::words_of(alloc, content) else {
-        return Err(Stop::OutOfMemory);
-    };
-    said_by(alloc, &words)
-}
-
-/// What a line says.
-pub fn line_of<'a>(alloc: Global, line: &'a [u8]) -> Result<Line<'a>, Stop>
-    ensures { Answers told_line (or_bad_line (line_of line.entry.now)) result }
+/// What a line says, if it is one. Takes time in proportion to the line, and no memory.
+pub fn parse_line(line: &[u8]) -> Option<Line<'_>>
+    ensures { option_map line_of result ≡ parse_line line.entry.now }
 {
     let content = words::content_of(line);
     if !words::is_printable(content) {
-        return Err(Stop::Fault(LineFault::BadLine));
+        return None;
     }
     match content {
-        [] | [b'#', ..] => Ok(Line::Nothing),
-        _ => line_of_words(alloc, content),
+        [] | [b'#', ..] => Some(Line::Nothing),
+        _ => said_by(Words::of(content)),
     }
 }

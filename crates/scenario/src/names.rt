@@ -3,8 +3,8 @@
 ghost use Rattle.std.specs.Prelude.{◌≡◌, [], ◌∷◌, ◌++◌, List, ℕ, OnOk, Some, None, option_map, bytes_eq, if◌then◌else◌};
 ghost use Rattle.std.specs.Option.{option_or};
 ghost use Rattle.scenario.specs.Names.{Binding, bound_to, printed_name};
-ghost use Rattle.scenario.specs.NamesView.{AreBound, told_bound};
-ghost use Rattle.ident.specs.ByteKeys.{at_bytes};
+ghost use Rattle.scenario.specs.NamesView.{AreBound, bound_of};
+ghost use Rattle.byte_keys.specs.ByteKeys.{at_bytes};
 
 use ident::{BlockHash, Point};
 use std::alloc::{AllocError, Global};
@@ -39,7 +39,8 @@ impl Names {
 
     /// What is bound to a name.
     pub fn get(&self, name: &[u8]) -> Option<&Bound>
-        ensures { (names : List Binding) → AreBound self.now names → option_map (λ b. told_bound b.now) result ≡ bound_to name.now names }
+        ensures { (names : List Binding) → AreBound self.now names
+            → option_map (λ b. bound_of b.now) result ≡ bound_to name.now names }
     {
         self.by_name.get(name)
     }
@@ -56,7 +57,8 @@ impl Names {
 
     /// Binds a name that is free.
     pub fn bind(&mut self, name: &[u8], bound: Bound) -> Result<(), AllocError>
-        ensures { OnOk result ((names : List Binding) → AreBound self.old names → bound_to name.now names ≡ None → AreBound self.new (names ++ record { name = name.now; bound = told_bound bound } ∷ [])) }
+        ensures { OnOk result ((names : List Binding) → AreBound self.old names → bound_to name.now names ≡ None
+            → AreBound self.new (names ++ record { name = name.now; bound = bound_of bound } ∷ [])) }
     {
         if let Some(place) = bound.place {
             self.name_block(place.hash, name)?;
@@ -69,7 +71,10 @@ impl Names {
     /// Gives a name to a block that has none.
     fn name_block(&mut self, hash: BlockHash, name: &[u8]) -> Result<(), AllocError>
         ensures by_name { self.new.by_name ≡ self.old.by_name }
-        ensures by_hash { OnOk result ((q : List ℕ) → option_map (λ n. n.items) (at_bytes (λ k. k.bytes) q self.new.by_hash) ≡ option_or (option_map (λ n. n.items) (at_bytes (λ k. k.bytes) q self.old.by_hash)) (if bytes_eq q hash.bytes then Some name.now else None)) }
+        ensures by_hash { OnOk result ((q : List ℕ)
+            → option_map (λ n. n.items) (at_bytes (λ k. k.bytes) q self.new.by_hash) ≡ option_or
+            (option_map (λ n. n.items) (at_bytes (λ k. k.bytes) q self.old.by_hash))
+            (if bytes_eq q hash.bytes then Some name.now else None)) }
     {
         if !self.by_hash.contains_key(&hash) {
             let value = Vec::from_slice(self.alloc, name)?;

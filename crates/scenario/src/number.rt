@@ -1,7 +1,7 @@
 //! Numbers of a script.
 
 ghost use Rattle.std.specs.Prelude.{◌≡◌};
-ghost use Rattle.scenario.specs.Text.{number_of, number_from};
+ghost use Rattle.scenario.specs.Text.{parse_number, number_from};
 
 use crate::words::is_digit;
 
@@ -22,8 +22,8 @@ fn number_from(digits: &[u8]) -> Option<u64>
 }
 
 /// The number that a word says: decimal, without a zero in front, below 2^64.
-pub fn number_of(word: &[u8]) -> Option<u64>
-    ensures { result ≡ number_of word.now }
+pub fn parse_number(word: &[u8]) -> Option<u64>
+    ensures { result ≡ parse_number word.now }
 {
     match word {
         [] => None,

@@ -10,7 +10,7 @@ use std::io::{ErrorKind, Write};
 #[derive(Clone, Copy, Debug, PartialEq, Eq)]
 pub struct WriteStopped {}
 
-/// Writes all bytes. Where the writer fails, a beginning of them was written.
+/// Writes all bytes. Where the writer fails, a beginning of them was written, and not all.
 pub fn write_all<W: Write>(writer: &mut W, bytes: &[u8]) -> Result<(), WriteStopped>
     ensures ok { OnOk result (Appends (W.contents writer.old) (W.contents writer.new) bytes.now) }
     ensures err { OnErr result (AppendsPart (W.contents writer.old) (W.contents writer.new) bytes.now) }
@@ -30,5 +30,9 @@ pub fn write_all<W: Write>(writer: &mut W, bytes: &[u8]) -> Result<(), WriteStop
             }
         }
     }
-    Err(WriteStopped {})
+    if rest.is_empty() {
+        Ok(())
+    } else {
+        Err(WriteStopped {})
+    }
 }

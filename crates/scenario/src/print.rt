@@ -1,100 +1,44 @@
 //! The lines that a script prints.
 
 ghost use Rattle.std.specs.Prelude.{◌≡◌, ◌++◌, ℕ, List, OnOk, Some};
-ghost use Rattle.model.specs.History.{number_of};
-ghost use Rattle.chain_core.specs.RefusalView.{told_refusal};
-ghost use Rattle.chain_core.specs.PointView.{told_point};
-ghost use Rattle.chain_core.specs.FollowerView.{told_instruction};
-ghost use Rattle.chain_core.specs.EventView.{told_open, told_next};
-ghost use Rattle.scenario.specs.OutcomeView.{told_outcome};
+ghost use Rattle.ident.specs.PointView.{point_of};
+ghost use Rattle.chain_core.specs.Views.{instruction_of, arrive_reply_of, open_reply_of, next_reply_of};
 ghost use Rattle.scenario.specs.Names.{Binding};
 ghost use Rattle.scenario.specs.NamesView.{AreBound};
-ghost use Rattle.scenario.specs.Print.{refusal_name, reply_text, arrival_text, opening_reply_text, opening_text, point_name, IsInstructionText, IsNextReplyText, IsNextText, tip_text};
+ghost use Rattle.scenario.specs.Print.{arrival_text, opening_reply_text, opening_text, point_name, IsInstructionText};
+ghost use Rattle.scenario.specs.Print.{IsNextReplyText, IsNextText, tip_text};
 
 use crate::line::Form;
 use crate::names::Names;
-use chain_core::{ArriveReply, FollowerId, Instruction, NextFault, OpenFault, Refusal};
+use chain_core::{ArriveReply, FollowerId, Instruction, NextFault, OpenFault};
 use ident::Point;
 use std::alloc::AllocError;
-use std::fmt;
 use std::io::Write;
-
-/// The number of a refusal.
-fn refusal_number(refusal: Refusal) -> u64
-    ensures { result ≡ number_of (told_refusal refusal) }
-{
-    match refusal {
-        Refusal::TooLarge => 1,
-        Refusal::Malformed => 2,
-        Refusal::BodyHashMismatch => 3,
-        Refusal::TooOld => 4,
-        Refusal::Known => 5,
-        Refusal::Clash => 6,
-        Refusal::VolatileFull => 7,
-    }
-}
-
-/// The name of a refusal.
-fn refusal_name(refusal: Refusal) -> &'static str
-    ensures { result.now ≡ refusal_name (told_refusal refusal) }
-{
-    match refusal {
-        Refusal::TooLarge => "TooLarge",
-        Refusal::Malformed => "Malformed",
-        Refusal::BodyHashMismatch => "BodyHashMismatch",
-        Refusal::TooOld => "TooOld",
-        Refusal::Known => "Known",
-        Refusal::Clash => "Clash",
-        Refusal::VolatileFull => "VolatileFull",
-    }
-}
-
-/// The answer to an arrival as it is printed: none where memory ran out.
-#[derive(Clone, Copy)]
-struct ReplyText {
-    reply: Option<ArriveReply>,
-}
-
-impl fmt::Display for ReplyText {
-    ghost output = { λ text. Some (reply_text (told_outcome text.reply)) };
-
-    fn fmt<W: fmt::Write>(&self, f: &mut fmt::Formatter<W>) -> fmt::Result {
-        match self.reply {
-            Some(ArriveReply::Kept { back, added }) => {
-                write!(f, "kept back {back} added {added}")
-            }
-            Some(ArriveReply::Refused(refusal)) => {
-                let number = refusal_number(refusal);
-                let name = refusal_name(refusal);
-                write!(f, "refused {number} {name}")
-            }
-            None => f.write_str("out of memory"),
-        }
-    }
-}
 
 /// Appends what an arrival prints.
 pub fn print_arrival(
     line: &mut Vec<u8>,
     form: Form,
     name: &[u8],
-    reply: Option<ArriveReply>,
+    reply: Result<ArriveReply, AllocError>,
 ) -> Result<(), AllocError>
-    ensures { OnOk result (line.new.items ≡ line.old.items ++ arrival_text form name.now (told_outcome reply)) }
+    ensures { OnOk result (line.new.items ≡ line.old.items ++ arrival_text form name.now (arrive_reply_of reply)) }
 {
     line.extend_from_slice(form.word())?;
     line.push(b' ')?;
     line.extend_from_slice(name)?;
-    let text = ReplyText { reply };
-    match write!(line, ": {text}\n") {
-        Ok(()) => Ok(()),
-        Err(_) => Err(AllocError),
+    match reply {
+        Ok(reply) => match write!(line, ": {reply}\n") {
+            Ok(()) => Ok(()),
+            Err(_) => Err(AllocError),
+        },
+        Err(AllocError) => line.extend_from_slice(b": out of memory\n"),
     }
 }
 
 /// What the opening of a follower is answered.
 fn opening_reply(reply: Result<FollowerId, OpenFault>) -> &'static [u8]
-    ensures { result.now ≡ opening_reply_text (told_open reply) }
+    ensures { result.now ≡ opening_reply_text (open_reply_of reply) }
 {
     match reply {
         Ok(_) => b"ok".as_slice(),
@@ -109,7 +53,7 @@ pub fn print_opening(
     name: &[u8],
     reply: Result<FollowerId, OpenFault>,
 ) -> Result<(), AllocError>
-    ensures { OnOk result (line.new.items ≡ line.old.items ++ opening_text name.now (told_open reply)) }
+    ensures { OnOk result (line.new.items ≡ line.old.items ++ opening_text name.now (open_reply_of reply)) }
 {
     line.extend_from_slice(b"open ")?;
     line.extend_from_slice(name)?;
@@ -121,7 +65,8 @@ pub fn print_opening(
 
 /// The name of a place on a chain.
 fn point_name<'a>(names: &'a Names, point: &Point) -> &'a [u8]
-    ensures { (bound : List Binding) → AreBound names.entry.now bound → result.now ≡ point_name bound (told_point point.now) }
+    ensures { (bound : List Binding) → AreBound names.entry.now bound
+        → result.now ≡ point_name bound (point_of point.now) }
 {
     if point.number == 0 {
         b"genesis".as_slice()
@@ -136,7 +81,8 @@ fn print_instruction(
     names: &Names,
     instruction: &Option<Instruction>,
 ) -> Result<(), AllocError>
-    ensures { OnOk result ((bound : List Binding) → AreBound names.now bound → (text : List ℕ) × IsInstructionText bound (told_instruction instruction.now) text × (line.new.items ≡ line.old.items ++ text)) }
+    ensures { OnOk result ((bound : List Binding) → AreBound names.now bound → (text : List ℕ)
+        × IsInstructionText bound (instruction_of instruction.now) text × (line.new.items ≡ line.old.items ++ text)) }
 {
     match instruction {
         None => line.extend_from_slice(b"none"),
@@ -157,7 +103,8 @@ fn print_next_reply(
     names: &Names,
     reply: &Result<Option<Instruction>, NextFault>,
 ) -> Result<(), AllocError>
-    ensures { OnOk result ((bound : List Binding) → AreBound names.now bound → (text : List ℕ) × IsNextReplyText bound (told_next reply.now) text × (line.new.items ≡ line.old.items ++ text)) }
+    ensures { OnOk result ((bound : List Binding) → AreBound names.now bound → (text : List ℕ)
+        × IsNextReplyText bound (next_reply_of reply.now) text × (line.new.items ≡ line.old.items ++ text)) }
 {
     match reply {
         Ok(instruction) => print_instruction(line, names, instruction),
@@ -173,7 +120,8 @@ pub fn print_next(
     name: &[u8],
     reply: &Result<Option<Instruction>, NextFault>,
 ) -> Result<(), AllocError>
-    ensures { OnOk result ((bound : List Binding) → AreBound names.now bound → (out : List ℕ) × IsNextText bound name.now (told_next reply.now) out × (line.new.items ≡ line.old.items ++ out)) }
+    ensures { OnOk result ((bound : List Binding) → AreBound names.now bound → (out : List ℕ)
+        × IsNextText bound name.now (next_reply_of reply.now) out × (line.new.items ≡ line.old.items ++ out)) }
 {
     line.extend_from_slice(b"next ")?;
     line.extend_from_slice(name)?;
@@ -185,7 +133,8 @@ pub fn print_next(
 
 /// Appends what the question `tip` prints.
 pub fn print_tip(line: &mut Vec<u8>, names: &Names, point: &Point) -> Result<(), AllocError>
-    ensures { OnOk result ((bound : List Binding) → AreBound names.now bound → line.new.items ≡ line.old.items ++ tip_text bound (told_point point.now)) }
+    ensures { OnOk result ((bound : List Binding) → AreBound names.now bound → line.new.items ≡ line.old.items
+        ++ tip_text bound (point_of point.now)) }
 {
     let number = point.number;
     let name = point_name(names, point);

@@ -1,16 +1,17 @@
 //! The run of a script.
 
-ghost use Rattle.std.specs.Prelude.{◌≡◌, ◌+◌, ◌≤◌, ◌⊎◌, length, OnOk, IfErr, IfSome};
-ghost use Rattle.chain_core.specs.GenesisView.{told_genesis};
-ghost use Rattle.scenario.specs.Line.{line_of};
-ghost use Rattle.scenario.specs.LineView.{told_line};
+ghost use Rattle.std.specs.Prelude.{◌≡◌, ℕ, ◌+◌, ◌≤◌, ◌⊎◌, List, [], ◌∷◌, ◌++◌, length, OnOk, IfErr, IfSome};
+ghost use Rattle.chain_core.specs.Views.{genesis_of};
+ghost use Rattle.scenario.specs.Line.{parse_line};
+ghost use Rattle.scenario.specs.LineView.{line_of};
 ghost use Rattle.scenario.specs.Meaning.{meaning_of};
 ghost use Rattle.scenario.specs.Run.{Scene, script_genesis, EndsWell, EndsBy};
+ghost use Rattle.scenario.specs.Text.{script_size_limit};
 ghost use Rattle.scenario.specs.Ending.{fault_of};
 ghost use Rattle.scenario.specs.SessionView.{Holds, IsObeyed};
 
 use crate::fault::{LineFault, ScenarioFault};
-use crate::line::line_of;
+use crate::line::parse_line;
 use crate::output::{WriteStopped, write_all};
 use crate::session::Session;
 use crate::stop::Stop;
@@ -18,8 +19,8 @@ use chain_core::Genesis;
 use std::alloc::Global;
 use std::io::{BufRead, Error, ErrorKind, Write};
 
-/// The most bytes that a script may have.
-const MAX_SCRIPT_SIZE: u64 = 4_194_304;
+/// The most bytes that a script may have. The line of the first byte past them is a [`LineFault::BadLine`].
+pub const MAX_SCRIPT_SIZE: u64 = 4_194_304;
 
 /// What a network of a script agrees on.
 const GENESIS: Genesis = Genesis {
@@ -29,29 +30,36 @@ const GENESIS: Genesis = Genesis {
 };
 
 /// Does what a line says that comes behind so many bytes, and answers what it prints.
-fn play(alloc: Global, session: &mut Session, before: u64, line: &[u8]) -> Result<Vec<u8>, Stop>
-    requires { before ≤ 4194304 }
-    ensures obeyed { (s : Scene) → Holds session.old s → IsObeyed session.old.core.genesis s (meaning_of before s.names line.now) result session.new }
+fn play(session: &mut Session, before: u64, line: &[u8]) -> Result<Vec<u8>, Stop>
+    requires { before ≤ script_size_limit }
+    ensures obeyed { (s : Scene) → Holds session.old s
+        → IsObeyed session.old.core.genesis s (meaning_of before s.names line.now) result session.new }
     ensures genesis { session.new.core.genesis ≡ session.old.core.genesis }
-    ensures size { OnOk result (before + length line.now ≤ 4194304) }
+    ensures size { OnOk result (before + length line.now ≤ script_size_limit) }
 {
     if line.len() as u64 > MAX_SCRIPT_SIZE - before {
         return Err(Stop::Fault(LineFault::BadLine));
     }
-    match line_of(alloc, line) {
-        Ok(line) => session.obey(line),
-        Err(stop) => Err(stop),
+    match parse_line(line) {
+        Some(line) => session.obey(line),
+        None => Err(Stop::Fault(LineFault::BadLine)),
     }
 }
 
-/// Why no line was read.
-fn read_fault(error: &Error) -> ScenarioFault
-    ensures { (result ≡ ScenarioFault.ReadFailed) ⊎ (result ≡ ScenarioFault.OutOfMemory) }
+/// Why no line was read, of which these bytes were. That memory ran out is said only where they are no whole line.
+fn read_fault(error: &Error, line: &[u8]) -> ScenarioFault
+    ensures { (result ≡ ScenarioFault.ReadFailed) ⊎ ((result ≡ ScenarioFault.OutOfMemory)
+        × ((content : List ℕ) → line.now ≡ content ++ 10 ∷ [] → ⊥)) }
 {
-    if error.kind() == ErrorKind::OutOfMemory {
-        ScenarioFault::OutOfMemory
-    } else {
-        ScenarioFault::ReadFailed
+    match line {
+        [.., b'\n'] => ScenarioFault::ReadFailed,
+        _ => {
+            if error.kind() == ErrorKind::OutOfMemory {
+                ScenarioFault::OutOfMemory
+            } else {
+                ScenarioFault::ReadFailed
+            }
+        }
     }
 }
 
@@ -67,27 +75,34 @@ fn line_fault(number: u64, stop: Stop) -> ScenarioFault
 
 /// Runs a script line by line. What each line prints is written before the next line is read, and the first
 /// fault ends the run; what was written before stands.
+///
+/// A line is read whole before it is looked at. A reader whose lines may have no end is given by
+/// [`Read::take`](std::io::Read::take) with one byte more than [`MAX_SCRIPT_SIZE`], which makes such a line a bad one.
 pub fn run<R: BufRead, W: Write>(
     alloc: Global,
     reader: &mut R,
     writer: &mut W,
 ) -> Result<(), ScenarioFault>
-    // Without a fault, what was written is what all lines of the text print.
-    ensures ok { OnOk result (IfSome (R.remaining reader.old) (λ text. EndsWell script_genesis text (W.contents writer.old) (W.contents writer.new))) }
-    // At a fault of the script it is the first one, and what was written is what the lines before it print; else what was written is a beginning of what lines print that were read.
-    ensures fault { IfErr result (λ why. IfSome (R.remaining reader.old) (λ text. EndsBy script_genesis text (R.remaining reader.new) (W.contents writer.old) (W.contents writer.new) why)) }
+    // Without a fault, what was written is what all lines of the text print, and the chain theorem holds of their
+    // events.
+    ensures ok { OnOk result (IfSome (R.remaining reader.old)
+        (λ text. EndsWell script_genesis text (W.contents writer.old) (W.contents writer.new))) }
+    // At a fault of the script it is the first one. In each case the chain theorem holds of the lines that were obeyed.
+    ensures fault { IfErr result (λ why. IfSome (R.remaining reader.old)
+        (λ text. EndsBy script_genesis text (R.remaining reader.new) (W.contents writer.old)
+        (W.contents writer.new) why)) }
 {
     let mut session = Session::new(alloc, GENESIS);
     let mut before: u64 = 0;
     for number in 1..4_194_306u64 {
         let mut line = Vec::new(alloc);
         if let Err(error) = reader.read_until(b'\n', &mut line) {
-            return Err(read_fault(&error));
+            return Err(read_fault(&error, &line));
         }
         if line.is_empty() {
             return Ok(());
         }
-        let printed = match play(alloc, &mut session, before, &line) {
+        let printed = match play(&mut session, before, &line) {
             Ok(printed) => printed,
             Err(stop) => return Err(line_fault(number, stop)),
         };

@@ -291,3 +291,40 @@ fn a_writer_that_fails(rt: HostRuntime) {
         );
     }
 }
+
+/// A writer whose every other write is interrupted.
+#[derive(Drop)]
+struct Interrupted {
+    turns: u64,
+    written: Vec<u8>,
+}
+
+impl Write for Interrupted {
+    fn write(&mut self, buf: &[u8]) -> io::Result<usize> {
+        self.turns = self.turns.wrapping_add(1);
+        if self.turns % 2 == 1 {
+            return Err(io::Error::from(io::ErrorKind::Interrupted));
+        }
+        let taken = buf.len().min(3);
+        self.written.extend_from_slice(&buf[..taken])?;
+        Ok(taken)
+    }
+
+    fn flush(&mut self) -> io::Result<()> {
+        Ok(())
+    }
+}
+
+#[test]
+fn a_writer_that_is_interrupted(rt: HostRuntime) {
+    let mut reader = scripts::LATE_PREDECESSOR.as_bytes();
+    let mut writer = Interrupted {
+        turns: 0,
+        written: Vec::new(rt.alloc()),
+    };
+    assert_eq!(rt; run(rt.alloc(), &mut reader, &mut writer), Ok(()));
+    assert_eq!(rt;
+        writer.written.as_slice(),
+        scripts::LATE_PREDECESSOR_PRINTS.as_bytes()
+    );
+}

@@ -1,10 +1,10 @@
 //! Words of a line.
 
-ghost use Rattle.std.specs.Prelude.{◌≡◌, ◌||◌, ◌==◌, map, IfOk, count_by};
-ghost use Rattle.std.specs.List.{list_all};
-ghost use Rattle.scenario.specs.Text.{content_of, words_of, is_printable, is_letter, is_digit, is_name, begins_with_letter};
-
-use std::alloc::{AllocError, Global};
+ghost use Rattle.std.specs.Prelude.{◌≡◌, ◌||◌, ◌==◌, option_map, drop};
+ghost use Rattle.std.specs.List.{list_all, position};
+ghost use Rattle.scenario.specs.Text.{content_of, words_of, first_word, is_printable, is_letter, is_digit, is_name};
+ghost use Rattle.scenario.specs.Text.{begins_with_letter};
+ghost use Rattle.scenario.specs.WordsView.{words_left};
 
 /// The line without the line feed that ends it.
 pub fn content_of(line: &[u8]) -> &[u8]
@@ -64,16 +64,44 @@ pub fn is_printable(content: &[u8]) -> bool
     content.iter().all(|b| *b >= 0x20 && *b <= 0x7e)
 }
 
-/// How many spaces there are.
-pub fn count_spaces(content: &[u8]) -> usize
-    ensures { result ≡ count_by (λ b. b == 32) content.now }
+/// Where the first space stands.
+fn first_space(content: &[u8]) -> Option<usize>
+    ensures { result ≡ position (λ b. b == 32) content.now }
 {
-    content.iter().filter(|b| **b == b' ').count()
+    content.iter().position(|b| *b == b' ')
 }
 
-/// The words of a line, between single spaces.
-pub fn words_of<'a>(alloc: Global, content: &'a [u8]) -> Result<Vec<&'a [u8]>, AllocError>
-    ensures { IfOk result (λ words. map (λ w. w.now) words.items ≡ words_of content.now) }
-{
-    content.split(|b| *b == b' ').collect(alloc)
+/// The words of a line that are not read yet, between single spaces.
+#[derive(Clone, Copy, Debug)]
+pub struct Words<'a> {
+    rest: Option<&'a [u8]>,
+}
+
+impl<'a> Words<'a> {
+    /// All words of a line.
+    pub fn of(content: &'a [u8]) -> Words<'a>
+        ensures { words_left result ≡ words_of content.entry.now }
+    {
+        Words {
+            rest: Some(content),
+        }
+    }
+
+    /// The next word, if there is one. Takes time in proportion to the word, and no memory.
+    pub fn next_word(&mut self) -> Option<&'a [u8]>
+        ensures word { option_map (λ word. word.now) result ≡ first_word (words_left self.old) }
+        ensures rest { words_left self.new ≡ drop 1 (words_left self.old) }
+    {
+        let content = self.rest?;
+        match first_space(content) {
+            Some(at) => {
+                self.rest = Some(&content[at + 1..]);
+                Some(&content[..at])
+            }
+            None => {
+                self.rest = None;
+                Some(content)
+            }
+        }
+    }
 }

@@ -13,7 +13,7 @@ use Rattle.value.specs.Sides.{sided}
 use Rattle.value.specs.declared.side.Side.{Side}
 use Rattle.value.specs.declared.side.Side.TheVariants.{Added, Taken}
 use Rattle.value.proofs.Lists.{all_map, all_both, all_any}
-use Rattle.ident.proofs.ByteKeys.{has_bytes, set_apart, bytes_from, bytes_apart}
+use Rattle.byte_keys.proofs.ForCallers.{has_bytes, set_apart, bytes_from, bytes_apart}
 use Rattle.value.proofs.Sums.{put_amount}
 use Rattle.std.specs.Map.{set_value}
 

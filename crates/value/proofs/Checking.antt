@@ -12,7 +12,7 @@ use Rattle.std.specs.Option.{MatchOption}
 use Rattle.std.specs.List.Sorted.{IsStrictlySortedBy}
 use Rattle.std.specs.declared.cmp.Ordering.TheVariants.{Less}
 use Rattle.std.proofs.lemmas.Map.Keys.{sorted_head, sorted_tail}
-use Rattle.ident.proofs.ByteKeys.{has_bytes, by_bytes, same_from, same_to}
+use Rattle.byte_keys.proofs.ForCallers.{has_bytes, by_bytes, same_from, same_to}
 use denote.Param.Members.{Mut}
 use denote.Ref.{Bor}
 

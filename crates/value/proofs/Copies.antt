@@ -1,7 +1,7 @@
 -- Copying one after the other, as a loop does.
 use Rattle.std.proofs.Common.{◌≡◌, ℕ, ◌+◌, ◌<◌, ◌≤◌, List, [], ◌∷◌, ◌++◌, length, drop, get_or, map, sym, ap, ◌∙◌, append-nil, append_assoc}
 use Rattle.std.proofs.lemmas.List.{map-append, drop_all}
-use Rattle.value.proofs.Lists.{drop_here}
+use Rattle.cbor.proofs.ForCallers.{drop_here}
 
 module _ {A E : Type 0} (told : A → E) where
   -- these copies and the rest of what is copied are the whole

@@ -1,9 +1,5 @@
-pub mod Entries
-pub mod AssetTexts
 pub mod QuantityTexts
 pub mod ValueTexts
-pub mod ListLoops
-pub mod Writing
 pub mod Copies
 pub mod RisingKeys
 pub mod Lists
@@ -12,3 +8,4 @@ pub mod Sums
 pub mod Preparing
 pub mod Checking
 pub mod Summing
+pub mod Sameness

@@ -1,11 +1,8 @@
 -- Lists from a place on, and what holds of each member.
-use Rattle.std.proofs.Common.{◌≡◌, ℕ, ◌+◌, ◌<◌, ◌≤◌, List, [], ◌∷◌, map, length, get_or, drop, refl, sym, ◌∙◌, ap, subst, add-one, drop-cons}
+use Rattle.std.proofs.Common.{◌≡◌, ℕ, ◌+◌, ◌<◌, ◌≤◌, List, [], ◌∷◌, map, length, get_or, drop, subst}
 use Rattle.std.specs.List.{AllByRecursion}
 use Rattle.std.proofs.lemmas.List.{drop_all}
-
--- the members from a place on
-pub drop_here : {A : Type 0} (xs : List A) (i : ℕ) (x : A) → i < length xs → x ≡ get_or xs i x → drop i xs ≡ x ∷ drop (i + 1) xs
-drop_here {A} xs i x h is = let e : drop i xs ≡ get_or xs i x ∷ drop (i + 1) xs = rw (add-one, drop-cons xs i x) refl in e ∙ ap (λ (y : A). y ∷ drop (i + 1) xs) (sym is)
+use Rattle.cbor.proofs.ForCallers.{drop_here}
 
 -- what a place of a list and the places after it stand for
 pub rest_here : {A B : Type 0} (f : A → B) (P : List B → Type 0) (xs : List A) (i : ℕ) (x : A) → i < length xs → x ≡ get_or xs i x → P (map f (drop i xs)) → P (f x ∷ map f (drop (i + 1) xs))

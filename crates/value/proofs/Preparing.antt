@@ -3,7 +3,7 @@ use Rattle.std.proofs.Common.{◌≡◌, ℕ, List, ◌∷◌, Option, Some, ref
 use Rattle.std.specs.Prelude.{IsSome}
 use Rattle.std.specs.List.{AllByRecursion}
 use Rattle.value.proofs.Lists.{all_map}
-use Rattle.ident.proofs.ByteKeys.{has_bytes, lookup_set, set_keeps, bytes_self}
+use Rattle.byte_keys.proofs.ForCallers.{has_bytes, lookup_set, set_keeps, bytes_self}
 use Rattle.std.specs.Map.{set_value}
 use Rattle.model.specs.Value.{Token, Policy}
 use Rattle.value.specs.declared.amounts.Amounts.{Amounts}

@@ -4,7 +4,7 @@ use Rattle.std.specs.Prelude.{bytes_eq, IsSome}
 use Rattle.std.specs.Map.{lookup, set_value}
 use Rattle.std.proofs.lemmas.Int.{ints}
 use Rattle.value.specs.Quantities.{IsWithin, quantity_limit}
-use Rattle.ident.proofs.ByteKeys.{has_bytes, lookup_set, bytes_from, some_either}
+use Rattle.byte_keys.proofs.ForCallers.{has_bytes, lookup_set, bytes_from, some_either}
 use mir.Syntax.{w128}
 
 -- a quantity in 128 bits

@@ -1,10 +1,9 @@
 pub mod Quantities
 pub mod View
 pub mod Reading
-pub mod Read
-pub mod Written
 pub mod Held
 pub mod Differing
 pub mod Sides
 pub mod Sums
 pub mod Totals
+pub mod Same

@@ -1,27 +1,25 @@
--- Reading a quantity: what stands first and the bytes after it, or None where no quantity stands there.
-use Rattle.std.specs.Prelude.{ℕ, ℤ, pos, negsuc, neg_ℤ, ◌≤ℤ◌, ◌^◌, List, Option, Some, None, nat_lt, ◌==◌, if◌then◌else◌}
-use Rattle.cbor.specs.Reading.{◌>>=◌, head_at}
+-- Reading a quantity: what stands first and the bytes after it, or None where no quantity stands there; and how
+-- large quantities are.
+use Rattle.std.specs.Prelude.{ℕ, ℤ, pos, negsuc, neg_ℤ, ◌≤ℤ◌, ◌^◌, ◌&&◌, not, nat_lt, ◌==◌}
+use Rattle.model.specs.Limits.{number_limit}
+use Rattle.cbor.specs.Reading.{head_at}
+use Rattle.cbor.specs.Shapes.{Reading, such_at, as_at, either_at}
 
 -- of an output: from 1 on
-unfoldable pub held_at : List ℕ → Option (ℕ × List ℕ)
-held_at bytes = do
-  n ← head_at 0 bytes
-  if n.0 == 0 then None else Some (n.0, n.1)
+unfoldable pub held_at : Reading ℕ
+held_at bytes = such_at (λ n. not (n == 0)) (head_at 0) bytes
+
+-- a quantity that is made: from 1 on, and below 2 ^ 63
+unfoldable pub made_at : Reading ℤ
+made_at bytes = as_at pos (such_at (λ n. not (n == 0) && nat_lt n number_limit) (head_at 0)) bytes
 
 -- a quantity that is taken away, of which -2 ^ 63 is the last
-abbrev pub taken_away_at : List ℕ → Option (ℤ × List ℕ)
-taken_away_at bytes = do
-  n ← head_at 1 bytes
-  if nat_lt n.0 (2 ^ 63) then Some (negsuc n.0, n.1) else None
-
--- where an unsigned number stands first it is the quantity, from 1 to 2 ^ 63 - 1
-abbrev pub minted_by : Option (ℕ × List ℕ) → List ℕ → Option (ℤ × List ℕ)
-minted_by (Some n) bytes = if n.0 == 0 then None else if nat_lt n.0 (2 ^ 63) then Some (pos n.0, n.1) else None
-minted_by None bytes = taken_away_at bytes
+unfoldable pub taken_away_at : Reading ℤ
+taken_away_at bytes = as_at negsuc (such_at (λ n. nat_lt n number_limit) (head_at 1)) bytes
 
 -- of what is minted
-unfoldable pub minted_at : List ℕ → Option (ℤ × List ℕ)
-minted_at bytes = minted_by (head_at 0 bytes) bytes
+unfoldable pub minted_at : Reading ℤ
+minted_at bytes = either_at made_at taken_away_at bytes
 
 -- ---- bounds
 

@@ -1,7 +1,7 @@
 -- What the sums of the code have under each name and policy.
 use Rattle.std.specs.Prelude.{ℕ, ℤ, pos, List, Option, Some, None, IsSome}
 use Rattle.std.specs.List.{AllByRecursion}
-use Rattle.ident.specs.ByteKeys.{at_bytes}
+use Rattle.byte_keys.specs.ByteKeys.{at_bytes}
 use Rattle.model.specs.Value.{Asset, Ada, Named, Token, Policy}
 use Rattle.value.specs.Quantities.{IsWithin, quantity_limit}
 use Rattle.value.specs.declared.amounts.Amounts.{Amounts}

@@ -4,12 +4,12 @@ use Rattle.model.specs.Value.{Token, Policy, Value}
 use Rattle.value.specs.declared.assets.Token.{Token as CodeToken}
 use Rattle.value.specs.declared.assets.Policy.{Policy as CodePolicy}
 
-abbrev pub told_token : {Q : Type 0} → CodeToken Q → Token Q
-told_token t = record { name = t.name.items; quantity = t.quantity }
+abbrev pub token_of : {Q : Type 0} → CodeToken Q → Token Q
+token_of t = record { name = t.name.items; quantity = t.quantity }
 
-abbrev pub told_policy : {Q : Type 0} → CodePolicy Q → Policy Q
-told_policy p = record { id = p.id.bytes; tokens = map told_token p.tokens.items }
+abbrev pub policy_of : {Q : Type 0} → CodePolicy Q → Policy Q
+policy_of p = record { id = p.id.bytes; tokens = map token_of p.tokens.items }
 
 -- coin and assets as a value
 abbrev pub value_with : ℕ → List (CodePolicy ℕ) → Value
-value_with coin assets = record { coin = coin; assets = map told_policy assets }
+value_with coin assets = record { coin = coin; assets = map policy_of assets }

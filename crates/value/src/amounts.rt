@@ -1,13 +1,15 @@
 //! Sums under the names of one policy, and under all policies.
 
-ghost use Rattle.std.specs.Prelude.{◌≡◌, None, false, ◌↔◌, ◌^◌, ◌+ℤ◌, ℕ, ℤ, pos, List, map, IsTrue, IsSome, OnOk, bytes_eq, if◌then◌else◌};
+ghost use Rattle.std.specs.Prelude.{◌≡◌, None, false, ◌↔◌, ◌^◌, ◌+ℤ◌, ℕ, ℤ, pos, List, map, IsTrue, IsSome, OnOk};
+ghost use Rattle.std.specs.Prelude.{bytes_eq, if◌then◌else◌};
 ghost use Rattle.std.specs.List.{AllByRecursion};
 ghost use Rattle.model.specs.Value.{named_amount, policy_amount};
 ghost use Rattle.value.specs.Quantities.{IsWithin, quantity_limit};
-ghost use Rattle.value.specs.View.{told_token, told_policy};
+ghost use Rattle.value.specs.View.{token_of, policy_of};
 ghost use Rattle.value.specs.Differing.{NamesDiffer, PoliciesDiffer};
 ghost use Rattle.value.specs.Sides.{sided};
-ghost use Rattle.value.specs.Sums.{sum_under, sum_of, amount_under, amount_in, HasAll, HasPolicy, amounts_of, AreBounded};
+ghost use Rattle.value.specs.Sums.{sum_under, sum_of, amount_under, amount_in, HasAll, HasPolicy, amounts_of};
+ghost use Rattle.value.specs.Sums.{AreBounded};
 
 use crate::assets::{Policy, Token};
 use crate::quantity::Quantity;
@@ -36,7 +38,7 @@ impl Amounts {
     pub fn prepare<Q>(&mut self, alloc: Global, tokens: &[Token<Q>]) -> Result<(), AllocError>
         ensures same { (name : List ℕ) → amount_under self.new name ≡ amount_under self.old name }
         ensures kept { (name : List ℕ) → IsSome (sum_under self.old name) → IsSome (sum_under self.new name) }
-        ensures present { OnOk result (HasAll self.new (map told_token tokens.now)) }
+        ensures present { OnOk result (HasAll self.new (map token_of tokens.now)) }
     {
         for token in tokens {
             self.prepare_name(alloc, &token.name)?;
@@ -59,11 +61,12 @@ impl Amounts {
 
     /// Adds what the tokens have to the sums under their names, or takes it from them: one look-up each.
     pub fn change<Q: Quantity>(&mut self, tokens: &[Token<Q>], side: Side)
-        requires present { HasAll self.old (map told_token tokens.now) }
-        requires differ { NamesDiffer (map told_token tokens.now) }
+        requires present { HasAll self.old (map token_of tokens.now) }
+        requires differ { NamesDiffer (map token_of tokens.now) }
         requires room { (name : List ℕ) → IsWithin (2 ^ 126) (amount_under self.old name) }
-        ensures sums { (name : List ℕ) → amount_under self.new name ≡ amount_under self.old name +ℤ sided side (named_amount Q.whole name (map told_token tokens.now)) }
-        ensures bounded { AreBounded Q.whole (map told_token tokens.now) }
+        ensures sums { (name : List ℕ) → amount_under self.new name ≡
+            amount_under self.old name +ℤ sided side (named_amount Q.whole name (map token_of tokens.now)) }
+        ensures bounded { AreBounded Q.whole (map token_of tokens.now) }
     {
         for token in tokens {
             let by = side.change_by(token.quantity.to_whole());
@@ -76,7 +79,8 @@ impl Amounts {
         requires present { IsSome (sum_under self.old name.now) }
         requires room { IsWithin (2 ^ 126) (amount_under self.old name.now) }
         requires within { IsWithin quantity_limit by }
-        ensures sums { (q : List ℕ) → amount_under self.new q ≡ amount_under self.old q +ℤ (if bytes_eq q name.now then by else pos 0) }
+        ensures sums { (q : List ℕ) → amount_under self.new q ≡
+            amount_under self.old q +ℤ (if bytes_eq q name.now then by else pos 0) }
         ensures kept { (q : List ℕ) → IsSome (sum_under self.old q) → IsSome (sum_under self.new q) }
     {
         // It is there, so nothing is left out.
@@ -122,7 +126,7 @@ impl AllAmounts {
     /// Makes an entry for each name of each policy, so that `change` takes no memory. No amount changes.
     pub fn prepare<Q>(&mut self, alloc: Global, policies: &[Policy<Q>]) -> Result<(), AllocError>
         ensures same { (policy name : List ℕ) → amount_in self.new policy name ≡ amount_in self.old policy name }
-        ensures present { OnOk result (AllByRecursion (HasPolicy self.new) (map told_policy policies.now)) }
+        ensures present { OnOk result (AllByRecursion (HasPolicy self.new) (map policy_of policies.now)) }
     {
         for policy in policies {
             self.prepare_policy(alloc, policy)?;
@@ -134,7 +138,7 @@ impl AllAmounts {
     fn prepare_policy<Q>(&mut self, alloc: Global, policy: &Policy<Q>) -> Result<(), AllocError>
         ensures same { (q name : List ℕ) → amount_in self.new q name ≡ amount_in self.old q name }
         ensures kept { (q name : List ℕ) → IsSome (sum_of self.old q name) → IsSome (sum_of self.new q name) }
-        ensures present { OnOk result (HasPolicy self.new (told_policy policy.now)) }
+        ensures present { OnOk result (HasPolicy self.new (policy_of policy.now)) }
     {
         self.prepare_id(alloc, policy.id)?;
         if let Some(amounts) = self.by_policy.get_mut(&policy.id) {
@@ -157,11 +161,13 @@ impl AllAmounts {
     /// Adds what there is of each policy to the sums, or takes it from them: one look-up for each policy, and
     /// one for each name among those of its policy.
     pub fn change<Q: Quantity>(&mut self, policies: &[Policy<Q>], side: Side)
-        requires present { AllByRecursion (HasPolicy self.old) (map told_policy policies.now) }
-        requires differ { PoliciesDiffer (map told_policy policies.now) }
+        requires present { AllByRecursion (HasPolicy self.old) (map policy_of policies.now) }
+        requires differ { PoliciesDiffer (map policy_of policies.now) }
         requires room { (policy name : List ℕ) → IsWithin (2 ^ 126) (amount_in self.old policy name) }
-        ensures sums { (policy name : List ℕ) → amount_in self.new policy name ≡ amount_in self.old policy name +ℤ sided side (policy_amount Q.whole policy name (map told_policy policies.now)) }
-        ensures bounded { AllByRecursion (λ p. AreBounded Q.whole p.tokens) (map told_policy policies.now) }
+        ensures sums { (policy name : List ℕ) →
+            amount_in self.new policy name ≡ amount_in self.old policy name +ℤ
+            sided side (policy_amount Q.whole policy name (map policy_of policies.now)) }
+        ensures bounded { AllByRecursion (λ p. AreBounded Q.whole p.tokens) (map policy_of policies.now) }
     {
         for policy in policies {
             self.change_policy(policy, side);
@@ -170,12 +176,15 @@ impl AllAmounts {
 
     /// Adds what there is of one policy, or takes it.
     fn change_policy<Q: Quantity>(&mut self, policy: &Policy<Q>, side: Side)
-        requires present { HasPolicy self.old (told_policy policy.now) }
-        requires differ { NamesDiffer (told_policy policy.now).tokens }
+        requires present { HasPolicy self.old (policy_of policy.now) }
+        requires differ { NamesDiffer (policy_of policy.now).tokens }
         requires room { (name : List ℕ) → IsWithin (2 ^ 126) (amount_in self.old policy.now.id.bytes name) }
-        ensures sums { (q name : List ℕ) → amount_in self.new q name ≡ amount_in self.old q name +ℤ (if bytes_eq q policy.now.id.bytes then sided side (named_amount Q.whole name (told_policy policy.now).tokens) else pos 0) }
-        ensures others { (q : List ℕ) → bytes_eq q policy.now.id.bytes ≡ false → amounts_of self.new q ≡ amounts_of self.old q }
-        ensures bounded { AreBounded Q.whole (told_policy policy.now).tokens }
+        ensures sums { (q name : List ℕ) → amount_in self.new q name ≡
+            amount_in self.old q name +ℤ (if bytes_eq q policy.now.id.bytes then
+            sided side (named_amount Q.whole name (policy_of policy.now).tokens) else pos 0) }
+        ensures others { (q : List ℕ) → bytes_eq q policy.now.id.bytes ≡ false →
+            amounts_of self.new q ≡ amounts_of self.old q }
+        ensures bounded { AreBounded Q.whole (policy_of policy.now).tokens }
     {
         // It is there, unless it has no tokens.
         if let Some(amounts) = self.by_policy.get_mut(&policy.id) {

@@ -6,7 +6,7 @@ use ident::ScriptHash;
 pub const MAX_NAME: usize = 32;
 
 /// A quantity of what a policy has under a name.
-#[derive(Debug, Drop)]
+#[derive(Debug, PartialEq, Eq, Drop)]
 pub struct Token<Q> {
     /// The asset name, 0 to 32 bytes.
     pub name: Vec<u8>,
@@ -14,7 +14,7 @@ pub struct Token<Q> {
 }
 
 /// What there is of one policy.
-#[derive(Debug, Drop)]
+#[derive(Debug, PartialEq, Eq, Drop)]
 pub struct Policy<Q> {
     /// The hash of the policy's script.
     pub id: ScriptHash,

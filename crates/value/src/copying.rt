@@ -1,7 +1,7 @@
 //! Copies of assets.
 
 ghost use Rattle.std.specs.Prelude.{◌≡◌, map, IfOk};
-ghost use Rattle.value.specs.View.{told_token, told_policy};
+ghost use Rattle.value.specs.View.{token_of, policy_of};
 
 use crate::assets::{Policy, Token};
 use crate::quantity::Quantity;
@@ -11,7 +11,7 @@ fn clone_tokens<Q: Quantity>(
     alloc: Global,
     tokens: &[Token<Q>],
 ) -> Result<Vec<Token<Q>>, AllocError>
-    ensures { IfOk result (λ copies. map told_token copies.items ≡ map told_token tokens.now) }
+    ensures { IfOk result (λ copies. map token_of copies.items ≡ map token_of tokens.now) }
 {
     let mut copies = Vec::with_capacity(alloc, tokens.len())?;
     for token in tokens {
@@ -29,7 +29,7 @@ pub fn clone_policies<Q: Quantity>(
     alloc: Global,
     policies: &[Policy<Q>],
 ) -> Result<Vec<Policy<Q>>, AllocError>
-    ensures { IfOk result (λ copies. map told_policy copies.items ≡ map told_policy policies.now) }
+    ensures { IfOk result (λ copies. map policy_of copies.items ≡ map policy_of policies.now) }
 {
     let mut copies = Vec::with_capacity(alloc, policies.len())?;
     for policy in policies {

@@ -1,18 +1,18 @@
 //! What a transaction mints.
 
-ghost use Rattle.std.specs.Prelude.{◌≡◌, ◌≢◌, ◌++◌, ℕ, List, [], map, ◌<◌, ◌+◌, ◌^◌, ◌+ℤ◌, IfOk, IfErr, OnOk, OnErr};
+ghost use Rattle.std.specs.Prelude.{◌≡◌, ◌≢◌, ◌++◌, ℕ, List, [], length, map, ◌<◌, ◌≤◌, ◌+◌, ◌^◌, ◌+ℤ◌, IfOk, IfErr};
+ghost use Rattle.std.specs.Prelude.{OnOk, OnErr, vec_len, vec_capacity};
 ghost use Rattle.model.specs.Cbor.{text_of};
 ghost use Rattle.model.specs.Value as model;
 ghost use Rattle.model.specs.Value.{item_of_number, item_of_assets, SpellsMint, Asset, minted_amount};
-ghost use Rattle.cbor.specs.ItemReading.{IfMalformed};
-ghost use Rattle.value.specs.Read.{BeginsWithText};
+ghost use Rattle.cbor.specs.Gives.{IfMalformed};
+ghost use Rattle.cbor.specs.Texts.{BeginsWithText};
 ghost use Rattle.value.specs.Totals.{total_of};
-ghost use Rattle.value.specs.View.{told_policy};
-ghost use Rattle.value.specs.Written.{Writes};
+ghost use Rattle.value.specs.View.{policy_of};
+ghost use Rattle.cbor.specs.Texts.{Writes};
 
 use crate::assets::Policy;
 use crate::copying::clone_policies;
-use crate::reader;
 use crate::side::Side;
 use crate::totals::Totals;
 use crate::writer::write_assets;
@@ -22,7 +22,7 @@ use std::marker::Model;
 
 /// What a transaction mints, and with quantities below 0 burns: each -2^63 to 2^63 - 1 without 0. Empty
 /// where it does neither.
-#[derive(Drop)]
+#[derive(Debug, Drop)]
 pub struct Mint {
     alloc: Global,
     policies: Vec<Policy<i64>>,
@@ -43,6 +43,23 @@ impl Model for Mint {
     ghost invariant = { IsHeldMint };
 }
 
+impl PartialEq for Mint {
+    ghost use Rattle.std.specs.Prelude.{◌↔◌, IsTrue};
+    ghost use Rattle.value.specs.Same.{mint_eq, same_mint_laws};
+
+    ghost eq = { mint_eq };
+
+    ghost laws = { same_mint_laws };
+
+    /// Whether the two mint the same, which is so just where their texts are the same. Linear in the assets.
+    fn eq(&self, other: &Mint) -> bool
+        ensures exact { result ≡ mint_eq self.now other.now }
+        ensures same { IsTrue result ↔ (self.now ≡ other.now) }
+    {
+        self.policies == other.policies
+    }
+}
+
 impl Mint {
     /// Nothing is minted. Takes no memory.
     pub fn nothing(alloc: Global) -> Mint
@@ -55,31 +72,36 @@ impl Mint {
     }
 
     /// What is minted by the text that stands first, and the bytes after it (RFC 8949, section 4.2.1; the
-    /// mint field of Shelley-MA's bodies, which is never empty). Malformed where no such text stands there.
-    /// Linear in the bytes of the text.
+    /// mint field of Shelley-MA's bodies, which is never empty). Malformed where no such text stands there,
+    /// OutOfMemory where memory ran out before that was known. Linear in the bytes of the text.
     pub fn read(alloc: Global, bytes: &[u8]) -> Result<(Mint, &[u8]), CborFault>
         ensures found { IfOk result (λ x. BeginsWithText (SpellsMint x.0) bytes.now x.1.now) }
-        ensures malformed { IfErr result (λ fault. IfMalformed fault ((mint : model.Mint) (rest : List ℕ) → BeginsWithText (SpellsMint mint) bytes.now rest → ⊥)) }
+        ensures malformed { IfErr result (λ fault. IfMalformed fault ((mint : model.Mint) (rest : List ℕ) →
+            BeginsWithText (SpellsMint mint) bytes.now rest → ⊥)) }
     {
-        let (policies, rest) = reader::assets(alloc, bytes)?;
+        let (policies, rest) = cbor::nonempty_map(alloc, bytes)?;
         let mint = Mint { alloc, policies };
         Ok((mint, rest))
     }
 
     /// The policies with what is minted of them, in the order of the text: by their bytes. Copies nothing.
     pub fn policies(&self) -> &[Policy<i64>]
-        ensures { map told_policy result.now ≡ self.now }
+        ensures { map policy_of result.now ≡ self.now }
     {
         &self.policies
     }
 
-    /// Writes the text behind the bytes (RFC 8949, section 4.2.1). A body has no mint field where nothing is
-    /// minted; what is written then is the empty map, which isn't read again. Where memory runs out the
-    /// bytes stay as they were. Linear in the bytes of the text.
+    /// Writes the text after the bytes (RFC 8949, section 4.2.1), in time linear in it. Err where memory runs out,
+    /// which it does not where the vector has room for the text: the bytes stay as they were. Of nothing the empty map
+    /// is written, so that there is one item for each mint; it is no text of the mint field, which a body leaves out
+    /// where nothing is minted, and is not read again.
     pub fn write(&self, out: &mut Vec<u8>) -> Result<(), AllocError>
         ensures ok { OnOk result (out.new.items ≡ out.old.items ++ text_of (item_of_assets item_of_number self.now)) }
         ensures spelled { self.now ≢ [] → SpellsMint self.now (text_of (item_of_assets item_of_number self.now)) }
         ensures err { OnErr result (out.new.items ≡ out.old.items) }
+        ensures full { OnErr result (vec_capacity out.old < vec_len out.old +
+            length (text_of (item_of_assets item_of_number self.now))) }
+        ensures capacity { vec_capacity out.old ≤ vec_capacity out.new }
     {
         let start = out.len();
         let written = write_assets(out, &self.policies);
@@ -103,7 +125,8 @@ impl Mint {
     /// the sums are as they were. Each asset is looked up among those that were met.
     pub fn add_to(&self, totals: &mut Totals) -> Result<(), AllocError>
         requires { totals.old.values < 2 ^ 62 }
-        ensures sums { OnOk result ((asset : Asset) → total_of totals.new asset ≡ total_of totals.old asset +ℤ minted_amount asset self.now) }
+        ensures sums { OnOk result ((asset : Asset) →
+            total_of totals.new asset ≡ total_of totals.old asset +ℤ minted_amount asset self.now) }
         ensures counted { OnOk result (totals.new.values ≡ totals.old.values + 1) }
         ensures same { OnErr result ((asset : Asset) → total_of totals.new asset ≡ total_of totals.old asset) }
         ensures uncounted { OnErr result (totals.new.values ≡ totals.old.values) }

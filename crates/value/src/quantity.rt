@@ -1,11 +1,15 @@
 //! Quantities of an asset: those of an output and those that are minted.
 
-ghost use Rattle.std.specs.Prelude.{◌≡◌, ℕ, ℤ, pos, negsuc, ◌≤ℤ◌, ◌++◌, List, Option, option_map, OnOk, OnErr};
+ghost use Rattle.std.specs.Prelude.{◌≡◌, ℕ, ℤ, pos, negsuc, ◌≤ℤ◌, ◌++◌, List, Option, ◌<◌, ◌≤◌, ◌+◌, length};
+ghost use Rattle.std.specs.Prelude.{option_map, OnOk, OnErr, vec_capacity};
 ghost use Rattle.model.specs.Cbor.{Item, Unsigned, text_of};
 ghost use Rattle.model.specs.Value.{item_of_number};
-ghost use Rattle.value.specs.Quantities.{held_at, minted_at, IsWithin, quantity_limit};
+ghost use Rattle.value.specs.Quantities.{held_at, made_at, taken_away_at, minted_at, IsWithin, quantity_limit};
 
 use std::alloc::AllocError;
+
+/// No minted quantity is this or more.
+const NUMBER_LIMIT: u64 = 1 << 63;
 
 /// A quantity with its text.
 pub trait Quantity: Copy {
@@ -26,7 +30,9 @@ pub trait Quantity: Copy {
     /// Writes the text of the quantity.
     fn write(self, out: &mut Vec<u8>) -> Result<(), AllocError>
         ensures ok { OnOk result (out.new.items ≡ out.old.items ++ text_of (item_of self)) }
-        ensures err { OnErr result (out.new.items ≡ out.old.items) };
+        ensures err { OnErr result (out.new.items ≡ out.old.items) }
+        ensures full { OnErr result (vec_capacity out.old < length out.old.items + length (text_of (item_of self))) }
+        ensures capacity { vec_capacity out.old ≤ vec_capacity out.new };
 
     /// The quantity, in the width in which quantities are added.
     fn to_whole(self) -> i128
@@ -42,7 +48,7 @@ impl Quantity for u64 {
 
     ghost quantity_at = { held_at };
 
-    #[tactic(auto, unfolding(crate::specs::Quantities::held_at))]
+    #[tactic(auto, unfolding(crate::specs::Quantities::held_at, cbor::specs::Shapes::such_at))]
     fn read(bytes: &[u8]) -> Option<(u64, &[u8])> {
         let (quantity, rest) = cbor::unsigned(bytes)?;
         if quantity == 0 {
@@ -60,6 +66,30 @@ impl Quantity for u64 {
     }
 }
 
+/// A quantity that is made: 1 to 2^63 - 1.
+#[tactic(auto, unfolding(crate::specs::Quantities::made_at, cbor::specs::Shapes::as_at, cbor::specs::Shapes::such_at))]
+fn made(bytes: &[u8]) -> Option<(i64, &[u8])>
+    ensures { option_map (λ x. (x.0, x.1.now)) result ≡ made_at bytes.now }
+{
+    let (quantity, rest) = cbor::unsigned(bytes)?;
+    if quantity == 0 || quantity >= NUMBER_LIMIT {
+        return None;
+    }
+    Some((quantity as i64, rest))
+}
+
+/// A quantity that is taken away: -2^63 to -1.
+#[tactic(auto, unfolding(crate::specs::Quantities::taken_away_at, cbor::specs::Shapes::as_at, cbor::specs::Shapes::such_at))]
+fn taken_away(bytes: &[u8]) -> Option<(i64, &[u8])>
+    ensures { option_map (λ x. (x.0, x.1.now)) result ≡ taken_away_at bytes.now }
+{
+    let (below, rest) = cbor::negative(bytes)?;
+    if below >= NUMBER_LIMIT {
+        return None;
+    }
+    Some((-1 - below as i64, rest))
+}
+
 /// Of what is minted: -2^63 to 2^63 - 1 without 0. What is taken away is below 0.
 impl Quantity for i64 {
     ghost item_of = { item_of_number };
@@ -68,19 +98,12 @@ impl Quantity for i64 {
 
     ghost quantity_at = { minted_at };
 
-    #[tactic(auto, unfolding(crate::specs::Quantities::minted_at))]
+    #[tactic(auto, unfolding(crate::specs::Quantities::minted_at, cbor::specs::Shapes::either_at))]
     fn read(bytes: &[u8]) -> Option<(i64, &[u8])> {
-        if let Some((quantity, rest)) = cbor::unsigned(bytes) {
-            if quantity == 0 || quantity >= 1 << 63 {
-                return None;
-            }
-            return Some((quantity as i64, rest));
+        if let Some(made) = made(bytes) {
+            return Some(made);
         }
-        let (below, rest) = cbor::negative(bytes)?;
-        if below >= 1 << 63 {
-            return None;
-        }
-        Some((-1 - below as i64, rest))
+        taken_away(bytes)
     }
 
     fn write(self, out: &mut Vec<u8>) -> Result<(), AllocError> {

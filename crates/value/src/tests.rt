@@ -41,8 +41,10 @@ fn value_goes_round(rt: &impl Abort, alloc: Global, text: &[u8]) -> Result<Value
     let expected = joined(alloc, &[b"\x01".as_slice(), text])?;
     assert_eq!(rt; out.as_slice(), expected.as_slice());
     let mut copied = Vec::new(alloc);
-    value.try_clone()?.write(&mut copied)?;
+    let copy = value.try_clone()?;
+    copy.write(&mut copied)?;
     assert_eq!(rt; copied.as_slice(), text);
+    assert_eq!(rt; copy, value);
     Ok(value)
 }
 
@@ -55,8 +57,10 @@ fn mint_goes_round(rt: &impl Abort, alloc: Global, text: &[u8]) -> Result<Mint, 
     mint.write(&mut out)?;
     assert_eq!(rt; out.as_slice(), text);
     let mut copied = Vec::new(alloc);
-    mint.try_clone()?.write(&mut copied)?;
+    let copy = mint.try_clone()?;
+    copy.write(&mut copied)?;
     assert_eq!(rt; copied.as_slice(), text);
+    assert_eq!(rt; copy, mint);
     Ok(mint)
 }
 
@@ -123,7 +127,7 @@ fn mint_fault(alloc: Global, parts: &[&[u8]]) -> Result<Option<CborFault>, Fail>
     }
 }
 
-/// Texts of assets behind a coin: what stands before the policy of 32 bytes 01, and what stands after it.
+/// Texts of assets after a coin: what stands before the policy of 32 bytes 01, and what stands after it.
 const REFUSED_ASSETS: [(&[u8], &[u8]); 11] = [
     // a quantity of 0, and one in a long form
     (b"\x82\x00\xa1\x58\x20", b"\xa1\x40\x00"),
@@ -218,6 +222,21 @@ const MINTED: [(i64, &[u8]); 6] = [
         b"\x3b\x7f\xff\xff\xff\xff\xff\xff\xff",
     ),
 ];
+
+/// Maps that claim 2^64 - 1 entries where the bytes end, of policies and of names.
+#[test]
+fn claimed_counts(rt: HostRuntime) -> Result<(), Fail> {
+    let claimed = b"\xbb\xff\xff\xff\xff\xff\xff\xff\xff".as_slice();
+    let texts: [&[&[u8]]; 2] = [&[claimed], &[b"\xa1\x58\x20", first(), claimed]];
+    for parts in texts {
+        let assets = joined(rt.alloc(), parts)?;
+        let value = value_fault(rt.alloc(), &[b"\x82\x01", &assets])?;
+        assert_eq!(rt; value, Some(CborFault::Malformed));
+        let mint = mint_fault(rt.alloc(), &[&assets])?;
+        assert_eq!(rt; mint, Some(CborFault::Malformed));
+    }
+    Ok(())
+}
 
 #[test]
 fn minted_quantities(rt: HostRuntime) -> Result<(), Fail> {

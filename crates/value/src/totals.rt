@@ -30,7 +30,7 @@ impl Totals {
     ghost use Rattle.value.specs.Differing.{PoliciesDiffer};
     ghost use Rattle.value.specs.Sides.{sided};
     ghost use Rattle.value.specs.Totals.{total_of, change_of};
-    ghost use Rattle.value.specs.View.{told_policy};
+    ghost use Rattle.value.specs.View.{policy_of};
 
     /// The sums of no values, all 0. Takes no memory.
     pub fn new(alloc: Global) -> Totals
@@ -84,8 +84,10 @@ impl Totals {
         side: Side,
     ) -> Result<(), AllocError>
         requires room { self.old.values < 2 ^ 62 }
-        requires differ { PoliciesDiffer (map told_policy assets.now) }
-        ensures sums { OnOk result ((asset : Asset) → total_of self.new asset ≡ total_of self.old asset +ℤ sided side (change_of Q.whole coin (map told_policy assets.now) asset)) }
+        requires differ { PoliciesDiffer (map policy_of assets.now) }
+        ensures sums { OnOk result ((asset : Asset) →
+            total_of self.new asset ≡ total_of self.old asset +ℤ
+            sided side (change_of Q.whole coin (map policy_of assets.now) asset)) }
         ensures counted { OnOk result (self.new.values ≡ self.old.values + 1) }
         ensures same { OnErr result ((asset : Asset) → total_of self.new asset ≡ total_of self.old asset) }
         ensures uncounted { OnErr result (self.new.values ≡ self.old.values) }

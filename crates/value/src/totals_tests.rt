@@ -2,7 +2,7 @@
 
 ghost use Rattle.std.specs.Prelude.{◌≡◌, [], ◌∷◌, map, IfOk, replicate};
 ghost use Rattle.value.specs.Differing.{PoliciesDiffer};
-ghost use Rattle.value.specs.View.{told_policy};
+ghost use Rattle.value.specs.View.{policy_of};
 
 use crate::assets::{Policy, Token};
 use crate::side::Side;
@@ -33,7 +33,7 @@ fn policy<Q: Drop>(alloc: Global, id: u8, token: Token<Q>) -> Result<Policy<Q>, 
 
 /// The asset `gold` of the first policy.
 fn gold<Q: Drop>(alloc: Global, quantity: Q) -> Result<Vec<Policy<Q>>, AllocError>
-    ensures { IfOk result (λ assets. PoliciesDiffer (map told_policy assets.items)) }
+    ensures { IfOk result (λ assets. PoliciesDiffer (map policy_of assets.items)) }
 {
     let mut policies = Vec::new(alloc);
     policies.push(policy(alloc, 1, token(alloc, b"gold", quantity)?)?)?;
@@ -42,7 +42,7 @@ fn gold<Q: Drop>(alloc: Global, quantity: Q) -> Result<Vec<Policy<Q>>, AllocErro
 
 /// Two assets of the first policy.
 fn two_names(alloc: Global, gold: u64, silver: u64) -> Result<Vec<Policy<u64>>, AllocError>
-    ensures { IfOk result (λ assets. PoliciesDiffer (map told_policy assets.items)) }
+    ensures { IfOk result (λ assets. PoliciesDiffer (map policy_of assets.items)) }
 {
     let mut policy = policy(alloc, 1, token(alloc, b"gold", gold)?)?;
     policy.tokens.push(token(alloc, b"silver", silver)?)?;
@@ -53,7 +53,7 @@ fn two_names(alloc: Global, gold: u64, silver: u64) -> Result<Vec<Policy<u64>>, 
 
 /// One name under two policies.
 fn two_policies(alloc: Global, first: u64, second: u64) -> Result<Vec<Policy<u64>>, AllocError>
-    ensures { IfOk result (λ assets. PoliciesDiffer (map told_policy assets.items)) }
+    ensures { IfOk result (λ assets. PoliciesDiffer (map policy_of assets.items)) }
 {
     let mut policies = Vec::new(alloc);
     policies.push(policy(alloc, 1, token(alloc, b"gold", first)?)?)?;
@@ -97,8 +97,8 @@ fn balances_alone(
     assets: &[Policy<u64>],
     exchanged: &[Policy<u64>],
 ) -> Result<(), Fail>
-    requires assets { PoliciesDiffer (map told_policy assets.now) }
-    requires exchanged { PoliciesDiffer (map told_policy exchanged.now) }
+    requires assets { PoliciesDiffer (map policy_of assets.now) }
+    requires exchanged { PoliciesDiffer (map policy_of exchanged.now) }
 {
     let mut totals = Totals::new(rt.alloc());
     totals.change(0, assets, Side::Added)?;

@@ -1,14 +1,15 @@
 //! Values: what an output holds.
 
-ghost use Rattle.std.specs.Prelude.{◌≡◌, ◌++◌, ℕ, List, [], map, ◌<◌, ◌+◌, ◌^◌, ◌+ℤ◌, ◌-ℤ◌, IfOk, IfErr, OnOk, OnErr};
+ghost use Rattle.std.specs.Prelude.{◌≡◌, ◌++◌, ℕ, List, [], length, map, ◌<◌, ◌≤◌, ◌+◌, ◌^◌, ◌+ℤ◌, ◌-ℤ◌, IfOk, IfErr};
+ghost use Rattle.std.specs.Prelude.{OnOk, OnErr, vec_len, vec_capacity};
 ghost use Rattle.model.specs.Cbor.{text_of};
 ghost use Rattle.model.specs.Value as model;
 ghost use Rattle.model.specs.Value.{item_of_value, SpellsValue, Asset, amount_of};
-ghost use Rattle.cbor.specs.ItemReading.{IfMalformed};
-ghost use Rattle.value.specs.Read.{BeginsWithText};
+ghost use Rattle.cbor.specs.Gives.{IfMalformed};
+ghost use Rattle.cbor.specs.Texts.{BeginsWithText};
 ghost use Rattle.value.specs.Totals.{total_of};
-ghost use Rattle.value.specs.View.{told_policy};
-ghost use Rattle.value.specs.Written.{Keeps, Writes};
+ghost use Rattle.value.specs.View.{policy_of};
+ghost use Rattle.cbor.specs.Texts.{Keeps, Writes};
 
 use crate::assets::Policy;
 use crate::copying::clone_policies;
@@ -21,7 +22,7 @@ use std::alloc::{AllocError, Global};
 use std::marker::Model;
 
 /// What an output holds: coin in lovelace, and quantities of other assets, each 1 to 2^64 - 1.
-#[derive(Drop)]
+#[derive(Debug, Drop)]
 pub struct Value {
     alloc: Global,
     coin: u64,
@@ -43,6 +44,23 @@ impl Model for Value {
     ghost invariant = { IsHeldValue };
 }
 
+impl PartialEq for Value {
+    ghost use Rattle.std.specs.Prelude.{◌↔◌, IsTrue};
+    ghost use Rattle.value.specs.Same.{value_eq, same_value_laws};
+
+    ghost eq = { value_eq };
+
+    ghost laws = { same_value_laws };
+
+    /// Whether the two are the same value, which is so just where their texts are the same. Linear in the assets.
+    fn eq(&self, other: &Value) -> bool
+        ensures exact { result ≡ value_eq self.now other.now }
+        ensures same { IsTrue result ↔ (self.now ≡ other.now) }
+    {
+        self.coin == other.coin && self.assets == other.assets
+    }
+}
+
 impl Value {
     /// Coin alone, in lovelace. Takes no memory.
     pub fn of_coin(alloc: Global, coin: u64) -> Value
@@ -56,10 +74,17 @@ impl Value {
     }
 
     /// The value whose text stands first, and the bytes after it (RFC 8949, section 4.2.1; the value of
-    /// Shelley-MA's outputs). Malformed where no value's text stands there. Linear in the bytes of the text.
+    /// Shelley-MA's outputs). Malformed where no value's text stands there, OutOfMemory where memory ran out before
+    /// that was known: the assets are kept as they are read. Linear in the bytes of the text.
+    ///
+    /// ```text
+    /// let (value, rest) = Value::read(alloc, b"\x19\x03\x20\xf6")?; // 800 lovelace, and null after it
+    /// assert_eq!((value.coin(), rest), (800, b"\xf6".as_slice()));
+    /// ```
     pub fn read(alloc: Global, bytes: &[u8]) -> Result<(Value, &[u8]), CborFault>
         ensures found { IfOk result (λ x. BeginsWithText (SpellsValue x.0) bytes.now x.1.now) }
-        ensures malformed { IfErr result (λ fault. IfMalformed fault ((value : model.Value) (rest : List ℕ) → BeginsWithText (SpellsValue value) bytes.now rest → ⊥)) }
+        ensures malformed { IfErr result (λ fault. IfMalformed fault ((value : model.Value) (rest : List ℕ) →
+            BeginsWithText (SpellsValue value) bytes.now rest → ⊥)) }
     {
         let (coin, assets, rest) = reader::coin_with(alloc, bytes)?;
         let value = Value {
@@ -79,15 +104,18 @@ impl Value {
 
     /// The policies with their assets, in the order of the text: by their bytes. Copies nothing.
     pub fn assets(&self) -> &[Policy<u64>]
-        ensures { map told_policy result.now ≡ self.now.assets }
+        ensures { map policy_of result.now ≡ self.now.assets }
     {
         &self.assets
     }
 
-    /// Puts coin and assets behind the bytes.
+    /// Writes coin and assets after the bytes.
     fn write_parts(&self, out: &mut Vec<u8>) -> Result<(), AllocError>
         ensures ok { OnOk result (out.new.items ≡ out.old.items ++ text_of (item_of_value self.now)) }
         ensures keeps { Keeps out.old.items out.new.items }
+        ensures full { OnErr result (vec_capacity out.old < vec_len out.old +
+            length (text_of (item_of_value self.now))) }
+        ensures capacity { vec_capacity out.old ≤ vec_capacity out.new }
         ensures spelled { SpellsValue self.now (text_of (item_of_value self.now)) }
     {
         if self.assets.is_empty() {
@@ -98,11 +126,14 @@ impl Value {
         write_assets(out, &self.assets)
     }
 
-    /// Writes the text of the value behind the bytes (RFC 8949, section 4.2.1). Where memory runs out the
-    /// bytes stay as they were. Linear in the bytes of the text.
+    /// Writes the text of the value after the bytes (RFC 8949, section 4.2.1), in time linear in it. Err where memory
+    /// runs out, which it does not where the vector has room for the text: the bytes stay as they were.
     pub fn write(&self, out: &mut Vec<u8>) -> Result<(), AllocError>
         ensures ok { OnOk result (Writes (SpellsValue self.now) out.old.items out.new.items) }
         ensures err { OnErr result (out.new.items ≡ out.old.items) }
+        ensures full { OnErr result (vec_capacity out.old < vec_len out.old +
+            length (text_of (item_of_value self.now))) }
+        ensures capacity { vec_capacity out.old ≤ vec_capacity out.new }
     {
         let start = out.len();
         let written = self.write_parts(out);
@@ -127,7 +158,8 @@ impl Value {
     /// up among those that were met.
     pub fn add_to(&self, totals: &mut Totals) -> Result<(), AllocError>
         requires { totals.old.values < 2 ^ 62 }
-        ensures sums { OnOk result ((asset : Asset) → total_of totals.new asset ≡ total_of totals.old asset +ℤ amount_of asset self.now) }
+        ensures sums { OnOk result ((asset : Asset) →
+            total_of totals.new asset ≡ total_of totals.old asset +ℤ amount_of asset self.now) }
         ensures counted { OnOk result (totals.new.values ≡ totals.old.values + 1) }
         ensures same { OnErr result ((asset : Asset) → total_of totals.new asset ≡ total_of totals.old asset) }
         ensures uncounted { OnErr result (totals.new.values ≡ totals.old.values) }
@@ -139,7 +171,8 @@ impl Value {
     /// out: the sums are as they were. Each asset is looked up among those that were met.
     pub fn take_from(&self, totals: &mut Totals) -> Result<(), AllocError>
         requires { totals.old.values < 2 ^ 62 }
-        ensures sums { OnOk result ((asset : Asset) → total_of totals.new asset ≡ total_of totals.old asset -ℤ amount_of asset self.now) }
+        ensures sums { OnOk result ((asset : Asset) →
+            total_of totals.new asset ≡ total_of totals.old asset -ℤ amount_of asset self.now) }
         ensures counted { OnOk result (totals.new.values ≡ totals.old.values + 1) }
         ensures same { OnErr result ((asset : Asset) → total_of totals.new asset ≡ total_of totals.old asset) }
         ensures uncounted { OnErr result (totals.new.values ≡ totals.old.values) }

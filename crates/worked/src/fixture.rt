@@ -14,7 +14,7 @@ pub struct Made {
     pub hash: BlockHash,
 }
 
-/// The block without transactions behind the parent, or the first one, in this slot.
+/// The block without transactions that goes on from the parent, or the first one, in this slot.
 pub fn make(alloc: Global, parent: Option<&Made>, slot: u64) -> Result<Made, Fail> {
     let (number, previous) = match parent {
         Some(made) => (made.number.saturating_add(1), Some(made.hash)),

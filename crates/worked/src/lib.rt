@@ -7,3 +7,5 @@ mod chain_tests;
 mod fixture;
 #[cfg(test)]
 mod follower_tests;
+#[cfg(test)]
+mod library_tests;

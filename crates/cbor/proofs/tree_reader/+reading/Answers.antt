@@ -1,38 +1,38 @@
 use Rattle.std.proofs.Common.{◌≡◌, [], arith}
 use Rattle.std.proofs.lemmas.Result.{err_from_is_err_and}
-use Rattle.cbor.specs.Tree.{told_item, told_members, told_entries}
-use Rattle.cbor.specs.ItemReading.{item_at, members_at, entries_at}
+use Rattle.cbor.specs.Tree.{item_of, members_of, entries_of}
+use Rattle.cbor.specs.ItemReading.{item_at, items_at, pairs_at}
 use Rattle.cbor.proofs.ItemLaws.{rest_is_shorter}
-use Rattle.cbor.proofs.TreeLoops.{told_members-push, members_go_on, members_end, members_done, told_entries-push, entries_go_on, entries_end, entries_done}
+use Rattle.cbor.proofs.TreeLoops.{members_of-push, items_go_on, items_end, items_done, entries_of-push, pairs_go_on, pairs_end, pairs_done}
 use Rattle.cbor.proofs.tree_reader.+reading.Goals as goal
 
 pub entries-returns-in_err-next : goal.entries-returns-in_err-next
 entries-returns-in_err-next t c =
     let p = err_from_is_err_and c.from_residual.result c.from_residual.ensures.1 in
-    rw (p.1, p.2) (entries_end (item_at c.args.depth) c.in_err-next.field-0.0 (told_entries c.loop.entries.items) c.loop.before.now c.args.count c.loop.counter c.loop.rest.now (entries_at (item_at c.args.depth) [] c.args.count c.args.bytes.now) c.loop-test.true c.in_err-next.ensures c.loop.invariant)
+    rw (p.1, p.2) (pairs_end (item_at c.args.depth) c.in_err-next.field-0.0 (entries_of c.loop.entries.items) c.loop.before.now c.args.count c.loop.counter c.loop.rest.now (pairs_at (item_at c.args.depth) [] c.args.count c.args.bytes.now) c.loop-test.true c.in_err-next.ensures c.loop.invariant)
 
 pub entries-loop-preserved : goal.entries-loop-preserved
 entries-loop-preserved t c =
     let n = c.in_ok-next.next in
-    let e : told_entries c.push.new.self.items ≡ _ = rw c.in_ok-push.ensures.items (told_entries-push c.loop.entries.items n) in
-    rw e (entries_go_on (item_at c.args.depth) (told_entries c.loop.entries.items) c.loop.before.now c.args.count c.loop.counter c.loop.rest.now (told_item n.key) (told_item n.value) c.in_ok-next.text.now c.in_ok-next.after.now (entries_at (item_at c.args.depth) [] c.args.count c.args.bytes.now) c.loop-test.true c.in_ok-next.ensures c.loop.invariant)
+    let e : entries_of c.push.new.self.items ≡ _ = rw c.in_ok-push.ensures.items (entries_of-push c.loop.entries.items n) in
+    rw e (pairs_go_on (item_at c.args.depth) (entries_of c.loop.entries.items) c.loop.before.now c.args.count c.loop.counter c.loop.rest.now (item_of n.key) (item_of n.value) c.in_ok-next.text.now c.in_ok-next.after.now (pairs_at (item_at c.args.depth) [] c.args.count c.args.bytes.now) c.loop-test.true c.in_ok-next.ensures c.loop.invariant)
 
 pub entries-returns : goal.entries-returns
-entries-returns t c = rw c.from_vec.ensures (entries_done (item_at c.args.depth) (told_entries c.loop.entries.items) c.loop.before.now c.args.count c.loop.counter c.loop.rest.now (entries_at (item_at c.args.depth) [] c.args.count c.args.bytes.now) c.loop-test.false c.loop.invariant)
+entries-returns t c = rw c.from_vec.ensures (pairs_done (item_at c.args.depth) (entries_of c.loop.entries.items) c.loop.before.now c.args.count c.loop.counter c.loop.rest.now (pairs_at (item_at c.args.depth) [] c.args.count c.args.bytes.now) c.loop-test.false c.loop.invariant)
 
 pub entry-slice_bounds-text-count : goal.entry-slice_bounds-text-count
-entry-slice_bounds-text-count t c = rest_is_shorter c.args.depth c.args.bytes.now (told_item c.in_ok-key.key) c.in_ok-key.after_key.now (λ i. omega (arith, c.type_inv.bytes i)) c.in_ok-key.ensures
+entry-slice_bounds-text-count t c = rest_is_shorter c.args.depth c.args.bytes.now (item_of c.in_ok-key.key) c.in_ok-key.after_key.now (λ i. omega (arith, c.type_inv.bytes i)) c.in_ok-key.ensures
 
 pub members-returns-in_err-member : goal.members-returns-in_err-member
 members-returns-in_err-member t c =
     let p = err_from_is_err_and c.from_residual.result c.from_residual.ensures.1 in
-    rw (p.1, p.2) (members_end (item_at c.args.depth) c.in_err-member.field-0.0 (told_members c.loop.members.items) c.args.count c.loop.counter c.loop.rest.now (members_at (item_at c.args.depth) c.args.count c.args.bytes.now) c.loop-test.true c.in_err-member.ensures c.loop.invariant)
+    rw (p.1, p.2) (items_end (item_at c.args.depth) c.in_err-member.field-0.0 (members_of c.loop.members.items) c.args.count c.loop.counter c.loop.rest.now (items_at (item_at c.args.depth) c.args.count c.args.bytes.now) c.loop-test.true c.in_err-member.ensures c.loop.invariant)
 
 pub members-loop-preserved : goal.members-loop-preserved
 members-loop-preserved t c =
     let n = c.in_ok-member.member in
-    let e : told_members c.push.new.self.items ≡ _ = rw c.in_ok-push.ensures.items (told_members-push c.loop.members.items n) in
-    rw e (members_go_on (item_at c.args.depth) (told_members c.loop.members.items) c.args.count c.loop.counter c.loop.rest.now (told_item n) c.in_ok-member.after.now (members_at (item_at c.args.depth) c.args.count c.args.bytes.now) c.loop-test.true c.in_ok-member.ensures c.loop.invariant)
+    let e : members_of c.push.new.self.items ≡ _ = rw c.in_ok-push.ensures.items (members_of-push c.loop.members.items n) in
+    rw e (items_go_on (item_at c.args.depth) (members_of c.loop.members.items) c.args.count c.loop.counter c.loop.rest.now (item_of n) c.in_ok-member.after.now (items_at (item_at c.args.depth) c.args.count c.args.bytes.now) c.loop-test.true c.in_ok-member.ensures c.loop.invariant)
 
 pub members-returns : goal.members-returns
-members-returns t c = rw c.from_vec.ensures (members_done (item_at c.args.depth) (told_members c.loop.members.items) c.args.count c.loop.counter c.loop.rest.now (members_at (item_at c.args.depth) c.args.count c.args.bytes.now) c.loop-test.false c.loop.invariant)
+members-returns t c = rw c.from_vec.ensures (items_done (item_at c.args.depth) (members_of c.loop.members.items) c.args.count c.loop.counter c.loop.rest.now (items_at (item_at c.args.depth) c.args.count c.args.bytes.now) c.loop-test.false c.loop.invariant)

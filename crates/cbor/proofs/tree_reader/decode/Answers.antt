@@ -1,5 +1,5 @@
 use Rattle.std.proofs.lemmas.Result.{err_from_is_err_and}
-use Rattle.cbor.specs.Tree.{told_item}
+use Rattle.cbor.specs.Tree.{item_of}
 use Rattle.cbor.proofs.TreeClauses.{refused_whole, more_follows}
 use Rattle.cbor.proofs.tree_reader.decode.Goals as goal
 
@@ -11,4 +11,4 @@ returns-in_err-item-clause-malformed c =
 pub returns-then-length-bytes-clause-malformed : goal.returns-then-length-bytes-clause-malformed
 returns-then-length-bytes-clause-malformed c =
     let found = c.in_ok-item.ensures.found in
-    more_follows c.args.bytes.now (told_item c.in_ok-item.item) c.in_ok-item.length found.0 c.if-length-bytes.true found.1
+    more_follows c.args.bytes.now (item_of c.in_ok-item.item) c.in_ok-item.length found.0 c.if-length-bytes.true found.1

@@ -1,6 +1,6 @@
 use Rattle.std.proofs.Common.{arith}
 use Rattle.std.proofs.lemmas.Result.{err_from_is_err_and}
-use Rattle.cbor.specs.Tree.{told_item}
+use Rattle.cbor.specs.Tree.{item_of}
 use Rattle.cbor.proofs.ItemLaws.{rest_is_shorter}
 use Rattle.cbor.proofs.TreeClauses.{front_spells, refused}
 use Rattle.cbor.proofs.tree_reader.read.Goals as goal
@@ -11,7 +11,7 @@ returns-in_err-item-clause-malformed c =
     rw (p.1, p.2) (refused c.in_err-item.field-0.0 c.args.bytes.now c.in_err-item.ensures)
 
 pub overflow_sub-result : goal.overflow_sub-result
-overflow_sub-result c = rest_is_shorter 64 c.args.bytes.now (told_item c.in_ok-item.item) c.in_ok-item.rest.now (λ i. omega (arith, c.type_inv.bytes i)) c.in_ok-item.ensures
+overflow_sub-result c = rest_is_shorter 64 c.args.bytes.now (item_of c.in_ok-item.item) c.in_ok-item.rest.now (λ i. omega (arith, c.type_inv.bytes i)) c.in_ok-item.ensures
 
 pub returns-clause-found : goal.returns-clause-found
-returns-clause-found c = (omega arith, front_spells c.args.bytes.now (told_item c.in_ok-item.item) c.in_ok-item.rest.now (λ i. omega (arith, c.type_inv.bytes i)) c.in_ok-item.ensures)
+returns-clause-found c = (omega arith, front_spells c.args.bytes.now (item_of c.in_ok-item.item) c.in_ok-item.rest.now (λ i. omega (arith, c.type_inv.bytes i)) c.in_ok-item.ensures)

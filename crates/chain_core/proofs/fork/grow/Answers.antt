@@ -3,10 +3,10 @@ use Rattle.std.proofs.lemmas.List.{map-append, take_more}
 use Rattle.std.specs.Global.{Vec}
 use Rattle.model.specs.Block.{Block}
 use Rattle.chain_core.specs.Forks.{AreGrown}
-use Rattle.chain_core.specs.ForksView.{forks_of}
-use Rattle.chain_core.specs.GenesisView.{told_genesis}
-use Rattle.chain_core.specs.TipView.{told_tip}
-use Rattle.chain_core.proofs.Growing.{grown_more}
+use Rattle.chain_core.specs.Forks.{forks_of}
+use Rattle.chain_core.specs.Views.{genesis_of}
+use Rattle.chain_core.specs.Views.{tip_of}
+use Rattle.chain_core.proofs.GrownForks.{grown_more}
 use Rattle.chain_core.proofs.fork.grow.Goals as goal
 
 -- one fork more
@@ -18,9 +18,9 @@ forks_more forks i fork items below is same =
 
 pub loop-fork-preserved : goal.loop-fork-preserved
 loop-fork-preserved c =
-    let genesis = told_genesis c.args.genesis.now in
+    let genesis = genesis_of c.args.genesis.now in
     let kept = c.args.kept.now in
-    let tip = told_tip c.args.from.now in
+    let tip = tip_of c.args.from.now in
     let i = c.loop-fork.fork-index in
     let added = c.in_ok-grow_fork.ensures in
     let more = grown_more genesis kept tip (forks_of (take i c.args.forks.now)) c.deref.result.now (forks_of c.loop-fork.longer.items) added.0 c.loop-fork.invariant added.2 in

@@ -3,11 +3,11 @@ use Rattle.std.proofs.lemmas.List.{map-append}
 use Rattle.std.specs.Global.{Vec}
 use Rattle.model.specs.Block.{Block}
 use Rattle.model.specs.Chain as chain
-use Rattle.chain_core.specs.ForksView.{forks_of}
-use Rattle.chain_core.specs.GenesisView.{told_genesis}
-use Rattle.chain_core.specs.TipView.{told_tip}
+use Rattle.chain_core.specs.Forks.{forks_of}
+use Rattle.chain_core.specs.Views.{genesis_of}
+use Rattle.chain_core.specs.Views.{tip_of}
 use Rattle.chain_core.specs.Forks.{GoesOn}
-use Rattle.chain_core.proofs.Growing.{one_longer_at, one_longer_past}
+use Rattle.chain_core.proofs.GrownForks.{one_longer_at, one_longer_past}
 use Rattle.chain_core.proofs.fork.grow_fork.Goals as goal
 use Rattle.chain_core.proofs.fork.grow_fork.Goals.{then-goes_on+in_ok-with_block+in_ok-push, else-goes_on}
 
@@ -21,19 +21,19 @@ pub loop-block-preserved : goal.loop-block-preserved
 loop-block-preserved c = elim c.if-goes_on.branch [
   | then-goes_on+in_ok-with_block+in_ok-push w ↦
       let before = c.loop-block.invariant in
-      let goes_on : GoesOn (told_genesis c.args.genesis.now) (chain.tip_after (told_tip c.args.from.now) c.args.fork.now) c.block-item.result =
-      subst (λ (t : chain.Tip). GoesOn (told_genesis c.args.genesis.now) t c.block-item.result) c.after-tip.ensures (w.if-goes_on.ensures.0 refl) in (
+      let goes_on : GoesOn (genesis_of c.args.genesis.now) (chain.tip_after (tip_of c.args.from.now) c.args.fork.now) c.block-item.result =
+      subst (λ (t : chain.Tip). GoesOn (genesis_of c.args.genesis.now) t c.block-item.result) c.after-tip.ensures (w.if-goes_on.ensures.0 refl) in (
         before.0 ++ (c.args.fork.now ++ c.block-item.result ∷ []) ∷ [],
         ap (λ (v : Vec (Vec Block)). forks_of v.items) w.longer-is ∙ (ap forks_of w.in_ok-push.ensures.items
             ∙ forks_pushed c.loop-block.longer.items w.in_ok-with_block.field-0 (c.args.fork.now ++ c.block-item.result ∷ []) (forks_of c.args.longer.now.items) before.0 w.in_ok-with_block.ensures before.1),
-        one_longer_at (told_genesis c.args.genesis.now) c.args.kept.now c.loop-block.block-index c.block-item.result (told_tip c.args.from.now) c.args.fork.now before.0 c.loop-block-test.true c.block-item.is before.2 goes_on,
+        one_longer_at (genesis_of c.args.genesis.now) c.args.kept.now c.loop-block.block-index c.block-item.result (tip_of c.args.from.now) c.args.fork.now before.0 c.loop-block-test.true c.block-item.is before.2 goes_on,
       )
   | else-goes_on w ↦
       let before = c.loop-block.invariant in
-      let not_on : GoesOn (told_genesis c.args.genesis.now) (chain.tip_after (told_tip c.args.from.now) c.args.fork.now) c.block-item.result → ⊥ =
-      λ goes_on. absurd (let e : false ≡ true = w.if-goes_on.ensures.1 (subst (λ (t : chain.Tip). GoesOn (told_genesis c.args.genesis.now) t c.block-item.result) (sym c.after-tip.ensures) goes_on) in cc) in (
+      let not_on : GoesOn (genesis_of c.args.genesis.now) (chain.tip_after (tip_of c.args.from.now) c.args.fork.now) c.block-item.result → ⊥ =
+      λ goes_on. absurd (let e : false ≡ true = w.if-goes_on.ensures.1 (subst (λ (t : chain.Tip). GoesOn (genesis_of c.args.genesis.now) t c.block-item.result) (sym c.after-tip.ensures) goes_on) in cc) in (
         before.0,
         ap (λ (v : Vec (Vec Block)). forks_of v.items) w.longer-is ∙ before.1,
-        one_longer_past (told_genesis c.args.genesis.now) c.args.kept.now c.loop-block.block-index c.block-item.result (told_tip c.args.from.now) c.args.fork.now before.0 c.loop-block-test.true c.block-item.is before.2 not_on,
+        one_longer_past (genesis_of c.args.genesis.now) c.args.kept.now c.loop-block.block-index c.block-item.result (tip_of c.args.from.now) c.args.fork.now before.0 c.loop-block-test.true c.block-item.is before.2 not_on,
       )
 ]

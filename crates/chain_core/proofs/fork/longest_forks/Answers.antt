@@ -5,10 +5,10 @@ use Rattle.std.proofs.lemmas.List.{nil_from_length, length-map}
 use Rattle.model.specs.Block.{Block}
 use Rattle.model.specs.Chain as chain
 use Rattle.chain_core.specs.Forks.{AreForks, AreGrown}
-use Rattle.chain_core.specs.ForksView.{forks_of}
-use Rattle.chain_core.specs.GenesisView.{told_genesis}
-use Rattle.chain_core.specs.TipView.{told_tip}
-use Rattle.chain_core.proofs.Growing.{all_grown, longest_at_the_end, longest_at_the_greatest}
+use Rattle.chain_core.specs.Forks.{forks_of}
+use Rattle.chain_core.specs.Views.{genesis_of}
+use Rattle.chain_core.specs.Views.{tip_of}
+use Rattle.chain_core.proofs.GrownForks.{all_grown, longest_at_the_end, longest_at_the_greatest}
 use Rattle.chain_core.proofs.fork.longest_forks.Goals as goal
 
 -- no forks, or some
@@ -27,9 +27,9 @@ one_round genesis kept tip from counter forks longer reached all grown =
 
 pub returns-then-is_empty : goal.returns-then-is_empty
 returns-then-is_empty c =
-    let genesis = told_genesis c.args.genesis.now in
+    let genesis = genesis_of c.args.genesis.now in
     let kept = c.args.kept.now in
-    let tip = told_tip c.args.from.now in
+    let tip = tip_of c.args.from.now in
     let n = c.loop.counter - c.args.from.now.number in
     let grown : AreGrown genesis kept tip (forks_of c.loop.longest.items) (forks_of c.in_ok-longer.longer.items) =
     subst (λ (fs : List (Vec Block)). AreGrown genesis kept tip (forks_of fs) (forks_of c.in_ok-longer.longer.items)) c.deref.ensures.value c.in_ok-longer.ensures in
@@ -40,9 +40,9 @@ returns-then-is_empty c =
 
 pub loop-preserved : goal.loop-preserved
 loop-preserved c =
-    let genesis = told_genesis c.args.genesis.now in
+    let genesis = genesis_of c.args.genesis.now in
     let kept = c.args.kept.now in
-    let tip = told_tip c.args.from.now in
+    let tip = tip_of c.args.from.now in
     let grown : AreGrown genesis kept tip (forks_of c.loop.longest.items) (forks_of c.in_ok-longer.longer.items) =
     subst (λ (fs : List (Vec Block)). AreGrown genesis kept tip (forks_of fs) (forks_of c.in_ok-longer.longer.items)) c.deref.ensures.value c.in_ok-longer.ensures in
     record {
@@ -56,6 +56,6 @@ returns c =
     let a = c.loop-test.false in
     let b = c.loop.auto.counter in (
       n,
-      longest_at_the_greatest (told_genesis c.args.genesis.now) c.args.kept.now (told_tip c.args.from.now) n c.greatest_number-end.result (forks_of c.loop.longest.items)
+      longest_at_the_greatest (genesis_of c.args.genesis.now) c.args.kept.now (tip_of c.args.from.now) n c.greatest_number-end.result (forks_of c.loop.longest.items)
           c.loop.invariant.all c.loop.invariant.some c.greatest_number-end.ensures (omega arith),
     )

@@ -1,5 +1,5 @@
 use Rattle.std.proofs.Common.{take, All}
-use Rattle.chain_core.specs.Judging.{IsClash}
+use Rattle.chain_core.specs.Judgements.{IsClash}
 use Rattle.chain_core.proofs.refusal.has_clash.Given as goal
 
 -- none of the blocks so far

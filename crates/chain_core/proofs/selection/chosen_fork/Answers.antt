@@ -6,10 +6,10 @@ use Rattle.model.specs.Block.{Block}
 use Rattle.model.specs.Chain as chain
 use Rattle.model.proofs.Lists.{all_weaker}
 use Rattle.chain_core.specs.Forks.{IsFork, AreLongest, IsLeast, IsChosenFork, immutable_tip}
-use Rattle.chain_core.specs.ForksView.{forks_of}
-use Rattle.chain_core.specs.GenesisView.{told_genesis}
+use Rattle.chain_core.specs.Forks.{forks_of}
+use Rattle.chain_core.specs.Views.{genesis_of}
 use Rattle.chain_core.specs.Held.{IsSound}
-use Rattle.chain_core.proofs.Choosing.{chain_stays, fork_is_chosen}
+use Rattle.chain_core.proofs.ChosenForks.{chain_stays, fork_is_chosen}
 use Rattle.chain_core.proofs.selection.chosen_fork.Goals as goal
 
 -- how long the longest forks are, as it was counted
@@ -39,24 +39,24 @@ pub returns-then-fork_length-chain : goal.returns-then-fork_length-chain
 returns-then-fork_length-chain c =
     let forks = c.in_ok-forks.ensures in
     let count = subst (λ (fs : List (Vec Block)). (m : ℕ) → forks_of fs ≢ [] → AllByRecursion (λ fork. length fork ≡ m) (forks_of fs) → c.fork_length.result ≡ m) c.deref.ensures.value c.fork_length.ensures in
-    stays (told_genesis c.args.genesis.now) c.args.kept.now c.args.chain.now _ forks.0 c.fork_length.result c.immutable_length.result (length c.args.chain.now) (forks_of c.in_ok-forks.forks.items)
+    stays (genesis_of c.args.genesis.now) c.args.kept.now c.args.chain.now _ forks.0 c.fork_length.result c.immutable_length.result (length c.args.chain.now) (forks_of c.in_ok-forks.forks.items)
     c.immutable_tip-from.ensures forks.1 count c.immutable_length.ensures.count refl c.if-fork_length-chain.true
 
 pub least_fork-requires : goal.least_fork-requires
 least_fork-requires c =
     let forks = c.in_ok-forks.ensures in
     let count = subst (λ (fs : List (Vec Block)). (m : ℕ) → forks_of fs ≢ [] → AllByRecursion (λ fork. length fork ≡ m) (forks_of fs) → c.fork_length.result ≡ m) c.deref.ensures.value c.fork_length.ensures in
-    let same = counted (told_genesis c.args.genesis.now) c.args.kept.now _ forks.0 c.fork_length.result (forks_of c.in_ok-forks.forks.items) forks.1 count in
+    let same = counted (genesis_of c.args.genesis.now) c.args.kept.now _ forks.0 c.fork_length.result (forks_of c.in_ok-forks.forks.items) forks.1 count in
     let more = c.if-fork_length-chain.false in
-    none_empty (told_genesis c.args.genesis.now) c.args.kept.now _ forks.0 (forks_of c.in_ok-forks.forks.items) forks.1 (omega arith)
+    none_empty (genesis_of c.args.genesis.now) c.args.kept.now _ forks.0 (forks_of c.in_ok-forks.forks.items) forks.1 (omega arith)
 
 pub returns : goal.returns
 returns c =
     let forks = c.in_ok-forks.ensures in
     let count = subst (λ (fs : List (Vec Block)). (m : ℕ) → forks_of fs ≢ [] → AllByRecursion (λ fork. length fork ≡ m) (forks_of fs) → c.fork_length.result ≡ m) c.deref.ensures.value c.fork_length.ensures in
-    let same = counted (told_genesis c.args.genesis.now) c.args.kept.now _ forks.0 c.fork_length.result (forks_of c.in_ok-forks.forks.items) forks.1 count in
+    let same = counted (genesis_of c.args.genesis.now) c.args.kept.now _ forks.0 c.fork_length.result (forks_of c.in_ok-forks.forks.items) forks.1 count in
     let more = c.if-fork_length-chain.false in
     let is = c.immutable_length.ensures.count in
-    found (told_genesis c.args.genesis.now) c.args.kept.now c.args.chain.now forks.0 (forks_of c.in_ok-forks.forks.items) c.least_fork.result c.requires
-    (subst (λ (t : chain.Tip). AreLongest (told_genesis c.args.genesis.now) c.args.kept.now t forks.0 (forks_of c.in_ok-forks.forks.items)) c.immutable_tip-from.ensures forks.1)
+    found (genesis_of c.args.genesis.now) c.args.kept.now c.args.chain.now forks.0 (forks_of c.in_ok-forks.forks.items) c.least_fork.result c.requires
+    (subst (λ (t : chain.Tip). AreLongest (genesis_of c.args.genesis.now) c.args.kept.now t forks.0 (forks_of c.in_ok-forks.forks.items)) c.immutable_tip-from.ensures forks.1)
     (omega arith) c.least_fork.ensures.some c.least_fork.ensures.none

@@ -7,7 +7,7 @@ use Rattle.std.specs.Cmp.Lexicographic.{slice_cmp}
 use Rattle.model.specs.Block.{Block}
 use Rattle.model.specs.Chain.{tip_hash}
 use Rattle.model.proofs.Lists.{all_of_member}
-use Rattle.chain_core.specs.ForksView.{forks_of}
+use Rattle.chain_core.specs.Forks.{forks_of}
 use Rattle.chain_core.proofs.Leasts.{LeastSoFar, least_start, least_lesser, least_stays, least_of_all, forks_pushed}
 use Rattle.chain_core.proofs.selection.least_fork.Goals as goal
 

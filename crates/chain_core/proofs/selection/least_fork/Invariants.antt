@@ -1,5 +1,5 @@
 use Rattle.std.proofs.Common.{vec_len}
-use Rattle.chain_core.specs.ForksView.{forks_of}
+use Rattle.chain_core.specs.Forks.{forks_of}
 use Rattle.chain_core.proofs.Leasts.{LeastSoFar}
 use Rattle.chain_core.proofs.selection.least_fork.Given as goal
 

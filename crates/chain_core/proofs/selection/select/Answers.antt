@@ -7,9 +7,9 @@ use Rattle.model.specs.Block.{Block, block_hash_of}
 use Rattle.model.specs.Chain as chain
 use Rattle.model.specs.History.{IsCommonLength, IsChange}
 use Rattle.chain_core.specs.Forks.{IsChosenFork}
-use Rattle.chain_core.specs.GenesisView.{told_genesis}
+use Rattle.chain_core.specs.Views.{genesis_of}
 use Rattle.chain_core.specs.Held.{IsSound}
-use Rattle.chain_core.proofs.Choosing.{chain_is_live, live_apart, change_to, chain_rebuilt}
+use Rattle.chain_core.proofs.ChosenForks.{chain_is_live, live_apart, change_to, chain_rebuilt}
 use Rattle.chain_core.proofs.selection.select.Goals as goal
 
 -- the end of a chain from its immutable part on, as the code cuts it out
@@ -51,7 +51,7 @@ chosen_of genesis kept blocks shown found fork same is chosen =
 
 pub common_length-common-requires : goal.common_length-common-requires
 common_length-common-requires c =
-    let genesis = told_genesis c.args.genesis.now in
+    let genesis = genesis_of c.args.genesis.now in
     let kept = c.args.kept.now in
     let blocks = c.args.chain.now.items in
     let chosen = chosen_of genesis kept blocks c.deref.result.now c.in_ok-fork.field-0 c.in-Some.fork c.deref.ensures.value c.in-Some.is c.in_ok-fork.ensures in
@@ -61,7 +61,7 @@ common_length-common-requires c =
 
 pub returns-clause-ok : goal.returns-clause-ok
 returns-clause-ok c =
-    let genesis = told_genesis c.args.genesis.now in
+    let genesis = genesis_of c.args.genesis.now in
     let kept = c.args.kept.now in
     let blocks = c.args.chain.now.items in
     let chosen = chosen_of genesis kept blocks c.deref.result.now c.in_ok-fork.field-0 c.in-Some.fork c.deref.ensures.value c.in-Some.is c.in_ok-fork.ensures in

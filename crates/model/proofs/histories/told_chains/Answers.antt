@@ -1,4 +1,4 @@
-use Rattle.model.proofs.Telling.{were_selected}
+use Rattle.model.proofs.ToldChains.{were_selected}
 use Rattle.model.proofs.histories.told_chains.Goals as goal
 
 pub returns : goal.returns

@@ -1,5 +1,5 @@
 use Rattle.std.proofs.Common.{rules}
-use Rattle.scenario.proofs.Writing.{more_written, still_written}
+use Rattle.scenario.proofs.WrittenParts.{more_written, still_written}
 use Rattle.scenario.proofs.output.write_all.Goals as goal
 use Rattle.scenario.proofs.output.write_all.Goals.{in-Ok, in-Err+else-ne}
 

@@ -1,4 +1,4 @@
-use Rattle.scenario.proofs.Running.{Running}
+use Rattle.scenario.proofs.Runs.{Running}
 use Rattle.scenario.proofs.runner.run.Given as goal
 
 -- the lines before the one of this number were run

@@ -1,31 +1,48 @@
-use Rattle.chain_core.specs.FollowerView.{followers_of}
-use Rattle.chain_core.specs.GenesisView.{told_genesis}
-use Rattle.chain_core.specs.RefusalView.{told_refusal}
+use Rattle.std.proofs.Common.{sym, subst}
+use Rattle.block.specs.Read.{IsRead}
+use Rattle.model.specs.Block.{Block}
+use Rattle.chain_core.specs.Views.{followers_of, genesis_of, refusal_of}
 use Rattle.chain_core.proofs.Steps.{sound_with}
-use Rattle.chain_core.proofs.Arriving.{refused_arrival, not_refused, kept_arrival, sound_kept}
+use Rattle.chain_core.proofs.Arrivals.{refused_arrival, not_refused, none_applies, kept_arrival, sound_kept}
+use Rattle.chain_core.proofs.ToldChains.{on_err}
 use Rattle.chain_core.proofs.node_core.Core.arrive.Goals as goal
 
 pub returns-in-Some-clause-step : goal.returns-in-Some-clause-step
 returns-in-Some-clause-step c =
-    refused_arrival (told_genesis c.self.inside.genesis) c.self.inside.kept.items c.self.inside.chain.items c.deref.result.now c.deref-2.result.now (followers_of c.self.inside.followers.items) c.args.self.now c.args.bytes.now c.in-Ok.block (told_refusal c.in-Some.refusal)
+    refused_arrival (genesis_of c.self.inside.genesis) c.self.inside.kept.items c.self.inside.chain.items c.deref.result.now c.deref-2.result.now (followers_of c.self.inside.followers.items) c.args.self.now c.args.bytes.now c.in-Ok.found (refusal_of c.in-Some.refusal)
     c.self.view_is c.deref.ensures.value c.deref-2.ensures.value c.in-Ok.ensures.ok c.in-Some.ensures
 
 pub keep-requires : goal.keep-requires
 keep-requires c =
-    let none = not_refused (told_genesis c.self.inside.genesis) c.self.inside.kept.items c.self.inside.chain.items c.deref.result.now c.deref-2.result.now c.args.bytes.now c.in-Ok.block
+    let none = not_refused (genesis_of c.self.inside.genesis) c.self.inside.kept.items c.self.inside.chain.items c.deref.result.now c.deref-2.result.now c.args.bytes.now c.in-Ok.found
     c.deref.ensures.value c.deref-2.ensures.value c.in-Ok.ensures.ok c.in_default.ensures in
-    sound_with (told_genesis c.self.inside.genesis) c.self.inside.kept.items c.self.inside.chain.items c.args.bytes.now c.in-Ok.block c.self.invariant c.in-Ok.ensures.ok.read none
+    let read : IsRead c.in_ok-block.block c.args.bytes.now = subst (λ (b : Block). IsRead b c.args.bytes.now) (sym c.in_ok-block.ensures) c.in-Ok.ensures.ok in
+    sound_with (genesis_of c.self.inside.genesis) c.self.inside.kept.items c.self.inside.chain.items c.args.bytes.now c.in_ok-block.block c.self.invariant read.read none
 
 pub invariant_of-self-2 : goal.invariant_of-self-2
 invariant_of-self-2 c =
-    let none = not_refused (told_genesis c.self.inside.genesis) c.self.inside.kept.items c.self.inside.chain.items c.deref.result.now c.deref-2.result.now c.args.bytes.now c.in-Ok.block
+    let none = not_refused (genesis_of c.self.inside.genesis) c.self.inside.kept.items c.self.inside.chain.items c.deref.result.now c.deref-2.result.now c.args.bytes.now c.in-Ok.found
     c.deref.ensures.value c.deref-2.ensures.value c.in-Ok.ensures.ok c.in_default.ensures in
-    sound_kept (told_genesis c.self.inside.genesis) c.self.inside.kept.items c.self.inside.chain.items c.keep.new.kept.items c.keep.new.chain.items c.args.bytes.now c.in-Ok.block c.self.invariant c.in-Ok.ensures.ok none
+    let read : IsRead c.in_ok-block.block c.args.bytes.now = subst (λ (b : Block). IsRead b c.args.bytes.now) (sym c.in_ok-block.ensures) c.in-Ok.ensures.ok in
+    sound_kept (genesis_of c.self.inside.genesis) c.self.inside.kept.items c.self.inside.chain.items c.keep.new.kept.items c.keep.new.chain.items c.args.bytes.now c.in_ok-block.block c.self.invariant read none
     c.in_ok-change.ensures.kept c.in_ok-change.ensures.selected
 
 pub returns-clause-step : goal.returns-clause-step
 returns-clause-step c =
-    let none = not_refused (told_genesis c.self.inside.genesis) c.self.inside.kept.items c.self.inside.chain.items c.deref.result.now c.deref-2.result.now c.args.bytes.now c.in-Ok.block
+    let none = not_refused (genesis_of c.self.inside.genesis) c.self.inside.kept.items c.self.inside.chain.items c.deref.result.now c.deref-2.result.now c.args.bytes.now c.in-Ok.found
     c.deref.ensures.value c.deref-2.ensures.value c.in-Ok.ensures.ok c.in_default.ensures in
-    kept_arrival (told_genesis c.self.inside.genesis) c.self.inside.kept.items c.self.inside.chain.items c.keep.new.kept.items c.keep.new.chain.items (followers_of c.self.inside.followers.items) c.args.self.now c.args.bytes.now c.in-Ok.block
-    c.in_ok-change.change.back c.in_ok-change.change.added c.self.view_is c.self.invariant c.in-Ok.ensures.ok none c.in_ok-change.ensures.kept c.in_ok-change.ensures.selected c.in_ok-change.ensures.change
+    let read : IsRead c.in_ok-block.block c.args.bytes.now = subst (λ (b : Block). IsRead b c.args.bytes.now) (sym c.in_ok-block.ensures) c.in-Ok.ensures.ok in
+    kept_arrival (genesis_of c.self.inside.genesis) c.self.inside.kept.items c.self.inside.chain.items c.keep.new.kept.items c.keep.new.chain.items (followers_of c.self.inside.followers.items) c.args.self.now c.args.bytes.now c.in_ok-block.block
+    c.in_ok-change.change.back c.in_ok-change.change.added c.self.view_is c.self.invariant read none c.in_ok-change.ensures.kept c.in_ok-change.ensures.selected c.in_ok-change.ensures.change
+
+pub returns-in_err-block-clause-memory : goal.returns-in_err-block-clause-memory
+returns-in_err-block-clause-memory c =
+    let none = not_refused (genesis_of c.self.inside.genesis) c.self.inside.kept.items c.self.inside.chain.items c.deref.result.now c.deref-2.result.now c.args.bytes.now c.in-Ok.found
+    c.deref.ensures.value c.deref-2.ensures.value c.in-Ok.ensures.ok c.in_default.ensures in
+    on_err c.from_residual.result _ (none_applies (genesis_of c.self.inside.genesis) c.self.inside.kept.items c.self.inside.chain.items (followers_of c.self.inside.followers.items) c.args.self.now c.args.bytes.now c.self.view_is none)
+
+pub returns-in_err-change-clause-memory : goal.returns-in_err-change-clause-memory
+returns-in_err-change-clause-memory c =
+    let none = not_refused (genesis_of c.self.inside.genesis) c.self.inside.kept.items c.self.inside.chain.items c.deref.result.now c.deref-2.result.now c.args.bytes.now c.in-Ok.found
+    c.deref.ensures.value c.deref-2.ensures.value c.in-Ok.ensures.ok c.in_default.ensures in
+    on_err c.from_residual-in_err-change.result _ (none_applies (genesis_of c.self.inside.genesis) c.self.inside.kept.items c.self.inside.chain.items (followers_of c.self.inside.followers.items) c.args.self.now c.args.bytes.now c.self.view_is none)

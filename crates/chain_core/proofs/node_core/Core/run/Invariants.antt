@@ -1,11 +1,13 @@
 use Rattle.std.proofs.Common.{◌≡◌, ◌≤◌, length, take, vec_capacity}
-use Rattle.chain_core.proofs.Running.{Ran}
+use Rattle.chain_core.specs.Views.{AreRepliesTo}
+use Rattle.chain_core.proofs.Runs.{Ran}
 use Rattle.chain_core.proofs.node_core.Core.run.Given as goal
 
 -- the events so far were answered, and there is room for all replies
 abbrev pub invariant-loop-event : goal.invariant-loop-event
 invariant-loop-event l = record {
   count : length l.replies.items ≡ l.event-index;
+  kinds : AreRepliesTo (take l.event-index l.events) l.replies.items;
   room : length l.events ≤ vec_capacity l.replies;
   ran : Ran l.fn.self (take l.event-index l.events) l.replies.items l.self;
   genesis : l.self.genesis ≡ l.fn.self.genesis;

@@ -1,5 +1,5 @@
 use Rattle.std.proofs.Common.{Some}
-use Rattle.scenario.proofs.Followers.{named_after}
+use Rattle.scenario.proofs.FollowerBindings.{named_after}
 use Rattle.scenario.proofs.follower_names.FollowerNames.bind.Goals as goal
 
 pub returns-in-Some : goal.returns-in-Some

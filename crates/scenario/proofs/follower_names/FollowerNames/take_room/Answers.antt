@@ -1,5 +1,5 @@
 use Rattle.std.proofs.Common.{◌∙◌, None, refl, rules}
-use Rattle.ident.proofs.ByteKeys.{none_if, insert_unseen}
+use Rattle.byte_keys.proofs.ForCallers.{none_if, insert_unseen}
 use Rattle.scenario.specs.FollowerNamesView.{number_at}
 use Rattle.scenario.proofs.follower_names.FollowerNames.take_room.Goals as goal
 

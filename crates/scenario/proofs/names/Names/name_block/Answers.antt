@@ -1,5 +1,5 @@
 use Rattle.std.proofs.Common.{refl, rules}
-use Rattle.ident.proofs.ByteKeys.{none_if}
+use Rattle.byte_keys.proofs.ForCallers.{none_if}
 use Rattle.scenario.proofs.Bindings.{after_insert}
 use Rattle.scenario.proofs.names.Names.name_block.Goals as goal
 

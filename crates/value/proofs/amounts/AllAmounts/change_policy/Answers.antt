@@ -7,7 +7,7 @@ use Rattle.value.specs.declared.amounts.Amounts.{Amounts}
 use Rattle.value.specs.Quantities.{IsWithin, quantity_limit}
 use Rattle.value.specs.Sides.{sided}
 use Rattle.value.specs.Sums.{or_zero, sum_under_any, amount_under, amounts_of}
-use Rattle.value.specs.View.{told_token}
+use Rattle.value.specs.View.{token_of}
 use Rattle.value.proofs.Adding.{policy_written, policy_unwritten, no_tokens}
 use Rattle.value.proofs.amounts.AllAmounts.change_policy.Goals as goal
 
@@ -18,7 +18,7 @@ change-requires-clause-room g c = λ name.
 
 pub returns-in-Some : goal.returns-in-Some
 returns-in-Some g c =
-    let tokens = map told_token c.args.policy.now.tokens.items in
+    let tokens = map token_of c.args.policy.now.tokens.items in
     let found = sym c.get_mut.ensures.value ∙ ap option_copied_mut c.in-Some.is in
     let sums : (name : List ℕ) → amount_under c.change.new.self name ≡ _ = λ name. rw c.deref.ensures.value at (c.change.ensures.sums name) in
     let written = policy_written c.args.self.now (record { by_policy = c.get_mut.follows.lender c.change.new.self }) c.args.policy.now.id.bytes (λ name. sided c.args.side (named_amount g.Q.Quantity.whole name tokens)) c.in-Some.amounts.now c.change.new.self (c.get_mut.follows.holds c.change.new.self).0 found sums in
@@ -26,7 +26,7 @@ returns-in-Some g c =
 
 pub returns-in_default : goal.returns-in_default
 returns-in_default g c =
-    let tokens = map told_token c.args.policy.now.tokens.items in
+    let tokens = map token_of c.args.policy.now.tokens.items in
     let absent : amounts_of c.args.self.now c.args.policy.now.id.bytes ≡ None = sym c.get_mut.ensures.value ∙ ap option_copied_mut c.in_default.is in
     let none : tokens ≡ [] = no_tokens tokens (subst (λ (o : Option Amounts). AllByRecursion (λ (t : Token g.row.Q.Denot). IsSome (sum_under_any o t.name)) tokens) absent c.requires.present) in
     let same : (q : List ℕ) → amounts_of (record { by_policy = c.get_mut.follows.lender-at-none }) q ≡ amounts_of c.args.self.now q = λ q. search rules in

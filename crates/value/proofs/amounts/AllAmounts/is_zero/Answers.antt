@@ -4,7 +4,7 @@ use Rattle.std.specs.Prelude.{IsTrue, IfSome}
 use Rattle.value.specs.declared.amounts.Amounts.{Amounts}
 use Rattle.value.specs.Sums.{or_zero, sum_under_any, amount_under}
 use Rattle.value.proofs.Checking.{walked, found_from_all, all_from_found}
-use Rattle.ident.proofs.ByteKeys.{has_bytes}
+use Rattle.byte_keys.proofs.ForCallers.{has_bytes}
 use Rattle.value.proofs.amounts.AllAmounts.is_zero.Goals as goal
 
 -- there is nothing under any name

@@ -1,6 +1,6 @@
 use Rattle.std.proofs.Common.{refl, rules}
 use Rattle.value.specs.Sums.{sum_under_any}
-use Rattle.ident.proofs.ByteKeys.{insert_unseen, none_if}
+use Rattle.byte_keys.proofs.ForCallers.{insert_unseen, none_if}
 use Rattle.value.proofs.amounts.AllAmounts.prepare_id.Goals as goal
 
 pub returns-in_ok-insert-clause-same : goal.returns-in_ok-insert-clause-same

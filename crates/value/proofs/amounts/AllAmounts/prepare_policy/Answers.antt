@@ -2,7 +2,7 @@ use Rattle.std.proofs.Common.{◌∙◌, ap, sym, subst, List, map}
 use Rattle.std.specs.Option.{option_copied_mut}
 use Rattle.value.specs.declared.assets.Token.{Token as CodeToken}
 use Rattle.std.specs.Prelude.{ℤ, Option, IsSome}
-use Rattle.value.specs.View.{told_token, told_policy}
+use Rattle.value.specs.View.{token_of, policy_of}
 use Rattle.value.specs.Sums.{or_zero, HasAll}
 use Rattle.value.proofs.Preparing.{policy_kept, policy_present}
 use Rattle.value.proofs.amounts.AllAmounts.prepare_policy.Goals as goal
@@ -35,4 +35,4 @@ pub returns-in_ok-prepare-clause-present : goal.returns-in_ok-prepare-clause-pre
 returns-in_ok-prepare-clause-present g c =
     let found = sym c.get_mut.ensures.value ∙ ap option_copied_mut c.in-Some.is in
     let kept = policy_kept c.prepare_id.new.self (record { by_policy = c.get_mut.follows.lender c.prepare.new.self }) c.args.policy.now.id.bytes c.in-Some.amounts.now c.prepare.new.self (c.get_mut.follows.holds c.prepare.new.self).0 found c.in_ok-prepare.ensures.same c.in_ok-prepare.ensures.kept in
-    policy_present (record { by_policy = c.get_mut.follows.lender c.prepare.new.self }) (told_policy c.args.policy.now) c.prepare.new.self kept.found (subst (λ (ts : List (CodeToken g.row.Q.Denot)). HasAll c.prepare.new.self (map told_token ts)) c.deref.ensures.value c.in_ok-prepare.ensures.present)
+    policy_present (record { by_policy = c.get_mut.follows.lender c.prepare.new.self }) (policy_of c.args.policy.now) c.prepare.new.self kept.found (subst (λ (ts : List (CodeToken g.row.Q.Denot)). HasAll c.prepare.new.self (map token_of ts)) c.deref.ensures.value c.in_ok-prepare.ensures.present)

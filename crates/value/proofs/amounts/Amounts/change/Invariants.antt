@@ -1,7 +1,7 @@
 use Rattle.std.proofs.Common.{map, drop}
-use Rattle.value.specs.View.{told_token}
+use Rattle.value.specs.View.{token_of}
 use Rattle.value.proofs.Adding.{Changing}
 use Rattle.value.proofs.amounts.Amounts.change.Given as goal
 
 abbrev pub invariant-loop-token : goal.invariant-loop-token
-invariant-loop-token g l = Changing g.Q.Quantity.whole l.side l.fn.self l.self (map told_token l.tokens) (map told_token (drop l.token-index l.tokens))
+invariant-loop-token g l = Changing g.Q.Quantity.whole l.side l.fn.self l.self (map token_of l.tokens) (map token_of (drop l.token-index l.tokens))

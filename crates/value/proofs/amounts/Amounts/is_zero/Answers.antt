@@ -3,7 +3,7 @@ use Rattle.std.specs.List.{AllByRecursion}
 use Rattle.std.specs.Prelude.{IsTrue, IfSome}
 use Rattle.value.specs.Sums.{or_zero}
 use Rattle.value.proofs.Checking.{walked, found_from_all, all_from_found}
-use Rattle.ident.proofs.ByteKeys.{has_bytes}
+use Rattle.byte_keys.proofs.ForCallers.{has_bytes}
 use Rattle.value.proofs.amounts.Amounts.is_zero.Goals as goal
 
 zero_from : (o : Option ℤ) → IfSome o (λ z. z ≡ pos 0) → or_zero o ≡ pos 0

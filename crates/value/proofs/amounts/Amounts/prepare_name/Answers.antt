@@ -1,6 +1,6 @@
 use Rattle.std.proofs.Common.{refl, rules}
 use Rattle.value.specs.Sums.{or_zero}
-use Rattle.ident.proofs.ByteKeys.{insert_unseen, insert_keeps, none_if}
+use Rattle.byte_keys.proofs.ForCallers.{insert_unseen, insert_keeps, none_if}
 use Rattle.value.proofs.amounts.Amounts.prepare_name.Goals as goal
 
 pub returns-in_ok-insert-clause-same : goal.returns-in_ok-insert-clause-same

@@ -1,6 +1,6 @@
 use Rattle.std.proofs.Common.{map, arith}
 use Rattle.std.proofs.lemmas.Result.{err_from_is_err_and}
-use Rattle.value.specs.View.{told_policy}
+use Rattle.value.specs.View.{policy_of}
 use Rattle.value.proofs.ValueTexts.{mint_found, mint_refused}
 use Rattle.value.proofs.mint.Mint.read.Goals as goal
 
@@ -11,9 +11,9 @@ returns-in_err-policies-clause-malformed c =
 
 pub invariant_of-mint : goal.invariant_of-mint
 invariant_of-mint c =
-    let found = mint_found c.args.bytes.now (map told_policy c.in_ok-policies.policies.items) c.in_ok-policies.rest.now (λ i. omega (arith, c.type_inv.bytes i)) c.in_ok-policies.ensures in
+    let found = mint_found c.args.bytes.now (map policy_of c.in_ok-policies.policies.items) c.in_ok-policies.rest.now (λ i. omega (arith, c.type_inv.bytes i)) c.in_ok-policies.ensures in
     let spelled = found.spelled in
     record { is_mint = spelled.is_mint; has_text = spelled.spelled.has_text }
 
 pub returns-clause-found : goal.returns-clause-found
-returns-clause-found c = mint_found c.args.bytes.now (map told_policy c.in_ok-policies.policies.items) c.in_ok-policies.rest.now (λ i. omega (arith, c.type_inv.bytes i)) c.in_ok-policies.ensures
+returns-clause-found c = mint_found c.args.bytes.now (map policy_of c.in_ok-policies.policies.items) c.in_ok-policies.rest.now (λ i. omega (arith, c.type_inv.bytes i)) c.in_ok-policies.ensures

@@ -5,7 +5,7 @@ use Rattle.value.specs.Totals.{change_of}
 use Rattle.value.specs.Quantities.{IsWithin, quantity_limit}
 use Rattle.value.specs.Sides.{sided}
 use Rattle.value.specs.Sums.{amount_in, total_in}
-use Rattle.value.specs.View.{told_policy}
+use Rattle.value.specs.View.{policy_of}
 use Rattle.value.proofs.Sums.{written, quantity_fits}
 use Rattle.value.proofs.Summing.{total_same, in_reach, coin_within, total_changed, total_within}
 use Rattle.value.proofs.totals.Totals.change.Goals as goal
@@ -21,14 +21,14 @@ invariant_of-self g c = record {
 -- the sums, before the value is counted
 changed : (g : Over) (c : goal.After-change g) (asset : Asset)
     → total_in (to_z w128 (of_z w128 (to_z w128 (of_z w128 c.args.self.now.coin) +ℤ to_z w128 (of_z w128 c.change_by.result)))) c.change.new.self asset
-    ≡ total_in c.args.self.now.coin c.args.self.now.assets asset +ℤ sided c.args.side (change_of g.Q.Quantity.whole c.args.coin (map told_policy c.args.assets.now) asset)
+    ≡ total_in c.args.self.now.coin c.args.self.now.assets asset +ℤ sided c.args.side (change_of g.Q.Quantity.whole c.args.coin (map policy_of c.args.assets.now) asset)
 changed g c asset =
     let room = in_reach c.args.self.now.values c.args.self.now.coin c.requires.room (c.args.self.now.within Ada) in
     let coin : to_z w128 (of_z w128 c.from.result) ≡ pos c.args.coin = quantity_fits c.from.result (subst (IsWithin quantity_limit) (sym c.from.ensures) (coin_within c.args.coin c.ranges.coin.fits)) ∙ c.from.ensures in
     let more = written c.args.self.now.coin c.change_by.result room c.change_by.ensures.within ∙ ap (λ (z : ℤ). c.args.self.now.coin +ℤ z) (c.change_by.ensures.is ∙ ap (sided c.args.side) coin) in
-    let sums : (policy name : List ℕ) → amount_in c.change.new.self policy name ≡ amount_in c.args.self.now.assets policy name +ℤ sided c.args.side (policy_amount g.Q.Quantity.whole policy name (map told_policy c.args.assets.now)) =
-    λ policy name. c.change.ensures.sums policy name ∙ ap (λ (z : ℤ). z +ℤ sided c.args.side (policy_amount g.Q.Quantity.whole policy name (map told_policy c.args.assets.now))) (c.prepare.ensures.same policy name) in
-    total_changed g.Q.Quantity.whole c.args.side c.args.coin (map told_policy c.args.assets.now) c.args.self.now.coin _ c.args.self.now.assets c.change.new.self more sums asset
+    let sums : (policy name : List ℕ) → amount_in c.change.new.self policy name ≡ amount_in c.args.self.now.assets policy name +ℤ sided c.args.side (policy_amount g.Q.Quantity.whole policy name (map policy_of c.args.assets.now)) =
+    λ policy name. c.change.ensures.sums policy name ∙ ap (λ (z : ℤ). z +ℤ sided c.args.side (policy_amount g.Q.Quantity.whole policy name (map policy_of c.args.assets.now))) (c.prepare.ensures.same policy name) in
+    total_changed g.Q.Quantity.whole c.args.side c.args.coin (map policy_of c.args.assets.now) c.args.self.now.coin _ c.args.self.now.assets c.change.new.self more sums asset
 
 pub overflow_add-self : goal.overflow_add-self
 overflow_add-self g c =
@@ -41,7 +41,7 @@ change-requires-clause-room g c = λ policy name.
 
 pub invariant_of-self-2 : goal.invariant_of-self-2
 invariant_of-self-2 g c =
-    let ps = map told_policy c.args.assets.now in
+    let ps = map policy_of c.args.assets.now in
     record {
       few = omega (arith, c.requires.room);
       within = λ asset. total_within g.Q.Quantity.whole c.args.side c.args.coin ps c.args.self.now.values (total_in c.args.self.now.coin c.args.self.now.assets asset) _ asset c.ranges.coin.fits c.requires.differ c.change.ensures.bounded (c.args.self.now.within asset) (changed g c asset);

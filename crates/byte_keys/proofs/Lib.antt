@@ -1,0 +1,2 @@
+-- What callers cite of this crate's proofs.
+pub mod ForCallers

@@ -1,0 +1,106 @@
+//! Lists and maps of typed items.
+
+use super::*;
+use std::alloc::Global;
+use std::test::Fail;
+
+/// A number below 100.
+#[derive(Debug, PartialEq, Eq, Drop)]
+struct Small {
+    number: u64,
+}
+
+impl Decode for Small {
+    ghost use Rattle.std.specs.Prelude.{ℕ};
+    ghost use Rattle.cbor.specs.Shapes.{bounded_at};
+
+    ghost Plain = { ℕ };
+
+    ghost plain = { λ x. x.number };
+
+    ghost decoded_at = { bounded_at 100 };
+
+    fn decode(_alloc: Global, bytes: &[u8]) -> Result<(Small, &[u8]), CborFault> {
+        let (number, rest) = bounded(bytes, 100).ok_or(CborFault::Malformed)?;
+        Ok((Small { number }, rest))
+    }
+}
+
+/// A short text with a number below 100.
+#[derive(Debug, PartialEq, Eq, Drop)]
+struct Share {
+    length: usize,
+    number: u64,
+}
+
+impl DecodeEntry for Share {
+    ghost use Rattle.std.specs.Prelude.{ℕ, List, length};
+    ghost use Rattle.cbor.specs.Shapes.{short_at, bounded_at, entry_at};
+
+    ghost Plain = { ℕ × ℕ };
+
+    ghost plain = { λ x. (x.length, x.number) };
+
+    ghost decoded_at = { entry_at (λ text number. (length text, number)) (short_at 2) (bounded_at 100) };
+
+    #[tactic(auto, unfolding(crate::specs::Shapes::entry_at))]
+    fn decode_entry<'a>(
+        _alloc: Global,
+        before: &[u8],
+        bytes: &'a [u8],
+    ) -> Result<(Share, &'a [u8], &'a [u8]), CborFault> {
+        let (key, rest) = short(bytes, 2).ok_or(CborFault::Malformed)?;
+        let text = rising(before, bytes, rest).ok_or(CborFault::Malformed)?;
+        let (number, rest) = bounded(rest, 100).ok_or(CborFault::Malformed)?;
+        let length = key.len();
+        Ok((Share { length, number }, text, rest))
+    }
+}
+
+#[test]
+fn lists_of_numbers(rt: HostRuntime) -> Result<(), Fail> {
+    let (numbers, rest) = list_array::<Small>(rt.alloc(), b"\x83\x01\x18\x63\x00\xf6")?;
+    let shown = format!(in rt.alloc(); "{numbers:?}")?;
+    assert_eq!(rt;
+        shown.as_str(),
+        "[Small { number: 1 }, Small { number: 99 }, Small { number: 0 }]"
+    );
+    assert_eq!(rt; rest, b"\xf6".as_slice());
+    let refused: [&[u8]; 3] = [
+        b"\x82\x01",
+        b"\x81\x18\x64",
+        b"\x9b\xff\xff\xff\xff\xff\xff\xff\xff\x01",
+    ];
+    for text in refused {
+        let fault = list_array::<Small>(rt.alloc(), text).err();
+        assert_eq!(rt; fault, Some(CborFault::Malformed), "{text:?}");
+    }
+    Ok(())
+}
+
+#[test]
+fn maps_of_shares(rt: HostRuntime) -> Result<(), Fail> {
+    let (shares, rest) = nonempty_map::<Share>(
+        rt.alloc(),
+        b"\xa2\x41\x09\x05\x42\x00\x00\x06\xff",
+    )?;
+    let shown = format!(in rt.alloc(); "{shares:?}")?;
+    assert_eq!(rt;
+        shown.as_str(),
+        "[Share { length: 1, number: 5 }, Share { length: 2, number: 6 }]"
+    );
+    assert_eq!(rt; rest, b"\xff".as_slice());
+    let (none, _) = entries_of_map::<Share>(rt.alloc(), b"\xa0")?;
+    assert!(rt; none.is_empty());
+    let refused: [&[u8]; 4] = [
+        b"\xa0",
+        b"\xa2\x41\x09\x05\x41\x09\x06",
+        b"\xa1\x43\x00\x00\x00\x05",
+        b"\xbb\xff\xff\xff\xff\xff\xff\xff\xff\x41\x09\x05",
+    ];
+    for text in refused {
+        let fault = nonempty_map::<Share>(rt.alloc(), text).err();
+        assert_eq!(rt; fault, Some(CborFault::Malformed), "{text:?}");
+    }
+    Ok(())
+}

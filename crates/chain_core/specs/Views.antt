@@ -1,0 +1,103 @@
+-- What the plain types of the code stand for: genesis, tips, refusals, events and replies.
+use Rattle.std.specs.Prelude.{List, [], ◌∷◌, Option, Some, None, Result, Ok, Err, map, option_map}
+use Rattle.std.specs.Global.{Vec}
+use Rattle.std.specs.declared.alloc.AllocError.{AllocError}
+use Rattle.model.specs.Block.{Block, block_text}
+use Rattle.model.specs.Chain as chain
+use Rattle.model.specs.Follower as follower
+use Rattle.model.specs.History as history
+use Rattle.ident.specs.PointView.{point_of}
+use Rattle.chain_core.specs.declared.genesis.Genesis.{Genesis}
+use Rattle.chain_core.specs.declared.tip.Tip.{Tip}
+use Rattle.chain_core.specs.declared.arrival.Refusal.{Refusal}
+use Rattle.chain_core.specs.declared.arrival.Refusal.TheVariants.{TooLarge, Malformed, BodyHashMismatch, TooOld, Known}
+use Rattle.chain_core.specs.declared.arrival.Refusal.TheVariants.{Clash, VolatileFull}
+use Rattle.chain_core.specs.declared.arrival.ArriveReply.{ArriveReply}
+use Rattle.chain_core.specs.declared.arrival.ArriveReply.TheVariants.{Kept, Refused}
+use Rattle.chain_core.specs.declared.follower.FollowerId.{FollowerId}
+use Rattle.chain_core.specs.declared.follower.Instruction.{Instruction}
+use Rattle.chain_core.specs.declared.follower.Instruction.TheVariants as instruction
+use Rattle.chain_core.specs.declared.follower.OpenFault.{OpenFault}
+use Rattle.chain_core.specs.declared.follower.OpenFault.TheVariants as open'
+use Rattle.chain_core.specs.declared.follower.NextFault.{NextFault}
+use Rattle.chain_core.specs.declared.follower.NextFault.TheVariants as next
+use Rattle.chain_core.specs.declared.event.RawEvent.{RawEvent}
+use Rattle.chain_core.specs.declared.event.RawEvent.TheVariants as event
+use Rattle.chain_core.specs.declared.event.Reply.{Reply}
+use Rattle.chain_core.specs.declared.event.Reply.TheVariants as reply
+
+abbrev pub genesis_of : Genesis → chain.Genesis
+genesis_of genesis =
+    record { k = genesis.k; max_volatile = genesis.max_volatile; max_body_size = genesis.max_body_size }
+
+abbrev pub tip_of : Tip → chain.Tip
+tip_of tip = record { number = tip.number; slot = tip.slot; hash = option_map (λ h. h.bytes) tip.hash }
+
+-- ---- arrivals
+
+abbrev pub refusal_of : Refusal → history.Refusal
+refusal_of TooLarge = history.TooLarge
+refusal_of Malformed = history.Malformed
+refusal_of BodyHashMismatch = history.BodyHashMismatch
+refusal_of TooOld = history.TooOld
+refusal_of Known = history.Known
+refusal_of Clash = history.Clash
+refusal_of VolatileFull = history.VolatileFull
+
+abbrev pub arrive_reply_of : Result ArriveReply AllocError → history.Reply
+arrive_reply_of (Ok (Kept back added)) = history.Kept back added
+arrive_reply_of (Ok (Refused refusal)) = history.Refused (refusal_of refusal)
+arrive_reply_of (Err want) = history.OutOfMemory
+
+-- ---- followers
+
+-- a block to put on is told by its bytes, as they arrived
+abbrev pub instruction_of : Option Instruction → follower.Instruction
+instruction_of None = follower.Stay
+instruction_of (Some (instruction.AddBlock block)) = follower.AddBlock (block_text block)
+instruction_of (Some (instruction.RollBack point)) = follower.RollBack (point_of point)
+
+-- each follower is open
+abbrev pub followers_of : List (Vec Block) → follower.Followers
+followers_of followers = map (λ told. Some told.items) followers
+
+abbrev pub open_reply_of : Result FollowerId OpenFault → history.Reply
+open_reply_of (Ok id) = history.Opened id.number
+open_reply_of (Err open'.TooManyFollowers) = history.TooManyFollowers
+open_reply_of (Err open'.OutOfMemory) = history.OutOfMemory
+
+abbrev pub next_reply_of : Result (Option Instruction) NextFault → history.Reply
+next_reply_of (Ok instruction) = history.Instructed (instruction_of instruction)
+next_reply_of (Err next.UnknownFollower) = history.UnknownFollower
+next_reply_of (Err next.OutOfMemory) = history.OutOfMemory
+
+-- ---- events and replies
+
+abbrev pub event_of : RawEvent → history.Event
+event_of (event.Arrive bytes) = history.Arrive bytes.items
+event_of event.Open = history.Open
+event_of (event.Next id) = history.Next id.number
+
+abbrev pub reply_of : Reply → history.Reply
+reply_of (reply.Arrive answer) = arrive_reply_of answer
+reply_of (reply.Open answer) = open_reply_of answer
+reply_of (reply.Next answer) = next_reply_of answer
+
+-- the reply is of the event's kind
+abbrev pub IsReplyTo : RawEvent → Reply → Type 0
+IsReplyTo (event.Arrive bytes) (reply.Arrive answer) = Unit {0}
+IsReplyTo event.Open (reply.Open answer) = Unit {0}
+IsReplyTo (event.Next id) (reply.Next answer) = Unit {0}
+IsReplyTo e r = ⊥
+
+-- each event has a reply of its kind
+abbrev pub AreRepliesTo : List RawEvent → List Reply → Type 0
+AreRepliesTo [] [] = Unit {0}
+AreRepliesTo (e ∷ es) (r ∷ rs) = IsReplyTo e r × AreRepliesTo es rs
+AreRepliesTo es rs = ⊥
+
+-- each event with its reply, as far as there are both
+abbrev pub history_of : List RawEvent → List Reply → List history.Entry
+history_of [] replies = []
+history_of (e ∷ es) [] = []
+history_of (e ∷ es) (r ∷ rs) = record { event = event_of e; reply = reply_of r } ∷ history_of es rs

@@ -1,0 +1,4 @@
+pub mod Counts
+pub mod ForCallers
+pub mod Pending
+pub mod Split
