@@ -7,7 +7,7 @@ use Rattle.std.specs.List.{AllByRecursion}
 use Rattle.model.specs.Transaction.{IsTransaction}
 use Rattle.model.specs.Block.{Header, Block, item_of_previous, item_of_header, item_of_transactions, item_of_block, IsHeader, IsReadAs}
 use Rattle.cbor.proofs.ForCallers.{IsBytes, bind_some, guard_some, some_is, has_text, text_fits, members_takes}
-use Rattle.model.specs.Examples.{empty_block}
+use Rattle.model.specs.Block.{empty_block}
 use Rattle.cbor.specs.Shapes.{members_at}
 use Rattle.block.specs.Reading.{header_at, transactions_at, parts_at, block_at}
 use Rattle.block.proofs.Parts.{header_reads, transactions_reads, parts_reads}

@@ -11,7 +11,7 @@ use Rattle.model.specs.Block.{Header, Block, item_of_header, item_of_transaction
 use Rattle.model.proofs.BlockTexts.{block_text_is}
 use Rattle.cbor.proofs.ForCallers.{IsBytes}
 use Rattle.block.specs.declared.block.Block.TheInside.{Inside}
-use Rattle.model.specs.Examples.{empty_block}
+use Rattle.model.specs.Block.{empty_block}
 use Rattle.block.specs.View.{header_of}
 use Rattle.block.specs.Reading.{block_at}
 use Rattle.block.specs.Read.{IsRead, IsMalformed, IsMismatched}

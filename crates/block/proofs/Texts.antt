@@ -7,7 +7,7 @@ use Rattle.model.specs.Cbor.{Bytes, head, text_of, IsInRange}
 use Rattle.model.specs.Block.{item_of_previous, item_of_header, item_of_block, IsHeader, SpellsBlock}
 use Rattle.cbor.proofs.ForCallers.{AllByRecursion-bytes}
 use Rattle.block.specs.declared.header.Header as code
-use Rattle.model.specs.Examples.{empty_block}
+use Rattle.model.specs.Block.{empty_block}
 use Rattle.block.specs.View.{bytes_of, header_of}
 use Rattle.block.proofs.Blocks.{empty_read_as}
 

@@ -2,7 +2,7 @@
 use Rattle.std.specs.Prelude.{◌≡◌}
 use Rattle.model.specs.Block.{Block, block_hash_of, body_size_of}
 use Rattle.block.specs.declared.block_ref.BlockRef.TheInside.{Inside}
-use Rattle.model.specs.Examples.{empty_block}
+use Rattle.model.specs.Block.{empty_block}
 use Rattle.block.specs.View.{header_of}
 use Rattle.block.specs.Read.{IsRead}
 

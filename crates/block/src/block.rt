@@ -2,7 +2,7 @@
 
 ghost use Rattle.std.specs.Prelude.{◌≡◌, ◌↔◌, [], option_map, IsTrue, IfOk, IfErr};
 ghost use Rattle.model.specs.Block.{block_text, block_hash_of, body_size_of};
-ghost use Rattle.model.specs.Examples.{empty_block};
+ghost use Rattle.model.specs.Block.{empty_block};
 ghost use Rattle.block.specs.View.{bytes_of, header_of};
 ghost use Rattle.block.specs.Read.{IsRead, IsReadFault};
 

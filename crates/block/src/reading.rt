@@ -4,7 +4,7 @@
 ghost use Rattle.std.specs.Prelude.{◌≡◌, [], option_map, IfSome};
 ghost use Rattle.model.specs.Cbor.{text_of};
 ghost use Rattle.model.specs.Block.{item_of_header, item_of_transactions};
-ghost use Rattle.model.specs.Examples.{empty_block};
+ghost use Rattle.model.specs.Block.{empty_block};
 ghost use Rattle.block.specs.View.{bytes_of, header_of};
 ghost use Rattle.block.specs.Reading.{previous_at, header_at, transactions_at, block_at};
 

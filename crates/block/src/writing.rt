@@ -3,7 +3,7 @@
 ghost use Rattle.std.specs.Prelude.{◌≡◌, ◌≤◌, [], ◌++◌, length, option_map, OnOk, IfOk, IfErr};
 ghost use Rattle.model.specs.Cbor.{text_of};
 ghost use Rattle.model.specs.Block.{SpellsBlock, item_of_previous, item_of_header, item_of_block, body_hash_of};
-ghost use Rattle.model.specs.Examples.{empty_block};
+ghost use Rattle.model.specs.Block.{empty_block};
 ghost use Rattle.block.specs.View.{bytes_of, header_of};
 ghost use Rattle.block.specs.Written.{IsWriteFault};
 

@@ -9,7 +9,7 @@ use Rattle.model.specs.Block.{Block, body_size_of}
 use Rattle.model.specs.Chain.{Genesis, Tip, tip_at, tip_after, genesis_tip, tip_hash, Follows, immutable_part}
 use Rattle.model.specs.Chain.{IsSelection, live_blocks}
 
--- the block may come behind the tip, its body fits, and there is a ledger after it
+-- the block may come after the tip, its body fits, and there is a ledger after it
 pub record GoesOn (genesis : Genesis) (tip : Tip) (b : Block) : Type 0 where
   pub follows : Follows tip b
   pub size : body_size_of b ≤ genesis.max_body_size
@@ -26,7 +26,7 @@ pub record AreForks (genesis : Genesis) (kept : List Block) (tip : Tip) (n : ℕ
   pub sound : AllByRecursion (λ fork. IsFork genesis kept tip fork × (length fork ≡ n)) forks
   pub complete : (fork : List Block) → IsFork genesis kept tip fork → length fork ≡ n → Contains forks fork
 
--- the fork with one of these blocks behind it
+-- the fork with one of these blocks after it
 pub record IsOneLonger (genesis : Genesis) (kept : List Block) (tip : Tip) (fork longer : List Block) : Type 0 where
   pub block : Block
   pub goes_on : GoesOn genesis (tip_after tip fork) block
@@ -63,7 +63,7 @@ immutable_tip genesis chain = tip_after genesis_tip (immutable_part genesis chai
 abbrev pub IsLeast : List (List Block) → List Block → Type 0
 IsLeast forks fork = AllByRecursion (λ other. slice_cmp nat_cmp (tip_hash fork) (tip_hash other) ≢ Greater) forks
 
--- the selection rule puts the fork behind the immutable part, and its blocks are live
+-- the selection rule puts the fork after the immutable part, and its blocks are live
 pub record IsChosenFork (genesis : Genesis) (kept chain fork : List Block) : Type 0 where
   pub selection : IsSelection genesis kept chain (immutable_part genesis chain ++ fork)
   pub live : AllByRecursion (Contains (live_blocks genesis kept chain)) fork

@@ -25,8 +25,7 @@ coded_held =
     (λ p. record { genesis = p.0; chain = p.1.0; live = p.1.1.0; followers = p.1.1.1 }) (λ _. refl)
 
 -- The core stands for each state with this chain and these followers whose live blocks are those held, as members and
--- in
--- number. Nothing is said of the other kept blocks.
+-- in number. Nothing is said of the other kept blocks.
 pub record Stands (held : Held) (s : State) : Type 0 where
   pub chain : held.chain ≡ s.chain
   pub followers : held.followers ≡ s.followers

@@ -13,7 +13,7 @@ use crate::tip::Tip;
 use block::Block;
 use std::alloc::{AllocError, Global};
 
-/// Whether the block may come behind the tip, its body fits, and there is a ledger after it.
+/// Whether the block may come after the tip, its body fits, and there is a ledger after it.
 fn goes_on(genesis: &Genesis, tip: &Tip, block: &Block) -> bool
     ensures { IsTrue result ↔ GoesOn (genesis_of genesis.now) (tip_of tip.now) block.now }
 {
@@ -26,7 +26,7 @@ fn goes_on(genesis: &Genesis, tip: &Tip, block: &Block) -> bool
         && block.is_empty()
 }
 
-/// The fork with the block behind it. Shares the blocks, and copies none of their bytes.
+/// The fork with the block after it. Shares the blocks, and copies none of their bytes.
 fn with_block(alloc: Global, fork: &[Block], block: &Block) -> Result<Vec<Block>, AllocError>
     ensures { IfOk result (λ longer. longer.items ≡ fork.now ++ block.now ∷ []) }
 {
@@ -38,7 +38,7 @@ fn with_block(alloc: Global, fork: &[Block], block: &Block) -> Result<Vec<Block>
     Ok(longer)
 }
 
-/// Puts all that one of the kept blocks makes of the fork behind the longer forks.
+/// Puts all that one of the kept blocks makes of the fork to the end of the longer forks.
 fn grow_fork(
     alloc: Global,
     genesis: &Genesis,

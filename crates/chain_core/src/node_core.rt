@@ -13,6 +13,16 @@ use ident::Point;
 use std::alloc::{AllocError, Global};
 use std::marker::Model;
 
+/// The node's chain, from the bytes of blocks in any order.
+///
+/// ```text
+/// let mut core = Core::new(alloc, Genesis { k: 2160, max_volatile: 10_000, max_body_size: 90_112 });
+/// match core.arrive(&bytes)? {
+///     ArriveReply::Kept { back, added } => .., // of the selected chain so many are rolled back and put on
+///     ArriveReply::Refused(refusal) => ..,     // the first of seven reasons that applies
+/// }
+/// ```
+///
 /// The core keeps one plain list of all kept blocks, the selected chain, and what each follower was told.
 #[derive(Drop)]
 pub struct Core {
@@ -67,8 +77,7 @@ impl Core {
     /// the chain is selected anew. Where memory runs out nothing changes.
     ///
     /// Reads and hashes the bytes once, and copies them once where they aren't refused: a refusal takes no memory.
-    /// Takes time that grows with the kept blocks times
-    /// the longest fork past the immutable tip.
+    /// Takes time that grows with the kept blocks times the longest fork past the immutable tip.
     pub fn arrive(&mut self, bytes: &[u8]) -> Result<ArriveReply, AllocError>
         // For every state of the definitions that the core stands for, this is a step to one that it then stands for.
         ensures step { (s : State) → Stands self.old s → (t : State)
@@ -118,8 +127,8 @@ impl Core {
     }
 
     /// What the follower of this number is told next: to put on the next block of the selected chain, where what it was
-    /// told is a proper beginning of that, and else nothing. A follower whose chain was left stays where it is, for
-    /// now.
+    /// told is a proper beginning of that, and else nothing. A follower whose chain was abandoned stays where it
+    /// is, for now.
     ///
     /// Where no such follower is open, or memory runs out, nothing changes. Takes no memory where it answers nothing.
     /// Compares what was told with the chain, block by block. Shares the block, and copies none of its bytes.

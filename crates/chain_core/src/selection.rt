@@ -23,7 +23,7 @@ use block::Block;
 use ident::BlockHash;
 use std::alloc::{AllocError, Global};
 
-/// How many blocks of the chain are never left again.
+/// How many blocks of the chain are never rolled back.
 pub fn immutable_length(genesis: &Genesis, chain: &[Block]) -> usize
     ensures count { result ≡ immutable_count (genesis_of genesis.now) chain.now }
     ensures within { result ≤ length chain.now }
@@ -127,7 +127,7 @@ fn immutable_tip(genesis: &Genesis, chain: &[Block]) -> Tip
     Tip::genesis().after(&chain[..immutable_length(genesis, chain)])
 }
 
-/// The fork that the selection rule puts behind the immutable part, if the chain is not to stay.
+/// The fork that the selection rule puts after the immutable part, if the chain is not to stay.
 fn chosen_fork(
     alloc: Global,
     genesis: &Genesis,
@@ -147,7 +147,7 @@ fn chosen_fork(
     Ok(least_fork(forks))
 }
 
-/// How many blocks of the old chain were left, and how many of the new one put on.
+/// How many blocks of the old chain were rolled back, and how many of the new one put on.
 #[derive(Clone, Copy, Debug)]
 pub struct Change {
     pub back: u64,

@@ -1,4 +1,9 @@
 //! Identifiers of what a chain has, each 32 bytes, and points on it.
+//!
+//! ```text
+//! let id = TxId::of_body(&body); // the SHA-256 digest of the body's text
+//! let same: TxId = id.to_string(alloc)?.as_str().parse()?;
+//! ```
 #![tactic(auto)]
 
 mod block_hash;

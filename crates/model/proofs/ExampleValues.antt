@@ -6,7 +6,8 @@ use Rattle.std.proofs.lemmas.List.{length-append}
 use Rattle.model.specs.Cbor.{Item, Unsigned, Bytes, head, text_of, nesting, IsInRange, HasRisingKeys}
 use Rattle.model.specs.Script.{Script, RequireTimeStart, item_of_script, IsScript, SpellsScript}
 use Rattle.model.specs.Block.{Header, item_of_header, item_of_block, SpellsBlock, block_text}
-use Rattle.model.specs.Examples.{nested_script, nested_script_text, first_header, later_header, empty_block}
+use Rattle.model.specs.Block.{empty_block}
+use Rattle.model.specs.Examples.{nested_script, nested_script_text, first_header, later_header}
 use Rattle.model.proofs.HeadLemmas.{head_says}
 use Rattle.model.proofs.ItemTexts.{the_item}
 

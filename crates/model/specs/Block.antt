@@ -17,6 +17,10 @@ pub record Block : Type 0 where
   pub header : Header
   pub transactions : List Transaction
 
+-- the block of this header that holds no transaction
+abbrev pub empty_block : Header → Block
+empty_block header = record { header = header; transactions = [] }
+
 abbrev pub item_of_previous : Option (List ℕ) → Item
 item_of_previous None = Null
 item_of_previous (Some hash) = Bytes hash

@@ -12,7 +12,7 @@ use Rattle.model.specs.Block.{Block, block_hash_of, body_size_of}
 
 -- what a network agrees on before its first block
 pub record Genesis : Type 0 where
-  pub k : ℕ  -- how many blocks of the selected chain may be left again
+  pub k : ℕ  -- how many blocks of the selected chain may be rolled back
   pub max_volatile : ℕ  -- how many live blocks are kept at most
   pub max_body_size : ℕ  -- of a block's body, in bytes
 
@@ -72,7 +72,7 @@ pub record IsValidChain (genesis : Genesis) (chain : List Block) : Type 0 where
 
 -- ---- selection
 
--- how many blocks of a chain are never left again
+-- how many blocks of a chain are never rolled back
 abbrev pub immutable_length : Genesis → List Block → ℕ
 immutable_length genesis chain = length chain - genesis.k
 
@@ -132,9 +132,8 @@ pub record IsChosen (genesis : Genesis) (kept selected chosen : List Block) : Ty
   pub least : (other : List Block) → IsCandidate genesis kept selected other → length other ≡ length chosen
       → slice_cmp nat_cmp (tip_hash chosen) (tip_hash other) ≢ Greater
 
--- SELECTION RULE (the Consensus and Storage Layer report, chain selection; the tie is this project's own).
--- It is asked anew after each block that is kept, over all kept blocks. Candidates are the valid chains of these
--- through
+-- SELECTION RULE (the Consensus and Storage Layer report, chain selection; the tie is this project's own)
+-- It is asked anew after each block that is kept, over all kept blocks. Candidates are the valid chains of these through
 -- the immutable tip: where none is longer than the selected chain that stays, and else it becomes the longest one, of
 -- several the one with the least hash at its end.
 pub data IsSelection (genesis : Genesis) (kept selected : List Block) : List Block → Type 0 where

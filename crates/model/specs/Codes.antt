@@ -1,7 +1,6 @@
 -- THIS FILE MAY BE SKIPPED: it defines nothing that the node means. A type of the code can stand for a value only if
--- that
--- value has a code, a one to one map into trees of numbers; here are these codes, each with its proof that it is one to
--- one. Those of recursive data are read back from the tree; those of records are the codes of their fields.
+-- that value has a code, a one to one map into trees of numbers; here are these codes, each with its proof that it is
+-- one to one. Those of recursive data are read back from the tree; those of records are the codes of their fields.
 use Rattle.std.specs.Prelude.{◌≡◌, ◌⊎◌, ℕ, zero, suc, List, [], ◌∷◌, Option}
 use mathlib.Core.Path.{refl, sym, ap, ◌∙◌}
 use mathlib.Core.Logic.{inl, inr}

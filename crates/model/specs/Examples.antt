@@ -2,7 +2,7 @@
 use Rattle.std.specs.Prelude.{ℕ, zero, suc, List, [], ◌∷◌, None, Some}
 use Rattle.model.specs.Cbor.{Item, Unsigned, map_of, Array, NoItems, NextItem}
 use Rattle.model.specs.Script.{Script, RequireAllOf, NoScripts, NextScript}
-use Rattle.model.specs.Block.{Header, Block}
+use Rattle.model.specs.Block.{Header}
 
 -- a map of two entries, the numbers k to v and l to w
 abbrev pub small_map : (k v l w : ℕ) → Item
@@ -31,7 +31,3 @@ first_header body_hash = record { number = 1; slot = 1; previous = None; body_ha
 abbrev pub later_header : ℕ → ℕ → List ℕ → List ℕ → Header
 later_header number slot previous body_hash =
     record { number = number; slot = slot; previous = Some previous; body_hash = body_hash }
-
--- the block of this header that holds no transaction
-abbrev pub empty_block : Header → Block
-empty_block header = record { header = header; transactions = [] }

@@ -70,7 +70,7 @@ pub data Event : Type 0 where
   Open : Event
   Next : (id : ℕ) → Event
 
--- what it answers: that the block is kept, with how many blocks of the old chain were left and how many
+-- what it answers: that the block is kept, with how many blocks of the old chain were rolled back and how many
 -- of the new one were put on; that the bytes are refused; a new follower's id, or that too many are open; an
 -- instruction, or that no such follower is open; or that memory ran out
 pub data Reply : Type 0 where
@@ -89,17 +89,17 @@ pub record IsCommonLength (old new : List Block) (n : ℕ) : Type 0 where
   pub common : take n old ≡ take n new
   pub longest : (m : ℕ) → m ≤ length old → m ≤ length new → take m old ≡ take m new → m ≤ n
 
--- from the one chain to the other `back` blocks are left and `added` put on
+-- from the one chain to the other `back` blocks are rolled back and `added` put on
 pub record IsChange (old new : List Block) (back added : ℕ) : Type 0 where
   pub common : ℕ
   pub is_common : IsCommonLength old new common
   pub left : back + common ≡ length old
   pub put_on : added + common ≡ length new
 
--- RULE OF A KEPT BLOCK (the report, addition of a block to the chain database).
+-- RULE OF A KEPT BLOCK (the report, addition of a block to the chain database)
 -- Bytes are kept where they are read as a block and no refusal applies. The block joins the kept ones, the selection
--- rule
--- then says which chain is selected, and the reply counts the blocks rolled back and put on. Followers are told later.
+-- rule then says which chain is selected, and the reply counts the blocks rolled back and put on. Followers are told
+-- later.
 pub record Keeps (genesis : Genesis) (s : State) (bytes : List ℕ) (back added : ℕ) (t : State) : Type 0 where
   pub block : Block
   pub read : IsReadAs block bytes
@@ -123,10 +123,9 @@ pub record Instructs (s : State) (id : ℕ) (instruction : Instruction) (t : Sta
   pub told : MayBeTold s.chain before instruction now
   pub after : t ≡ record { kept = s.kept; chain = s.chain; followers = slice_set s.followers id (Some now) }
 
--- STEP RULE (this project's own, over the report's interface of the chain database).
+-- STEP RULE (this project's own, over the report's interface of the chain database)
 -- From one state an event may be answered so, and leave the other; each kind of event has its own replies. What is
--- refused
--- changes nothing, nor does want of memory, which may be answered to any event.
+-- refused changes nothing, nor does want of memory, which may be answered to any event.
 abbrev pub Step : Genesis → State → Event → Reply → State → Type 0
 Step genesis s (Arrive bytes) (Kept back added) t = Keeps genesis s bytes back added t
 Step genesis s (Arrive bytes) (Refused refusal) t = IsRefused genesis s bytes refusal × (t ≡ s)

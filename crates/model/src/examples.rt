@@ -5,7 +5,8 @@ ghost use Rattle.model.specs.Cbor.{Item, Unsigned, Negative, Null, text_of, Spel
 ghost use Rattle.model.specs.Script.{Script, RequireTimeStart, SpellsScript};
 ghost use Rattle.model.specs.Block.{item_of_header, block_text, SpellsBlock};
 ghost use Rattle.model.specs.Examples.{small_map, nested, nested_script, nested_script_text, first_header};
-ghost use Rattle.model.specs.Examples.{later_header, empty_block};
+ghost use Rattle.model.specs.Examples.{later_header};
+ghost use Rattle.model.specs.Block.{empty_block};
 
 /// Numbers and null.
 pub fn texts_of_numbers()

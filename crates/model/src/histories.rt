@@ -66,7 +66,8 @@ pub fn immutable_part_grows()
         → IsCandidate genesis kept t.chain candidate → IsCandidate genesis kept s.chain candidate }
 {}
 
-/// What is answered of a block that is kept: how many blocks of the old chain are left, and how many put on.
+/// What is answered of a block that is kept: how many blocks of the old chain are rolled back, and how many of
+/// the new one put on.
 pub fn change_counts()
     // The two chains share the rest,
     ensures shared { (genesis : Genesis) (s : State) (event : Event) (back added : ℕ) (t : State)
@@ -78,11 +79,11 @@ pub fn change_counts()
         → Step genesis s event (Kept back added) t
         → slice_get s.chain (length s.chain - back) ≡ Some b → slice_get t.chain (length t.chain - added) ≡ Some c
         → b ≢ c }
-    // Never are more than k blocks left.
+    // Never are more than k blocks rolled back.
     ensures bounded { (genesis : Genesis) (s : State) (event : Event) (back added : ℕ) (t : State)
         → Step genesis s event (Kept back added) t
         → back ≤ genesis.k }
-    // A chain that stays is answered with 0 and 0; one that changes has more put on than left.
+    // A chain that stays is answered with 0 and 0; one that changes has more put on than rolled back.
     ensures told { (genesis : Genesis) (s : State) (event : Event) (back added : ℕ) (t : State)
         → Step genesis s event (Kept back added) t
         → ((t.chain ≡ s.chain) × (back ≡ 0) × (added ≡ 0)) ⊎ (back < added) }

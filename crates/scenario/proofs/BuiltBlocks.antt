@@ -3,7 +3,7 @@ use Rattle.std.proofs.Common.{◌≡◌, ℕ, ◌+◌, ◌^◌, ◌<◌, ◌≤�
 use Rattle.std.proofs.lemmas.Bool.Decides.{nat_tests}
 use Rattle.model.specs.Block.{Header, Block, SpellsBlock, block_text, block_hash_of, body_hash_of}
 use Rattle.model.specs.Chain.{Point}
-use Rattle.model.specs.Examples.{empty_block}
+use Rattle.model.specs.Block.{empty_block}
 use Rattle.block.specs.Read.{IsRead, IsNoBlock}
 use Rattle.block.specs.declared.fault.NoBlock.{NoBlock}
 use Rattle.block.proofs.ForCallers.{same_read, is_no_other}

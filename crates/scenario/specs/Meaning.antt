@@ -5,7 +5,7 @@ use Rattle.model.specs.Limits.{number_limit}
 use Rattle.scenario.specs.Text.{script_size_limit}
 use Rattle.model.specs.Block.{Header, Block, block_text, block_hash_of, body_hash_of}
 use Rattle.model.specs.Chain.{Point}
-use Rattle.model.specs.Examples.{empty_block}
+use Rattle.model.specs.Block.{empty_block}
 use Rattle.scenario.specs.declared.fault.LineFault.{LineFault}
 use Rattle.scenario.specs.declared.fault.LineFault.TheVariants.{BadLine, UnknownName, NameTaken, NotBuilt}
 use Rattle.scenario.specs.declared.line.Form.{Form}

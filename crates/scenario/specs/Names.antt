@@ -1,5 +1,6 @@
 -- Names of two kinds: those of bytes, a block's or others, and those of followers.
-use Rattle.std.specs.Prelude.{ℕ, Bool, false, List, Option, Some, None, option_map, unwrap_or, bytes_eq, codes}
+use Rattle.std.specs.Prelude.{ℕ, Bool, false, List, [], ◌∷◌, ◌++◌, Option, Some, None, option_map, unwrap_or, bytes_eq}
+use Rattle.std.specs.Prelude.{codes}
 use Rattle.std.specs.List.{find}
 use Rattle.model.specs.Chain.{Point}
 
@@ -43,3 +44,7 @@ follower_named name names = option_map (λ f. f.id) (find (λ f. bytes_eq name f
 pub record AllNames : Type 0 where
   pub of_bytes : List Binding
   pub of_followers : List FollowerName
+
+-- the names with one more of bytes
+abbrev pub with_binding : AllNames → Binding → AllNames
+with_binding names binding = record names { of_bytes = names.of_bytes ++ binding ∷ [] }

@@ -11,7 +11,7 @@ use Rattle.scenario.specs.declared.fault.LineFault.{LineFault}
 use Rattle.scenario.specs.declared.fault.ScenarioFault.{ScenarioFault}
 use Rattle.scenario.specs.declared.fault.ScenarioFault.TheVariants as fault
 use Rattle.scenario.specs.Text.{lines_of}
-use Rattle.scenario.specs.Names.{FollowerName, AllNames}
+use Rattle.scenario.specs.Names.{FollowerName, AllNames, with_binding}
 use Rattle.scenario.specs.Meaning.{Meaning, DoesNothing, Binds, Arrives, OpensFollower, TellsFollower, PrintsTip}
 use Rattle.scenario.specs.Meaning.{formed, meaning_of}
 use Rattle.scenario.specs.Print.{arrival_text, opening_text, tip_text, IsNextText}
@@ -52,9 +52,8 @@ IsNextFor s id instruction = (told : List Block) → told_by s.followers id ≡ 
 abbrev pub HasDue : State → ℕ → Type 0
 HasDue s id = (told : List Block) × (b : Block) × (told_by s.followers id ≡ Some told) × IsDue s.chain told b
 
--- a follower that asked what comes next was answered so, by a step of the definitions. It is told exactly what is due,
--- and
--- memory runs out only where a block is
+-- a follower that asked what comes next was answered so, by a step of the definitions. It is told exactly what is
+-- due, and memory runs out only where a block is
 pub record WasTold (genesis : Genesis) (s : Scene) (id : ℕ) (reply : Reply) (t : Scene) : Type 0 where
   pub step : Step genesis s.state (Next id) reply t.state
   pub next : (instruction : Instruction) → reply ≡ Instructed instruction → IsNextFor s.state id instruction
@@ -70,12 +69,7 @@ entry event reply = record { event = event; reply = reply } ∷ []
 abbrev pub Acts : Genesis → Scene → Meaning → (out : List ℕ) → List Entry → Scene → Type 0
 Acts genesis s DoesNothing out entries t = (out ≡ []) × (entries ≡ []) × (t ≡ s)
 Acts genesis s (Binds binding) out entries t =
-    (out ≡ []) × (entries ≡ []) × (t ≡ record s {
-      names = record s.names {
-        of_bytes = s.names.of_bytes
-            ++ binding ∷ [];
-      };
-    })
+    (out ≡ []) × (entries ≡ []) × (t ≡ record s { names = with_binding s.names binding })
 Acts genesis s (Arrives form name bytes) out entries t = (reply : Reply) × Arrived genesis s (formed form bytes) reply t
     × (out ≡ arrival_text form name reply) × (entries ≡ entry (Arrive (formed form bytes)) reply)
 Acts genesis s (OpensFollower name) out entries t = (reply : Reply) × WasOpened genesis s name reply t
@@ -102,9 +96,8 @@ Prints genesis before s (line ∷ lines) out history t = (first rest : List ℕ)
     × (out ≡ first ++ rest) × (history ≡ entries ++ later)
 
 -- Lines from the beginning of a script are obeyed and print so. The chain theorem holds of their events with the
--- replies
--- that are printed: they are a legal history, it leaves the state whose tip and followers are printed, the selected
--- chain is valid, and none is longer.
+-- replies that are printed: they are a legal history, it leaves the state whose tip and followers are printed, the
+-- selected chain is valid, and none is longer.
 pub record AreObeyed (genesis : Genesis) (lines : List (List ℕ)) (out : List ℕ) : Type 0 where
   pub scene : Scene
   pub history : List Entry

@@ -29,7 +29,7 @@ const GENESIS: Genesis = Genesis {
     max_body_size: 65_536,
 };
 
-/// Does what a line says that comes behind so many bytes, and answers what it prints.
+/// Does what a line says that comes after so many bytes, and answers what it prints.
 fn play(session: &mut Session, before: u64, line: &[u8]) -> Result<Vec<u8>, Stop>
     requires { before ≤ script_size_limit }
     ensures obeyed { (s : Scene) → Holds session.old s
@@ -75,6 +75,12 @@ fn line_fault(number: u64, stop: Stop) -> ScenarioFault
 
 /// Runs a script line by line. What each line prints is written before the next line is read, and the first
 /// fault ends the run; what was written before stands.
+///
+/// ```text
+/// let mut script = b"block A1 genesis 1\narrive A1\ntip\n".as_slice();
+/// let mut out = Vec::new(alloc);
+/// scenario::run(alloc, &mut script, &mut out)?; // arrive A1: kept back 0 added 1, and then tip: 1 A1
+/// ```
 ///
 /// A line is read whole before it is looked at. A reader whose lines may have no end is given by
 /// [`Read::take`](std::io::Read::take) with one byte more than [`MAX_SCRIPT_SIZE`], which makes such a line a bad one.

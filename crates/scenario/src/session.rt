@@ -26,8 +26,7 @@ use chain_core::{ArriveReply, Core, Genesis};
 use std::alloc::{AllocError, Global};
 
 /// What a line prints is at most its own name longer than this, whose numbers are the greatest ones. A name that a
-/// follower
-/// is told has at most 16 letters, and is shorter than these numbers.
+/// follower is told has at most 16 letters, and is shorter than these numbers.
 const LONGEST_LINE: &[u8] =
     b"arrive-ext : kept back 18446744073709551615 added 18446744073709551615\n";
 

@@ -225,7 +225,7 @@ next F: none
 tip: 1 A1
 ";
 
-/// A follower whose chain is left.
+/// A follower whose chain is abandoned.
 pub const FOLLOWER_LEFT_BEHIND: &str = "block A1 genesis 1
 block B1 genesis 2
 block B2 B1 3
