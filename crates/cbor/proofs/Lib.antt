@@ -11,4 +11,5 @@ pub mod ListLaws
 pub mod FieldLaws
 pub mod ListLoops
 pub mod ShapeWrites
+pub mod ListWrites
 pub mod ForCallers

@@ -309,6 +309,27 @@ both_reads {A} {B} {item_of} {P} {items} {Q} {depth} {read} {others} first secon
       ap (both_at read others) (append_assoc (text_of (item_of x.0)) (items_text (items x.1)) rest) ∙ rw (a, b) refl;
 }
 
+-- several items as data of another type, which has the same items
+pub as_members_read : {A B : Type 0} {items : A → Items} {P : A → Type 0} {depth : ℕ} {read : Reading A} (to : A → B) (other : B → Items) (Q : B → Type 0) → ((a : A) → P a → (other (to a) ≡ items a) × Q (to a))
+    → ((b : B) → Q b → (a : A) × P a × (to a ≡ b)) → ReadsItems items P depth read → ReadsItems other Q depth (as_at to read)
+unfolding as_at
+as_members_read {A} {B} {items} {P} {depth} {read} to other Q onto back laws = record {
+  takes = λ bytes b rest fits e.
+      let x = bind_some (read bytes) _ (b, rest) e in
+      let t = laws.takes bytes x.0.0 x.0.1 fits x.1 in
+      let o = onto x.0.0 t.1 in
+      subst (λ (y : B × List ℕ). TakesItems depth (other y.0) bytes y.1 × Q y.0) (some_is (to x.0.0, x.0.1) (b, rest) x.2)
+      (subst (λ (k : Items). TakesItems depth k bytes x.0.1) (sym o.0) t.0, o.1);
+  again = λ b rest fits q.
+      let k = back b q in
+      let same : other b ≡ items k.0 = ap other (sym k.2) ∙ (onto k.0 k.1).0 in
+      let again = laws.again k.0 rest (subst AllFit same fits) k.1 in
+      rw same (rw again (ap (λ (y : B). found y rest) k.2));
+}
+  where
+    found : {B : Type 0} → B → List ℕ → Option (B × List ℕ)
+    found y rest = Some (y, rest)
+
 -- the head of an array of exactly so many members that was read
 pub members_takes : (count : ℕ) (bytes rest : List ℕ) → IsBytes bytes → members_at count bytes ≡ Some rest → Takes bytes (head 4 count) rest
 unfolding members_at

@@ -76,41 +76,49 @@ pub trait Decode: Drop {
     /// What a value stands for.
     ghost plain: { Self → Plain };
 
-    /// The reading of the shape.
-    ghost decoded_at: { Reading Plain };
+    /// The reading of the shape, given how deep its items may nest. A shape that never nests deeper than its readers
+    /// ask for may leave the number aside.
+    ghost decoded_at: { ℕ → Reading Plain };
 
-    /// The value that stands first, and the bytes after it. Malformed where no item of the shape stands there.
-    fn decode(alloc: Global, bytes: &[u8]) -> Result<(Self, &[u8]), CborFault>
-        ensures { Gives (λ x. (plain x.0, x.1.now)) result (decoded_at bytes.now) };
+    /// The value that stands first, and the bytes after it. Malformed where no item of the shape stands there that
+    /// nests at most `depth` deep.
+    fn decode(alloc: Global, depth: usize, bytes: &[u8]) -> Result<(Self, &[u8]), CborFault>
+        ensures { Gives (λ x. (plain x.0, x.1.now)) result (decoded_at depth bytes.now) };
 }
 
-/// So many like items, one after the other, and the bytes after them. Malformed where one of them is. The count
-/// reserves nothing: memory is taken for what was read.
+/// So many like items, each of which nests at most `depth` deep, one after the other, and the bytes after them.
+/// Malformed where one of them is. The count reserves nothing: memory is taken for what was read.
 pub fn list<T: Decode>(
     alloc: Global,
+    depth: usize,
     count: u64,
     bytes: &[u8],
 ) -> Result<(Vec<T>, &[u8]), CborFault>
-    ensures { Gives (λ x. (map T.plain x.0.items, x.1.now)) result (list_at T.decoded_at count bytes.now) }
+    ensures { Gives (λ x. (map T.plain x.0.items, x.1.now)) result (list_at (T.decoded_at depth) count bytes.now) }
 {
     let mut list = Vec::new(alloc);
     let mut rest = bytes;
     for _ in 0..count {
-        let (next, after) = T::decode(alloc, rest)?;
+        let (next, after) = T::decode(alloc, depth, rest)?;
         list.push(next)?;
         rest = after;
     }
     Ok((list, rest))
 }
 
-/// The members of an array of like items that stands first, and the bytes after it (RFC 8949, section 3.1). Malformed
-/// where no such array stands there. The count that the head claims reserves nothing.
+/// The members of an array of like items that stands first, each of which nests at most `depth` deep, and the bytes
+/// after it (RFC 8949, section 3.1). Malformed where no such array stands there. The count that the head claims
+/// reserves nothing.
 #[tactic(auto, unfolding(crate::specs::Shapes::list_array_at))]
-pub fn list_array<T: Decode>(alloc: Global, bytes: &[u8]) -> Result<(Vec<T>, &[u8]), CborFault>
-    ensures { Gives (λ x. (map T.plain x.0.items, x.1.now)) result (list_array_at T.decoded_at bytes.now) }
+pub fn list_array<T: Decode>(
+    alloc: Global,
+    depth: usize,
+    bytes: &[u8],
+) -> Result<(Vec<T>, &[u8]), CborFault>
+    ensures { Gives (λ x. (map T.plain x.0.items, x.1.now)) result (list_array_at (T.decoded_at depth) bytes.now) }
 {
     let (count, rest) = reader::array(bytes).ok_or(CborFault::Malformed)?;
-    list(alloc, count, rest)
+    list(alloc, depth, count, rest)
 }
 
 /// What an entry of a map is read to.

@@ -18,9 +18,9 @@ impl Decode for Small {
 
     ghost plain = { λ x. x.number };
 
-    ghost decoded_at = { bounded_at 100 };
+    ghost decoded_at = { λ depth. bounded_at 100 };
 
-    fn decode(_alloc: Global, bytes: &[u8]) -> Result<(Small, &[u8]), CborFault> {
+    fn decode(_alloc: Global, _depth: usize, bytes: &[u8]) -> Result<(Small, &[u8]), CborFault> {
         let (number, rest) = bounded(bytes, 100).ok_or(CborFault::Malformed)?;
         Ok((Small { number }, rest))
     }
@@ -59,7 +59,7 @@ impl DecodeEntry for Share {
 
 #[test]
 fn lists_of_numbers(rt: HostRuntime) -> Result<(), Fail> {
-    let (numbers, rest) = list_array::<Small>(rt.alloc(), b"\x83\x01\x18\x63\x00\xf6")?;
+    let (numbers, rest) = list_array::<Small>(rt.alloc(), 1, b"\x83\x01\x18\x63\x00\xf6")?;
     let shown = format!(in rt.alloc(); "{numbers:?}")?;
     assert_eq!(rt;
         shown.as_str(),
@@ -72,7 +72,7 @@ fn lists_of_numbers(rt: HostRuntime) -> Result<(), Fail> {
         b"\x9b\xff\xff\xff\xff\xff\xff\xff\xff\x01",
     ];
     for text in refused {
-        let fault = list_array::<Small>(rt.alloc(), text).err();
+        let fault = list_array::<Small>(rt.alloc(), 1, text).err();
         assert_eq!(rt; fault, Some(CborFault::Malformed), "{text:?}");
     }
     Ok(())

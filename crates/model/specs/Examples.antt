@@ -1,7 +1,7 @@
 -- Items, scripts and blocks that serve as worked examples.
-use Rattle.std.specs.Prelude.{ℕ, zero, suc, List, [], ◌∷◌, None, Some}
+use Rattle.std.specs.Prelude.{ℕ, zero, suc, List, [], ◌∷◌, Option, None, Some}
 use Rattle.model.specs.Cbor.{Item, Unsigned, map_of, Array, NoItems, NextItem}
-use Rattle.model.specs.Script.{Script, RequireAllOf, NoScripts, NextScript}
+use Rattle.model.specs.Script.{Script, RequireAllOf, NoScripts, NextScript, Interval}
 use Rattle.model.specs.Block.{Header}
 
 -- a map of two entries, the numbers k to v and l to w
@@ -22,6 +22,10 @@ nested_script (suc n) = RequireAllOf (NextScript (nested_script n) NoScripts)
 unfoldable pub nested_script_text : ℕ → List ℕ
 nested_script_text zero = 0x82 ∷ 0x01 ∷ 0x80 ∷ []
 nested_script_text (suc n) = 0x82 ∷ 0x01 ∷ 0x81 ∷ nested_script_text n
+
+-- the interval from a slot on and before another, each where it is given
+abbrev pub between : Option ℕ → Option ℕ → Interval
+between start end = record { start = start; end = end }
 
 -- the header of a first block, in slot 1
 abbrev pub first_header : List ℕ → Header

@@ -1,5 +1,7 @@
 -- Native scripts (Shelley-MA, multi-signature and time locks).
-use Rattle.std.specs.Prelude.{◌≡◌, ℕ, List, [], ◌∷◌, length}
+use Rattle.std.specs.Prelude.{◌≡◌, ℕ, ◌+◌, nat_le, Bool, true, false, ◌&&◌, ◌||◌, if◌then◌else◌, IsTrue, List, []}
+use Rattle.std.specs.Prelude.{◌∷◌, length, Option, Some, None, bytes_eq}
+use Rattle.std.specs.List.{list_any}
 use Rattle.sha2.specs.Sha256.{sha256}
 use Rattle.model.specs.Limits.{hash_size}
 use Rattle.model.specs.Cbor.{Item, Items, Unsigned, Bytes, Array, NoItems, NextItem, array_of, text_of, Spells}
@@ -57,3 +59,46 @@ pub record SpellsScript (script : Script) (bytes : List ℕ) : Type 0 where
 -- the script's text
 unfoldable pub script_hash_of : Script → List ℕ
 script_hash_of script = sha256 (0 ∷ text_of (item_of_script script))
+
+-- ---- when a script holds (Allegra's and Mary's multi-signature and time locks)
+
+-- from which slot on a transaction holds, and before which one, each where it is given
+pub record Interval : Type 0 where
+  pub start : Option ℕ
+  pub end : Option ℕ
+
+-- a slot is given, and passes the test
+abbrev pub is_given : Option ℕ → (ℕ → Bool) → Bool
+is_given None passes = false
+is_given (Some slot) passes = passes slot
+
+-- Whether a script holds for a transaction of this interval that the keys of these hashes signed. The slot of the block
+-- that the transaction stands in is not asked: it lies in the interval.
+abbrev mutual
+  pub holds : List (List ℕ) → Interval → Script → Bool
+  holds keys interval (RequireSignature hash) = list_any (λ key. bytes_eq key hash) keys
+  holds keys interval (RequireAllOf ss) = all_hold keys interval ss
+  holds keys interval (RequireAnyOf ss) = one_holds keys interval ss
+  holds keys interval (RequireMOf n ss) = nat_le n (how_many_hold keys interval ss)
+  holds keys interval (RequireTimeStart slot) = is_given interval.start (λ start. nat_le slot start)
+  holds keys interval (RequireTimeExpire slot) = is_given interval.end (λ end. nat_le end slot)
+
+  -- each of the scripts holds
+  pub all_hold : List (List ℕ) → Interval → Scripts → Bool
+  all_hold keys interval NoScripts = true
+  all_hold keys interval (NextScript s ss) = holds keys interval s && all_hold keys interval ss
+
+  -- one of the scripts holds, at least
+  pub one_holds : List (List ℕ) → Interval → Scripts → Bool
+  one_holds keys interval NoScripts = false
+  one_holds keys interval (NextScript s ss) = holds keys interval s || one_holds keys interval ss
+
+  -- how many of the scripts hold, each counted as often as it stands there
+  pub how_many_hold : List (List ℕ) → Interval → Scripts → ℕ
+  how_many_hold keys interval NoScripts = 0
+  how_many_hold keys interval (NextScript s ss) =
+      (if holds keys interval s then 1 else 0) + how_many_hold keys interval ss
+
+-- the script holds
+abbrev pub Holds : Script → List (List ℕ) → Interval → Type 0
+Holds script keys interval = IsTrue (holds keys interval script)

@@ -1,11 +1,12 @@
 //! Worked examples of texts, in hexadecimal bytes.
-ghost use Rattle.std.specs.Prelude.{◌≡◌, ℕ, ◌<◌, List, [], ◌∷◌, ◌++◌, length, replicate};
+ghost use Rattle.std.specs.Prelude.{◌≡◌, ℕ, ◌<◌, List, [], ◌∷◌, ◌++◌, length, replicate, Some, None};
 ghost use Rattle.std.specs.List.{AllByRecursion};
 ghost use Rattle.model.specs.Cbor.{Item, Unsigned, Negative, Null, text_of, Spells};
-ghost use Rattle.model.specs.Script.{Script, RequireTimeStart, SpellsScript};
+ghost use Rattle.model.specs.Script.{Script, Scripts, RequireAllOf, RequireAnyOf, RequireMOf, RequireTimeStart};
+ghost use Rattle.model.specs.Script.{RequireTimeExpire, NoScripts, SpellsScript, Holds};
 ghost use Rattle.model.specs.Block.{item_of_header, block_text, SpellsBlock};
 ghost use Rattle.model.specs.Examples.{small_map, nested, nested_script, nested_script_text, first_header};
-ghost use Rattle.model.specs.Examples.{later_header};
+ghost use Rattle.model.specs.Examples.{later_header, between};
 ghost use Rattle.model.specs.Block.{empty_block};
 
 /// Numbers and null.
@@ -44,6 +45,24 @@ pub fn texts_of_scripts()
     ensures long_23 { (script : Script) → SpellsScript script (0x82 ∷ 0x04 ∷ 0x18 ∷ 0x17 ∷ []) → ⊥ }
     ensures deepest { SpellsScript (nested_script 31) (nested_script_text 31) }
     ensures too_deep { (script : Script) → SpellsScript script (nested_script_text 32) → ⊥ }
+{}
+
+/// With no signature, all and any number at least 0 of no scripts hold; one of none, and 1 of none, do not.
+pub fn scripts_that_count()
+    ensures all { Holds (RequireAllOf NoScripts) [] (between None None) }
+    ensures any { Holds (RequireAnyOf NoScripts) [] (between None None) → ⊥ }
+    ensures at_least_0 { Holds (RequireMOf 0 NoScripts) [] (between None None) }
+    ensures at_least_1 { Holds (RequireMOf 1 NoScripts) [] (between None None) → ⊥ }
+{}
+
+/// Time locks ask the interval, and an interval that is open on their side does not hold.
+pub fn scripts_of_times()
+    ensures no_start { Holds (RequireTimeStart 5) [] (between None None) → ⊥ }
+    ensures start_4 { Holds (RequireTimeStart 5) [] (between (Some 4) None) → ⊥ }
+    ensures start_5 { Holds (RequireTimeStart 5) [] (between (Some 5) None) }
+    ensures no_end { Holds (RequireTimeExpire 10) [] (between None None) → ⊥ }
+    ensures end_10 { Holds (RequireTimeExpire 10) [] (between None (Some 10)) }
+    ensures end_11 { Holds (RequireTimeExpire 10) [] (between None (Some 11)) → ⊥ }
 {}
 
 /// The header of a first block, and the block without transactions.

@@ -9,8 +9,8 @@ mod histories;
 mod texts;
 
 pub use examples::{
-    lengths_of_later_blocks, no_texts, texts_of_first_blocks, texts_of_maps, texts_of_nested_items,
-    texts_of_numbers, texts_of_scripts,
+    lengths_of_later_blocks, no_texts, scripts_of_times, scripts_that_count, texts_of_first_blocks,
+    texts_of_maps, texts_of_nested_items, texts_of_numbers, texts_of_scripts,
 };
 pub use histories::{
     chain_theorem, change_counts, immutable_part_grows, kept_blocks, live_hashes_differ,

@@ -5,4 +5,4 @@ use Rattle.cbor.proofs.ListLoops.{with_front}
 use Rattle.cbor.proofs.shapes.list.Given as goal
 
 abbrev pub invariant-loop : goal.invariant-loop
-invariant-loop g l = with_front (map g.T.Decode.plain l.list.items) (list_at g.T.Decode.decoded_at (l.count - l.counter) l.rest) ≡ list_at g.T.Decode.decoded_at l.count l.bytes
+invariant-loop g l = with_front (map g.T.Decode.plain l.list.items) (list_at (g.T.Decode.decoded_at l.depth) (l.count - l.counter) l.rest) ≡ list_at (g.T.Decode.decoded_at l.depth) l.count l.bytes

@@ -1,0 +1,6 @@
+pub mod Members
+pub mod Opened
+pub mod ScriptTexts
+pub mod Fits
+pub mod ScriptClauses
+pub mod ForCallers

@@ -1,0 +1,33 @@
+use Rattle.std.proofs.Common.{◌≡◌, map, Some, rules}
+use Rattle.std.proofs.lemmas.Result.{err_from_is_err_and}
+use Rattle.cbor.specs.Shapes.{list_at}
+use Rattle.cbor.proofs.ForCallers.{map_push, list_goes_on, list_ends, list_done}
+use Rattle.timelock.specs.View.{timelock_of}
+use Rattle.cbor.specs.Reading.{head_at}
+use Rattle.timelock.specs.Reading.{members_of_kind, script_at}
+use Rattle.timelock.proofs.Opened.{script_opened}
+use Rattle.timelock.proofs.reading.+reading.Goals as goal
+
+pub list-returns-in_err-next : goal.list-returns-in_err-next
+list-returns-in_err-next t c =
+    let read = script_at c.args.depth in
+    let p = err_from_is_err_and c.from_residual.result c.from_residual.ensures.1 in
+    rw (p.1, p.2) (list_ends read c.in_err-next.field-0.0 (map timelock_of c.loop.list.items) c.args.count c.loop.counter c.loop.rest.now (list_at read c.args.count c.args.bytes.now) c.loop-test.true c.in_err-next.ensures c.loop.invariant)
+
+pub list-loop-preserved : goal.list-loop-preserved
+list-loop-preserved t c =
+    let read = script_at c.args.depth in
+    let n = c.in_ok-next.next in
+    rw (map_push timelock_of c.loop.list.items c.push.new.self.items n c.in_ok-push.ensures.items) (list_goes_on read (map timelock_of c.loop.list.items) c.args.count c.loop.counter c.loop.rest.now (timelock_of n) c.in_ok-next.after.now (list_at read c.args.count c.args.bytes.now) c.loop-test.true c.in_ok-next.ensures c.loop.invariant)
+
+pub list-returns : goal.list-returns
+list-returns t c =
+    let read = script_at c.args.depth in
+    list_done read (map timelock_of c.loop.list.items) c.args.count c.loop.counter c.loop.rest.now (list_at read c.args.count c.args.bytes.now) c.loop-test.false c.loop.invariant
+
+pub timelock-returns : goal.timelock-returns
+timelock-returns t c =
+    let h : head_at 4 c.args.bytes.now ≡ Some (c.in_ok-count.count, c.in_ok-count.rest.now) = search rules in
+    let k : head_at 0 c.in_ok-count.rest.now ≡ Some (c.in_ok-kind.kind, c.in_ok-kind.rest.now) = search rules in
+    let n : c.in_ok-count.count ≡ members_of_kind c.in_ok-kind.kind = search rules in
+    rw (script_opened c.args.depth c.args.bytes.now c.in_ok-count.count c.in_ok-count.rest.now c.in_ok-kind.kind c.in_ok-kind.rest.now c.if-depth-eq0.false h k n) c.of_kind.ensures
