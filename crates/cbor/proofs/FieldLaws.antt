@@ -9,7 +9,7 @@ use Rattle.std.proofs.lemmas.Bool.{lt-ltb, eqb-true, eq-eqb}
 use Rattle.std.proofs.lemmas.List.{length-append}
 use Rattle.model.specs.Cbor.{Item, Unsigned, head, text_of, pairs_of, map_of, pairs_count, pairs_text, pairs_nesting, IsInRange, PairsAreInRange, HasRisingKeys, PairsHaveRisingKeys, IsBeforeFirst}
 use Rattle.cbor.specs.Reading.{head_at}
-use Rattle.cbor.specs.Shapes.{Reading, FieldsReading, no_fields_at, field_at, is_key, if_there, optional_field_at, as_fields_at, fields_at, record_at}
+use Rattle.cbor.specs.Shapes.{Reading, FieldsReading, no_fields_at, key_at, field_at, if_there, optional_field_at, as_fields_at, fields_at, record_at}
 use Rattle.cbor.proofs.Steps.{IsBytes, bind_some, guard-true, some_is, Takes, Takes-then}
 use Rattle.cbor.proofs.Reading.{head_takes, head_again}
 use Rattle.cbor.proofs.ShapeLaws.{Fits, TakesItem, ReadsItem}
@@ -68,21 +68,23 @@ module _ {A : Type 0} (item_of : A → Item) (P : A → Type 0) (depth : ℕ) (r
   abbrev one_field : A → List Field
   one_field a = (Unsigned key, item_of a) ∷ []
 
-  field_takes : (left : ℕ) (bytes : List ℕ) (x : A × ℕ × List ℕ) → IsBytes bytes → field_at key read left bytes ≡ Some x → TakesFields (suc depth) (one_field x.0) left bytes x.1 x.2 × P x.0
-  unfolding field_at
-  field_takes zero bytes x fits e = absurd cc
-  field_takes (suc left) bytes x fits e =
-      let k = bind_some (head_at 0 bytes) _ x e in
-      let g = guard-true (eqb k.0.0 key) _ x k.2 in
-      let v = bind_some (read k.0.1) _ x g.1 in
+  -- a key that was read, and the value after it
+  entry_takes : (left : ℕ) (bytes : List ℕ) (entry : ℕ × List ℕ) (v : A × List ℕ) → IsBytes bytes → key_at key left bytes ≡ Some entry → read entry.1 ≡ Some v → TakesFields (suc depth) (one_field v.0) left bytes entry.0 v.1 × P v.0
+  unfolding key_at
+  entry_takes zero bytes entry v fits e r = absurd cc
+  entry_takes (suc left) bytes entry v fits e r =
+      let k = bind_some (head_at 0 bytes) _ entry e in
+      let g = guard-true (eqb k.0.0 key) _ entry k.2 in
+      let entry-is = some_is (left, k.0.1) entry g.1 in
+      let after : read k.0.1 ≡ Some v = ap (λ (y : ℕ × List ℕ). read y.1) entry-is ∙ r in
       let t = head_takes 0 bytes k.0.0 k.0.1 fits k.1 in
-      let u = laws.takes k.0.1 v.0.0 v.0.1 t.0.rest_fits v.1 in
+      let u = laws.takes k.0.1 v.0 v.1 t.0.rest_fits after in
       let same : k.0.0 ≡ key = eqb-true _ _ g.0 in
-      let value = text_of (item_of v.0.0) in
+      let value = text_of (item_of v.0) in
       let text : head 0 k.0.0 ++ value ≡ head 0 key ++ (value ++ []) = λ i. head 0 (same i) ++ sym (append-nil value) i in
-      subst (λ (y : A × ℕ × List ℕ). TakesFields (suc depth) (one_field y.0) (suc left) bytes y.1 y.2 × P y.0) {x = (v.0.0, left, v.0.1)} (some_is (v.0.0, left, v.0.1) x v.2) (
+      subst (λ (y : ℕ × List ℕ). TakesFields (suc depth) (one_field v.0) (suc left) bytes y.0 v.1 × P v.0) entry-is (
         record {
-          taken = subst (λ (t : List ℕ). Takes bytes t v.0.1) text (Takes-then bytes (head 0 k.0.0) k.0.1 value v.0.1 t.0 u.0.takes);
+          taken = subst (λ (t : List ℕ). Takes bytes t v.1) text (Takes-then bytes (head 0 k.0.0) k.0.1 value v.1 t.0 u.0.takes);
           counted = omega arith;
           fit = (u.0.fits, tt);
           nest = omega (arith, u.0.nests);
@@ -90,16 +92,28 @@ module _ {A : Type 0} (item_of : A → Item) (P : A → Type 0) (depth : ℕ) (r
         u.1,
       )
 
+  field_takes : (left : ℕ) (bytes : List ℕ) (x : A × ℕ × List ℕ) → IsBytes bytes → field_at key read left bytes ≡ Some x → TakesFields (suc depth) (one_field x.0) left bytes x.1 x.2 × P x.0
+  unfolding field_at
+  field_takes left bytes x fits e =
+      let k = bind_some (key_at key left bytes) _ x e in
+      let v = bind_some (read k.0.1) _ x k.2 in
+      subst (λ (y : A × ℕ × List ℕ). TakesFields (suc depth) (one_field y.0) left bytes y.1 y.2 × P y.0) {x = (v.0.0, k.0.0, v.0.1)} (some_is (v.0.0, k.0.0, v.0.1) x v.2) (entry_takes left bytes k.0 v.0 fits k.1 v.1)
+
   -- the key and the value of a field, as a reading meets them
   field_line : (a : A) (rest : List ℕ) → fields_text (one_field a) ++ rest ≡ head 0 key ++ (text_of (item_of a) ++ rest)
   field_line a rest =
       append_assoc (head 0 key) (text_of (item_of a) ++ []) rest ∙ ap (λ (t : List ℕ). head 0 key ++ (t ++ rest)) (append-nil (text_of (item_of a)))
 
+  -- the key of a field is read
+  key_again : (a : A) (left : ℕ) (rest : List ℕ) → key_at key (suc left) (fields_text (one_field a) ++ rest) ≡ Some (left, text_of (item_of a) ++ rest)
+  unfolding key_at
+  key_again a left rest =
+      let k = head_again 0 key (text_of (item_of a) ++ rest) (omega (arith, low)) in
+      rw (field_line a rest) (rw (k, eq-eqb key key refl) refl)
+
   field_again : (a : A) (left : ℕ) (rest : List ℕ) → Fits (item_of a) → P a → field_at key read (suc left) (fields_text (one_field a) ++ rest) ≡ Some (a, left, rest)
   unfolding field_at
-  field_again a left rest fits p =
-      let k = head_again 0 key (text_of (item_of a) ++ rest) (omega (arith, low)) in
-      rw (field_line a rest) (rw (k, eq-eqb key key refl, laws.again a rest fits p) refl)
+  field_again a left rest fits p = rw (key_again a left rest, laws.again a rest fits p) refl
 
   -- a field that is always there
   field_laws : ReadsFields one_field P (suc depth) key (suc key) (field_at key read)
@@ -118,37 +132,38 @@ module _ {A : Type 0} (item_of : A → Item) (P : A → Type 0) (depth : ℕ) (r
     absent : (left : ℕ) (bytes : List ℕ) → IsBytes bytes → TakesOptional left bytes (None, left, bytes)
     absent left bytes fits = (subst (λ (fs : List Field). TakesFields (suc depth) fs left bytes left bytes) none (no_fields (suc depth) left bytes fits), tt)
 
-    there_takes : (b : Bool) (left : ℕ) (bytes : List ℕ) (x : Option A × ℕ × List ℕ) → IsBytes bytes → if_there b (field_at key read left bytes) left bytes ≡ Some x → TakesOptional left bytes x
-    there_takes false left bytes x fits e = subst (TakesOptional left bytes) (some_is (None, left, bytes) x e) (absent left bytes fits)
-    there_takes true left bytes x fits e =
-        let f = bind_some (field_at key read left bytes) _ x e in
-        let t = field_takes left bytes f.0 fits f.1 in
-        subst (TakesOptional left bytes) (some_is (Some f.0.0, f.0.1, f.0.2) x f.2)
-        (subst (λ (fs : List Field). TakesFields (suc depth) fs left bytes f.0.1 f.0.2) (some f.0.0) t.0, t.1)
+    there_takes : (found : Option (ℕ × List ℕ)) (left : ℕ) (bytes : List ℕ) (x : Option A × ℕ × List ℕ) → IsBytes bytes → key_at key left bytes ≡ found → if_there found read left bytes ≡ Some x → TakesOptional left bytes x
+    there_takes None left bytes x fits k e = subst (TakesOptional left bytes) (some_is (None, left, bytes) x e) (absent left bytes fits)
+    there_takes (Some entry) left bytes x fits k e =
+        let v = bind_some (read entry.1) _ x e in
+        let t = entry_takes left bytes entry v.0 fits k v.1 in
+        subst (TakesOptional left bytes) (some_is (Some v.0.0, entry.0, v.0.1) x v.2)
+        (subst (λ (fs : List Field). TakesFields (suc depth) fs left bytes entry.0 v.0.1) (some v.0.0) t.0, t.1)
 
     optional_takes : (left : ℕ) (bytes : List ℕ) (x : Option A × ℕ × List ℕ) → IsBytes bytes → optional_field_at key read left bytes ≡ Some x → TakesOptional left bytes x
     unfolding optional_field_at
-    optional_takes zero bytes x fits e = subst (TakesOptional 0 bytes) (some_is (None, 0, bytes) x e) (absent 0 bytes fits)
-    optional_takes (suc left) bytes x fits e = there_takes (is_key key (head_at 0 bytes)) (suc left) bytes x fits e
+    optional_takes left bytes x fits e = there_takes (key_at key left bytes) left bytes x fits refl e
 
     other_key : (k : ℕ) → suc key ≤ k → eqb k key ≡ false
     other_key k le = grind (arith, le)
 
-    stays : (left : ℕ) (rest : List ℕ) → StopsAt (suc key) left rest → optional_field_at key read left rest ≡ Some (None, left, rest)
-    unfolding optional_field_at
-    stays zero rest stops = refl
-    stays (suc left) rest stops = elim stops [
+    no_key : (left : ℕ) (rest : List ℕ) → StopsAt (suc key) left rest → key_at key left rest ≡ None
+    unfolding key_at
+    no_key zero rest stops = refl
+    no_key (suc left) rest stops = elim stops [
       | inl nothing ↦ absurd (omega (arith, nothing))
       | inr next ↦
           let k = ap (head_at 0) next.4 ∙ head_again 0 next.0 next.1 next.3 in
           rw (k, other_key next.0 next.2) refl
     ]
 
+    stays : (left : ℕ) (rest : List ℕ) → StopsAt (suc key) left rest → optional_field_at key read left rest ≡ Some (None, left, rest)
+    unfolding optional_field_at
+    stays left rest stops = rw (no_key left rest stops) refl
+
     present : (a : A) (left : ℕ) (rest : List ℕ) → Fits (item_of a) → P a → optional_field_at key read (suc left) (fields_text (one_field a) ++ rest) ≡ Some (Some a, left, rest)
     unfolding optional_field_at
-    present a left rest fits p =
-        let k = ap (head_at 0) (field_line a rest) ∙ head_again 0 key (text_of (item_of a) ++ rest) (omega (arith, low)) in
-        rw (k, eq-eqb key key refl, field_again a left rest fits p) refl
+    present a left rest fits p = rw (key_again a left rest, laws.again a rest fits p) refl
 
     optional_again : (o : Option A) (total left : ℕ) (rest : List ℕ) → total ≡ length (fields_of o) + left → ValuesFit (fields_of o) → IfSome o P → StopsAt (suc key) left rest → optional_field_at key read total (fields_text (fields_of o) ++ rest) ≡ Some (o, left, rest)
     optional_again None total left rest e fit p stops =
@@ -194,7 +209,8 @@ join_keys least mid from limit [] gs first le second = lower_keys least from lim
 join_keys least mid from limit (f ∷ fs) gs first le second =
     (first.0, first.1, first.2, omega (arith, first.3, le, keys_bound from limit gs second), join_keys (suc first.0) mid from limit fs gs first.4 le second)
 
-pairs_join : (fs gs : List Field) → fields_text (fs ++ gs) ≡ fields_text fs ++ fields_text gs
+-- the texts of fields, and of others after them
+pub pairs_join : (fs gs : List Field) → fields_text (fs ++ gs) ≡ fields_text fs ++ fields_text gs
 pairs_join [] gs = refl
 pairs_join (f ∷ fs) gs =
     ap (λ (t : List ℕ). text_of f.0 ++ (text_of f.1 ++ t)) (pairs_join fs gs) ∙ ap (λ (t : List ℕ). text_of f.0 ++ t) (sym (append_assoc (text_of f.1) (fields_text fs) (fields_text gs))) ∙ sym (append_assoc (text_of f.0) (text_of f.1 ++ fields_text fs) (fields_text gs))
@@ -308,7 +324,8 @@ values_fit : (fs : List Field) → PairsAreInRange (pairs_of fs) → PairsHaveRi
 values_fit [] p q = tt
 values_fit (f ∷ fs) p q = (record { in_range = p.1; rising = q.1 }, values_fit fs p.2 q.3)
 
-counts : (fs : List Field) → pairs_count (pairs_of fs) ≡ length fs
+-- a map has as many entries as it has fields
+pub counts : (fs : List Field) → pairs_count (pairs_of fs) ≡ length fs
 counts [] = refl
 counts (f ∷ fs) = ap suc (counts fs)
 

@@ -1,16 +1,16 @@
 -- The two laws of each shape: what is read is spelled so (`takes`), and what is spelled so is read, whatever
 -- follows it (`again`).
 use Rattle.std.proofs.Common.{◌≡◌, ◌≢◌, ℕ, suc, ◌+◌, ◌*◌, ◌/◌, ◌%◌, ◌^◌, ◌<◌, ◌≤◌, Bool, true, false, not, eqb, ltb, leb, List, [], ◌∷◌, ◌++◌, length, Option, Some, None, refl, sym, ap, subst, ◌∙◌, append_assoc, append-nil, arith, inl, inr}
-use Rattle.std.specs.Prelude.{◌⊎◌, IfSome}
+use Rattle.std.specs.Prelude.{◌⊎◌, IfSome, Result, Ok, Err, IfOk, IfErr}
 use Rattle.std.proofs.lemmas.Bool.{ltb-true, lt-ltb, leb-true, le-leb, eqb-true, eq-eqb}
 use Rattle.model.specs.Cbor.{Item, Items, Unsigned, Negative, Bytes, Array, Map, Null, NoItems, NextItem, head, text_of, items_count, items_text, pairs_count, pairs_text, nesting, items_nesting, IsInRange, ItemsAreInRange, HasRisingKeys, ItemsHaveRisingKeys, HasText}
 use Rattle.model.proofs.HeadLemmas.{head_says}
 use Rattle.cbor.specs.declared.fault.CborFault.{CborFault}
 use Rattle.cbor.specs.declared.fault.CborFault.TheVariants as faults
 use Rattle.cbor.specs.Reading.{head_at, bytes_at, fixed_at, null_at}
-use Rattle.cbor.specs.Gives.{Refuses, IfMalformed}
+use Rattle.cbor.specs.Gives.{Gives, Refuses, IfMalformed}
 use Rattle.cbor.specs.Texts.{BeginsWithText}
-use Rattle.cbor.specs.Shapes.{Reading, such_at, as_at, bounded_at, short_at, or_else, either_at, unless_null, optional_at, nothing_at, both_at, members_at, array_at, nonempty_at}
+use Rattle.cbor.specs.Shapes.{Reading, such_at, as_at, made_at, bounded_at, short_at, or_else, either_at, unless_null, optional_at, nothing_at, both_at, members_at, array_at, nonempty_at}
 use Rattle.cbor.proofs.Steps.{IsBytes, AllByRecursion-bytes, bind_some, guard-true, some_is, Takes, Takes-then}
 use Rattle.cbor.proofs.Reading.{head_takes, head_again, bytes_takes, bytes_again, fixed_takes, fixed_again, null_takes, null_again}
 
@@ -134,6 +134,32 @@ pub same_reads : {A : Type 0} {item_of : A → Item} {P : A → Type 0} {depth :
 same_reads Q to from laws = record {
   takes = λ bytes a rest fits e. let t = laws.takes bytes a rest fits e in (t.0, to a t.1);
   again = λ a rest fits q. laws.again a rest fits (from a q);
+}
+
+-- what is read as data that is made of other data, and has the same item
+pub made_reads : {A B : Type 0} {item_of : A → Item} {P : A → Type 0} {depth : ℕ} {read : Reading A} (make : A → Option B) (other : B → Item) (Q : B → Type 0) → ((a : A) (b : B) → P a → make a ≡ Some b → (other b ≡ item_of a) × Q b)
+    → ((b : B) → Q b → (a : A) × P a × (other b ≡ item_of a) × (make a ≡ Some b)) → ReadsItem item_of P depth read → ReadsItem other Q depth (made_at make read)
+unfolding made_at
+made_reads {A} {B} {item_of} {P} {depth} {read} make other Q onto back laws = record {
+  takes = λ bytes b rest fits e.
+      let x = bind_some (read bytes) _ (b, rest) e in
+      let y = bind_some (make x.0.0) _ (b, rest) x.2 in
+      let t = laws.takes bytes x.0.0 x.0.1 fits x.1 in
+      let o = onto x.0.0 y.0 t.1 y.1 in
+      subst (λ (z : B × List ℕ). TakesItem depth (other z.0) bytes z.1 × Q z.0) (some_is (y.0, x.0.1) (b, rest) y.2)
+      (subst (λ (k : Item). TakesItem depth k bytes x.0.1) (sym o.0) t.0, o.1);
+  again = λ b rest fits q.
+      let k = back b q in
+      rw k.2 (rw (laws.again k.0 rest (subst Fits k.2 fits) k.1, k.3) refl);
+}
+
+-- what nests at most so deep nests at most deeper
+pub deeper_reads : {A : Type 0} {item_of : A → Item} {P : A → Type 0} {depth : ℕ} {read : Reading A} (deep : ℕ) → depth ≤ deep → ReadsItem item_of P depth read → ReadsItem item_of P deep read
+deeper_reads deep le laws = record {
+  takes = λ bytes a rest fits e.
+      let t = laws.takes bytes a rest fits e in
+      (record { takes = t.0.takes; fits = t.0.fits; nests = omega (arith, le, t.0.nests) }, t.1);
+  again = laws.again;
 }
 
 -- an unsigned number below a limit
@@ -393,3 +419,27 @@ module _ {A : Type 0} {item_of : A → Item} {P : A → Type 0} {depth : ℕ} {r
       → IfMalformed fault ((a : A) (rest : List ℕ) → BeginsWithText (IsSpelled a) bytes rest → ⊥)
   reads_refused spells faults.Malformed bytes e = none_begins spells bytes e
   reads_refused spells faults.OutOfMemory bytes e = tt
+
+-- ---- from what a public reader promises to what its reading gives
+
+module _ {A : Type 0} {item_of : A → Item} {P : A → Type 0} {depth : ℕ} {read : Reading A} (laws : ReadsItem item_of P depth read) (le : depth ≤ 64) (IsSpelled : A → List ℕ → Type 0)
+    (spelled : (a : A) → P a → HasText (item_of a) → IsSpelled a (text_of (item_of a))) (spells : (a : A) (text : List ℕ) → IsSpelled a text → P a × Fits (item_of a) × (text ≡ text_of (item_of a))) where
+  -- what stands first is read
+  found_read : (bytes : List ℕ) (a : A) (rest : List ℕ) → BeginsWithText (IsSpelled a) bytes rest → read bytes ≡ Some (a, rest)
+  found_read bytes a rest b =
+      let s = spells a b.text b.spelled in
+      ap read (b.parts ∙ ap (λ (t : List ℕ). t ++ rest) s.2) ∙ laws.again a rest s.1 s.0
+
+  none_read : (bytes : List ℕ) (found : Option (A × List ℕ)) → IsBytes bytes → read bytes ≡ found → ((a : A) (rest : List ℕ) → BeginsWithText (IsSpelled a) bytes rest → ⊥) → found ≡ None
+  none_read bytes None fits e none = refl
+  none_read bytes (Some x) fits e none = absurd (none x.0 x.1 (reads_found laws IsSpelled le spelled bytes x.0 x.1 fits e))
+
+  refused_read : (fault : CborFault) (bytes : List ℕ) → IsBytes bytes → IfMalformed fault ((a : A) (rest : List ℕ) → BeginsWithText (IsSpelled a) bytes rest → ⊥) → Refuses fault (read bytes)
+  refused_read faults.Malformed bytes fits none = none_read bytes (read bytes) fits refl none
+  refused_read faults.OutOfMemory bytes fits none = tt
+
+  -- what a reader returns that promises these two
+  pub promised_read : {X : Type 0} (view : X → A × List ℕ) (r : Result X CborFault) (bytes : List ℕ) → IsBytes bytes → IfOk r (λ x. BeginsWithText (IsSpelled (view x).0) bytes (view x).1)
+      → IfErr r (λ fault. IfMalformed fault ((a : A) (rest : List ℕ) → BeginsWithText (IsSpelled a) bytes rest → ⊥)) → Gives view r (read bytes)
+  promised_read view (Ok x) bytes fits found refused = found_read bytes (view x).0 (view x).1 found
+  promised_read view (Err fault) bytes fits found refused = refused_read fault bytes fits refused

@@ -25,6 +25,13 @@ as_at to read bytes = do
   x ← read bytes
   Some (to x.0, x.1)
 
+-- what another reading gives, as the data that is made of it, where there is such data
+unfoldable pub made_at : {A B : Type 0} → (A → Option B) → Reading A → Reading B
+made_at make read bytes = do
+  x ← read bytes
+  y ← make x.0
+  Some (y, x.1)
+
 -- an unsigned number below a limit
 unfoldable pub bounded_at : ℕ → Reading ℕ
 bounded_at limit bytes = such_at (λ n. nat_lt n limit) (head_at 0) bytes
@@ -143,32 +150,31 @@ FieldsReading A = ℕ → List ℕ → Option (A × ℕ × List ℕ)
 abbrev pub no_fields_at : FieldsReading (Unit {0})
 no_fields_at left bytes = Some (tt, left, bytes)
 
--- the entry of this unsigned number
-unfoldable pub field_at : {A : Type 0} → ℕ → Reading A → FieldsReading A
-field_at key read zero bytes = None
-field_at key read (suc left) bytes = do
+-- the key of the entry of this unsigned number: how many entries are left after it, and the bytes of its value on
+unfoldable pub key_at : ℕ → ℕ → List ℕ → Option (ℕ × List ℕ)
+key_at key zero bytes = None
+key_at key (suc left) bytes = do
   k ← head_at 0 bytes
   of_key ← guard (k.0 == key)
-  value ← read k.1
-  Some (value.0, left, value.1)
+  Some (left, k.1)
 
--- whether a key that was read is this one
-abbrev pub is_key : ℕ → Option (ℕ × List ℕ) → Bool
-is_key key None = false
-is_key key (Some k) = k.0 == key
+-- the entry of this unsigned number
+unfoldable pub field_at : {A : Type 0} → ℕ → Reading A → FieldsReading A
+field_at key read left bytes = do
+  entry ← key_at key left bytes
+  value ← read entry.1
+  Some (value.0, entry.0, value.1)
 
--- an entry that was read where it stands there
-abbrev pub if_there : {A : Type 0} → Bool → Option (A × ℕ × List ℕ) → FieldsReading (Option A)
-if_there true read left bytes = do
-  x ← read
-  Some (Some x.0, x.1, x.2)
-if_there false read left bytes = Some (None, left, bytes)
+-- an entry where its key was read, or none
+abbrev pub if_there : {A : Type 0} → Option (ℕ × List ℕ) → Reading A → FieldsReading (Option A)
+if_there None read left bytes = Some (None, left, bytes)
+if_there (Some entry) read left bytes = do
+  value ← read entry.1
+  Some (Some value.0, entry.0, value.1)
 
 -- the entry of this unsigned number, where it stands there
 unfoldable pub optional_field_at : {A : Type 0} → ℕ → Reading A → FieldsReading (Option A)
-optional_field_at key read zero bytes = Some (None, zero, bytes)
-optional_field_at key read (suc left) bytes =
-    if_there (is_key key (head_at 0 bytes)) (field_at key read (suc left) bytes) (suc left) bytes
+optional_field_at key read left bytes = if_there (key_at key left bytes) read left bytes
 
 -- entries, and others after them
 unfoldable pub fields_at : {A B : Type 0} → FieldsReading A → FieldsReading B → FieldsReading (A × B)

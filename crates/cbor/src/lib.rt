@@ -3,7 +3,9 @@
 #![tactic(auto)]
 
 mod argument;
+mod encoding;
 mod fault;
+mod fields;
 mod item;
 mod major;
 mod reader;
@@ -13,7 +15,9 @@ mod tree_reader;
 mod tree_writer;
 mod writer;
 
+pub use encoding::{Encode, write_list_array};
 pub use fault::CborFault;
+pub use fields::{field_key, optional_unsigned_field, unsigned_field};
 pub use item::{Entries, Entry, Item, Items};
 pub use reader::{array, byte_string, fixed, map, negative, null, unsigned};
 pub use shapes::{
@@ -26,6 +30,8 @@ pub use writer::{
     write_array, write_byte_string, write_map, write_negative, write_null, write_unsigned,
 };
 
+#[cfg(test)]
+mod fields_tests;
 #[cfg(test)]
 mod shapes_tests;
 #[cfg(test)]

@@ -9,7 +9,7 @@ use Rattle.sha2.specs.Sha256.{sha256}
 use Rattle.model.specs.Limits.{hash_size}
 use Rattle.model.specs.Cbor.{Item, Unsigned, Bytes, Null, array_of, map_of, text_of, Spells}
 use Rattle.model.specs.Value.{Value, Mint, item_of_value, item_of_assets, item_of_number, IsValue, IsMint}
-use Rattle.model.specs.Script.{Script, item_of_script, IsScript, script_hash_of}
+use Rattle.model.specs.Script.{Script, Interval, item_of_script, IsScript, script_hash_of}
 
 -- what unlocks an output: a signature by the key of this hash, or the script of this hash
 pub data Credential : Type 0 where
@@ -45,6 +45,10 @@ pub record Transaction : Type 0 where
   pub mint : Mint
   pub signatures : List KeyWitness
   pub scripts : List Script
+
+-- the slots in which a transaction holds
+abbrev pub interval_of_transaction : Transaction → Interval
+interval_of_transaction t = record { start = t.start; end = t.end }
 
 -- the 33 bytes of an address: the kind in the high four bits of the first, the network in the low four
 abbrev pub payment_bytes : ℕ → Credential → List ℕ

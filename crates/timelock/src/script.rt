@@ -19,7 +19,7 @@ use crate::interval::Interval;
 use crate::reading::timelock;
 use crate::timelock::Timelock;
 use crate::writing::write_timelock;
-use cbor::{CborFault, Decode};
+use cbor::{CborFault, Decode, Encode};
 use ident::{KeyHash, ScriptHash};
 use std::alloc::{AllocError, Global};
 use std::marker::Model;
@@ -192,5 +192,16 @@ impl Decode for Script {
     #[tactic(auto, unfolding(crate::specs::Reading::nested_script_at))]
     fn decode(alloc: Global, depth: usize, bytes: &[u8]) -> Result<(Script, &[u8]), CborFault> {
         Script::first(alloc, (depth / 2).min(MAX_DEPTH), bytes)
+    }
+}
+
+/// The text of a script is its own.
+impl Encode for Script {
+    ghost use Rattle.model.specs.Script.{item_of_script};
+
+    ghost item_of = { item_of_script };
+
+    fn write(&self, out: &mut Vec<u8>) -> Result<(), AllocError> {
+        write_timelock(out, &self.timelock)
     }
 }

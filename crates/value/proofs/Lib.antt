@@ -9,3 +9,4 @@ pub mod Preparing
 pub mod Checking
 pub mod Summing
 pub mod Sameness
+pub mod ForCallers

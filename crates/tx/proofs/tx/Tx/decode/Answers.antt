@@ -1,0 +1,11 @@
+use Rattle.std.proofs.lemmas.Result.{err_from_is_err_and}
+use Rattle.tx.proofs.TransactionTexts.{whole_refused, more_follows, not_empty}
+use Rattle.tx.proofs.tx.Tx.decode.Goals as goal
+
+pub returns-in_err-tx-clause-malformed : goal.returns-in_err-tx-clause-malformed
+returns-in_err-tx-clause-malformed c =
+    let p = err_from_is_err_and c.from_residual.result c.from_residual.ensures.1 in
+    rw (p.1, p.2) (whole_refused c.in_err-tx.field-0.0 c.args.bytes.now c.in_err-tx.ensures.malformed)
+
+pub returns-then-not-is_empty-clause-malformed : goal.returns-then-not-is_empty-clause-malformed
+returns-then-not-is_empty-clause-malformed c = more_follows c.args.bytes.now c.in_ok-tx.tx c.in_ok-tx.rest.now (not_empty c.in_ok-tx.rest.now c.is_empty.result c.is_empty.ensures c.if-not-is_empty.true) c.in_ok-tx.ensures.found

@@ -1,0 +1,9 @@
+use Rattle.std.proofs.Common.{arith}
+use Rattle.tx.proofs.TransactionTexts.{first_found, first_refused}
+use Rattle.tx.proofs.tx.Tx.read.Goals as goal
+
+pub returns-clause-found : goal.returns-clause-found
+returns-clause-found c = first_found c.args.bytes.now (λ i. omega (arith, c.type_inv.bytes i)) c.first.result c.first.ensures
+
+pub returns-clause-malformed : goal.returns-clause-malformed
+returns-clause-malformed c = first_refused c.args.bytes.now c.first.result c.first.ensures

@@ -1,0 +1,9 @@
+pub mod View
+pub mod Rising
+pub mod Reading
+pub mod Body
+pub mod BodyView
+pub mod BodyReading
+pub mod TransactionReading
+pub mod WitnessesView
+pub mod Held
