@@ -1,17 +1,24 @@
-//! The program `bench`: measures what no proof says, how long the calls of a crate take.
+//! The program `bench`: measures what no proof says, how long the calls of a crate take. Without an argument it runs
+//! each measurement of transactions once, and prints their names alone.
 #![tactic(auto)]
 
 mod keys;
 mod maps;
+mod telling;
+mod transactions;
 
+use crate::telling::Telling;
 use std::{env, io};
 
 fn main(rt: HostRuntime) -> io::Result<()> {
     let words: Vec<String> = env::args(&rt)?.collect(rt.alloc())?;
     for word in &words {
-        if word.as_str() == "persistent_map" {
-            return maps::measure(&rt);
+        match word.as_str() {
+            "persistent_map" => return maps::measure(&rt),
+            "transactions" => return transactions::measure(&rt, Telling::Times),
+            _ => {}
         }
     }
-    println!(rt; "usage: bench persistent_map")
+    transactions::measure(&rt, Telling::Names)?;
+    println!(rt; "to measure: bench persistent_map, bench transactions")
 }

@@ -11,4 +11,9 @@ bytes_of hash = hash.bytes
 -- what a header says
 abbrev pub header_of : code.Header → Header
 header_of h =
-    record { number = h.number; slot = h.slot; previous = option_map bytes_of h.previous; body_hash = h.body_hash.bytes }
+    record {
+      number = h.number;
+      slot = h.slot;
+      previous = option_map bytes_of h.previous;
+      body_hash = h.body_hash.bytes;
+    }

@@ -133,9 +133,9 @@ pub record IsChosen (genesis : Genesis) (kept selected chosen : List Block) : Ty
       → slice_cmp nat_cmp (tip_hash chosen) (tip_hash other) ≢ Greater
 
 -- SELECTION RULE (the Consensus and Storage Layer report, chain selection; the tie is this project's own)
--- It is asked anew after each block that is kept, over all kept blocks. Candidates are the valid chains of these through
--- the immutable tip: where none is longer than the selected chain that stays, and else it becomes the longest one, of
--- several the one with the least hash at its end.
+-- It is asked anew after each block that is kept, over all kept blocks. Candidates are the valid chains of these
+-- through the immutable tip: where none is longer than the selected chain that stays, and else it becomes the longest
+-- one, of several the one with the least hash at its end.
 pub data IsSelection (genesis : Genesis) (kept selected : List Block) : List Block → Type 0 where
   Stays : NoneLonger genesis kept selected → IsSelection genesis kept selected selected
   Changes : (chosen : List Block) → IsChosen genesis kept selected chosen → IsSelection genesis kept selected chosen

@@ -1,5 +1,5 @@
-//! Reading timelocks (RFC 8949, sections 3.1 and 4.2.1). Recursion goes down the nesting alone, so its depth is bounded;
-//! the time is linear in the bytes. A count that the bytes claim reserves nothing.
+//! Reading timelocks (RFC 8949, sections 3.1 and 4.2.1). Recursion goes down the nesting alone, so its depth is
+//! bounded; the time is linear in the bytes. A count that the bytes claim reserves nothing.
 
 ghost use Rattle.std.specs.Prelude.{◌≡◌, map};
 ghost use Rattle.cbor.specs.Shapes.{list_at};

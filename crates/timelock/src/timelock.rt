@@ -53,8 +53,8 @@ impl Model for Timelocks {
 }
 
 impl Timelocks {
-    /// These timelocks, in this order. They may nest to any depth: to drop, to show and to copy a timelock recurses down
-    /// its nesting, so that a very deep one may run out of stack. Only a timelock whose text nests at most 64 deep
+    /// These timelocks, in this order. They may nest to any depth: to drop, to show and to copy a timelock recurses
+    /// down its nesting, so that a very deep one may run out of stack. Only a timelock whose text nests at most 64 deep
     /// makes a [`Script`], and what is read never nests deeper.
     ///
     /// [`Script`]: crate::Script

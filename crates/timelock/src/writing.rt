@@ -1,5 +1,5 @@
-//! Writing timelocks (RFC 8949, section 4.2.1), in time linear in the bytes that are written. Where memory runs out a part
-//! may stand there, and none fails where the vector has room.
+//! Writing timelocks (RFC 8949, section 4.2.1), in time linear in the bytes that are written. Where memory runs out a
+//! part may stand there, and none fails where the vector has room.
 
 ghost use Rattle.std.specs.Prelude.{◌≡◌, ◌<◌, ◌≤◌, ◌+◌, ◌++◌, length, map, OnOk, OnErr, vec_capacity};
 ghost use Rattle.model.specs.Cbor.{head, text_of, items_text, Array};

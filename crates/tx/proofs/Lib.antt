@@ -4,3 +4,4 @@ pub mod PartTexts
 pub mod BodyTexts
 pub mod WitnessTexts
 pub mod TransactionTexts
+pub mod ForCallers

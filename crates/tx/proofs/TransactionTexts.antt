@@ -179,3 +179,26 @@ transaction_opened depth bytes members body after_body w after_witnesses rest m 
 -- the members of the array are bytes
 pub members_are_bytes : (bytes members : List ℕ) → IsBytes bytes → members_at 3 bytes ≡ Some members → IsBytes members
 members_are_bytes bytes members fits e = let t = members_takes 3 bytes members fits e in t.rest_fits
+
+-- ---- for what transactions stand in
+
+-- what is asked of a transaction that nests at most so deep
+pub record NestsWithin (depth : ℕ) (t : Transaction) : Type 0 where
+  pub is_transaction : IsTransaction t
+  pub nests : nesting (item_of_transaction t) ≤ depth
+
+-- a transaction that nests at most so deep, where that is no deeper than any item, and deep enough for a body
+pub nested_transaction_reads : (depth : ℕ) → 8 ≤ depth → depth ≤ 64 → ReadsItem item_of_transaction (NestsWithin depth) depth (nested_transaction_at depth)
+unfolding nested_transaction_at
+nested_transaction_reads depth some le = record {
+  takes = λ bytes t rest fits e.
+      let r = (transaction_reads (depth - 3) (min depth 64 - 3) (omega (arith, some)) (omega (arith, le)) (omega (arith, le))).takes bytes t rest fits e in
+      let item = r.0 in
+      let is = r.1 in
+      let nests : nesting (item_of_transaction t) ≤ depth = omega (arith, item.nests, some) in
+      (record { takes = item.takes; fits = item.fits; nests = nests }, record { is_transaction = is.is_transaction; nests = nests });
+  again = λ t rest fits p.
+      let same : min depth 64 - 3 ≡ depth - 3 = omega (arith, le) in
+      let is = is_within t (min depth 64 - 3) p.is_transaction (omega (arith, p.nests, same, some)) in
+      (transaction_reads (depth - 3) (min depth 64 - 3) (omega (arith, some)) (omega (arith, le)) (omega (arith, le))).again t rest fits is;
+}

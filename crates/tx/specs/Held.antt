@@ -1,5 +1,5 @@
--- What a transaction of the program stands for, and what it keeps: that it has a text, and the identifier and the size of
--- that text.
+-- What a transaction of the program stands for, and what it keeps: that it has a text, and the identifier and the size
+-- of that text.
 use Rattle.std.specs.Prelude.{◌≡◌, map}
 use Rattle.model.specs.Cbor.{HasText}
 use Rattle.model.specs.Script.{Interval}

@@ -2,7 +2,8 @@
 -- or None where no such part stands there.
 use Rattle.std.specs.Prelude.{ℕ, ◌/◌, ◌%◌, List, [], ◌∷◌, length, Option, Some, None, nat_le, ◌==◌, if◌then◌else◌}
 use Rattle.cbor.specs.Reading.{◌>>=◌, fixed_at}
-use Rattle.cbor.specs.Shapes.{Reading, made_at, such_at, as_at, bounded_at, both_at, array_at, list_array_at, nonempty_at}
+use Rattle.cbor.specs.Shapes.{Reading, made_at, such_at, as_at, bounded_at, both_at, array_at, list_array_at}
+use Rattle.cbor.specs.Shapes.{nonempty_at}
 use Rattle.model.specs.Limits.{hash_size}
 use Rattle.model.specs.Value.{Value}
 use Rattle.model.specs.Transaction.{Credential, KeyHash, ScriptHash, Address, Input, Output, KeyWitness}

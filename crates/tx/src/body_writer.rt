@@ -17,7 +17,11 @@ use std::alloc::AllocError;
 use value::Mint;
 
 /// A key, and the array of the items.
-pub fn write_items_field<T: Encode>(out: &mut Vec<u8>, key: u64, items: &[T]) -> Result<(), AllocError>
+pub fn write_items_field<T: Encode>(
+    out: &mut Vec<u8>,
+    key: u64,
+    items: &[T],
+) -> Result<(), AllocError>
     ensures ok { OnOk result (out.new.items ≡ out.old.items ++
         pairs_text (pairs_of ((Unsigned key, array_of (map T.item_of items.now)) ∷ []))) }
     ensures keeps { Keeps out.old.items out.new.items }

@@ -24,3 +24,5 @@ pub use tx::Tx;
 mod body_tests;
 #[cfg(test)]
 mod tests;
+#[cfg(test)]
+mod tx_tests;

@@ -28,8 +28,8 @@ use value::Mint;
 /// How deep the scripts of a transaction nest at most: they stand three deep in it, and items nest at most 64 deep.
 const MAX_SCRIPT_NESTING: usize = 61;
 
-/// A transaction of the Shelley-MA era that has a text. Its identifier and its size were computed once, when it was read,
-/// and are kept.
+/// A transaction of the Shelley-MA era that has a text. Its identifier and its size were computed once, when it was
+/// read, and are kept.
 #[derive(Debug, Drop)]
 pub struct Tx {
     alloc: Global,
@@ -161,7 +161,8 @@ impl Tx {
         })
     }
 
-    /// The identifier, which is also what keys sign: SHA-256 (FIPS 180-4) of the body's text. It is kept: constant time.
+    /// The identifier, which is also what keys sign: SHA-256 (FIPS 180-4) of the body's text. It is kept: constant
+    /// time.
     pub fn id(&self) -> TxId
         ensures { result.bytes ≡ transaction_id_of self.now }
     {

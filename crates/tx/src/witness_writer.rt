@@ -1,6 +1,6 @@
-//! Writers of the entries of a witness set (RFC 8949, section 4.2.1): each puts its part at the end of a vector of bytes,
-//! in time linear in what is written. Where memory runs out a part of it may stand there, and none fails where the
-//! vector has room.
+//! Writers of the entries of a witness set (RFC 8949, section 4.2.1): each puts its part at the end of a vector of
+//! bytes, in time linear in what is written. Where memory runs out a part of it may stand there, and none fails where
+//! the vector has room.
 
 ghost use Rattle.std.specs.Prelude.{◌≡◌, ◌<◌, ◌≤◌, ◌+◌, ◌++◌, [], ◌∷◌, length, map, OnOk, OnErr, vec_capacity};
 ghost use Rattle.model.specs.Cbor.{Unsigned, array_of, pairs_of, pairs_text};
@@ -23,7 +23,7 @@ fn write_all_signatures(out: &mut Vec<u8>, signatures: &[KeyWitness]) -> Result<
     ensures keeps { Keeps out.old.items out.new.items }
     ensures full { OnErr result (vec_capacity out.old < length out.old.items +
         length (pairs_text (pairs_of (
-            (Unsigned 0, array_of (map item_of_witness (map witness_of signatures.now))) ∷ [])))) }
+        (Unsigned 0, array_of (map item_of_witness (map witness_of signatures.now))) ∷ [])))) }
     ensures capacity { vec_capacity out.old ≤ vec_capacity out.new }
 {
     write_items_field(out, SIGNATURES, signatures)

@@ -62,11 +62,7 @@ impl Witnesses {
     /// it (RFC 8949, section 4.2.1; a map with the keys in rising order). Malformed where no such text stands there,
     /// OutOfMemory where memory ran out before that was known. Linear in the bytes of the text.
     #[tactic(auto, unfolding(crate::specs::TransactionReading::witnesses_at, cbor::specs::Shapes::record_at, cbor::specs::Shapes::fields_at))]
-    pub fn read(
-        alloc: Global,
-        depth: usize,
-        bytes: &[u8],
-    ) -> Result<(Witnesses, &[u8]), CborFault>
+    pub fn read(alloc: Global, depth: usize, bytes: &[u8]) -> Result<(Witnesses, &[u8]), CborFault>
         ensures { Gives (λ x. (witnesses_of x.0, x.1.now)) result (witnesses_at depth bytes.now) }
     {
         let (left, rest) = cbor::map(bytes).ok_or(CborFault::Malformed)?;

@@ -9,4 +9,15 @@ pub mod Preparing
 pub mod Checking
 pub mod Summing
 pub mod Sameness
+pub mod TextOrder
+pub mod Rising
+pub mod Walks
+pub mod Repeats
+pub mod Putting
+pub mod Saying
+pub mod Sorting
+pub mod Refusing
+pub mod Sound
+pub mod Making
+pub mod OneMaking
 pub mod ForCallers

@@ -1,4 +1,9 @@
 pub mod Quantities
+pub mod Parts
+pub mod Order
+pub mod Checked
+pub mod Grouped
+pub mod Said
 pub mod View
 pub mod Reading
 pub mod Held

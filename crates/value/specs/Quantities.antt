@@ -1,7 +1,8 @@
 -- Reading a quantity: what stands first and the bytes after it, or None where no quantity stands there; and how
 -- large quantities are.
-use Rattle.std.specs.Prelude.{ℕ, ℤ, pos, negsuc, neg_ℤ, ◌≤ℤ◌, ◌^◌, ◌&&◌, not, nat_lt, ◌==◌}
+use Rattle.std.specs.Prelude.{◌≡◌, ℕ, ℤ, pos, negsuc, neg_ℤ, ◌≤ℤ◌, ◌^◌, ◌&&◌, not, nat_lt, ◌==◌}
 use Rattle.model.specs.Limits.{number_limit}
+use Rattle.model.specs.Cbor.{Item, IsInRange, HasRisingKeys, nesting}
 use Rattle.cbor.specs.Reading.{head_at}
 use Rattle.cbor.specs.Shapes.{Reading, such_at, as_at, either_at}
 
@@ -20,6 +21,12 @@ taken_away_at bytes = as_at negsuc (such_at (λ n. nat_lt n number_limit) (head_
 -- of what is minted
 unfoldable pub minted_at : Reading ℤ
 minted_at bytes = either_at made_at taken_away_at bytes
+
+-- an item that has a text and no members, as a number does
+pub record IsAlone (item : Item) : Type 0 where
+  pub in_range : IsInRange item
+  pub rising : HasRisingKeys item
+  pub alone : nesting item ≡ 1
 
 -- ---- bounds
 

@@ -2,17 +2,21 @@
 
 ghost use Rattle.std.specs.Prelude.{◌≡◌, ◌≢◌, ◌++◌, ℕ, List, [], length, map, ◌<◌, ◌≤◌, ◌+◌, ◌^◌, ◌+ℤ◌, IfOk, IfErr};
 ghost use Rattle.std.specs.Prelude.{OnOk, OnErr, vec_len, vec_capacity};
-ghost use Rattle.model.specs.Cbor.{text_of};
+ghost use Rattle.model.specs.Cbor.{text_of, HasText};
 ghost use Rattle.model.specs.Value as model;
-ghost use Rattle.model.specs.Value.{item_of_number, item_of_assets, SpellsMint, Asset, minted_amount};
+ghost use Rattle.model.specs.Value.{item_of_number, item_of_assets, IsMint, SpellsMint, Asset, minted_amount};
 ghost use Rattle.cbor.specs.Gives.{IfMalformed};
 ghost use Rattle.cbor.specs.Texts.{BeginsWithText};
 ghost use Rattle.value.specs.Totals.{total_of};
-ghost use Rattle.value.specs.View.{policy_of};
+ghost use Rattle.value.specs.Parts.{IsMintOf, IsFirstFault, IfAtFault};
+ghost use Rattle.value.specs.View.{policy_of, asset_of};
 ghost use Rattle.cbor.specs.Texts.{Writes};
 
+use crate::asset_fault::AssetFault;
+use crate::asset_quantity::AssetQuantity;
 use crate::assets::Policy;
 use crate::copying::clone_policies;
+use crate::grouping::policies_with;
 use crate::side::Side;
 use crate::totals::Totals;
 use crate::writer::write_assets;
@@ -69,6 +73,27 @@ impl Mint {
             alloc,
             policies: Vec::new(alloc),
         }
+    }
+
+    /// What mints these assets, which may come in any order; nothing is minted where there are none. Err where no
+    /// mint is of these assets, for the first of the reasons that there is: `NameTooLong` for a name of more than 32
+    /// bytes, `ZeroQuantity`, and `Repeated` for two quantities of one policy and name. OutOfMemory only where there is
+    /// no such reason. Sorts the assets where they are and moves their names: n log n comparisons of n assets.
+    ///
+    /// ```text
+    /// let burned = AssetQuantity { policy, name: Vec::new(alloc), quantity: -5 };
+    /// let mint = Mint::new(alloc, vec![in alloc; burned]?)?;
+    /// ```
+    pub fn new(alloc: Global, assets: Vec<AssetQuantity<i64>>) -> Result<Mint, AssetFault>
+        ensures made { IfOk result (λ mint. IsMintOf mint (map asset_of assets.items)) }
+        ensures fault { IfErr result (IsFirstFault (λ quantity. quantity) (map asset_of assets.items)) }
+        ensures refused { IfErr result (λ fault. IfAtFault fault ((mint : model.Mint) → IsMint mint →
+            HasText (item_of_assets item_of_number mint) → IsMintOf mint (map asset_of assets.items) → ⊥)) }
+    {
+        Ok(Mint {
+            alloc,
+            policies: policies_with(alloc, assets)?,
+        })
     }
 
     /// What is minted by the text that stands first, and the bytes after it (RFC 8949, section 4.2.1; the

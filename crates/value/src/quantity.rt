@@ -1,10 +1,11 @@
 //! Quantities of an asset: those of an output and those that are minted.
 
-ghost use Rattle.std.specs.Prelude.{◌≡◌, ℕ, ℤ, pos, negsuc, ◌≤ℤ◌, ◌++◌, List, Option, ◌<◌, ◌≤◌, ◌+◌, length};
-ghost use Rattle.std.specs.Prelude.{option_map, OnOk, OnErr, vec_capacity};
+ghost use Rattle.std.specs.Prelude.{◌≡◌, ◌≢◌, ℕ, ℤ, pos, negsuc, ◌≤ℤ◌, ◌++◌, List, Option, ◌<◌, ◌≤◌, ◌+◌, length};
+ghost use Rattle.std.specs.Prelude.{◌↔◌, IsTrue, option_map, OnOk, OnErr, vec_capacity};
+ghost use Rattle.std.specs.Bool.{OnFalse};
 ghost use Rattle.model.specs.Cbor.{Item, Unsigned, text_of};
-ghost use Rattle.model.specs.Value.{item_of_number};
-ghost use Rattle.value.specs.Quantities.{held_at, made_at, taken_away_at, minted_at, IsWithin, quantity_limit};
+ghost use Rattle.model.specs.Value.{item_of_number, IsMintedQuantity};
+ghost use Rattle.value.specs.Quantities.{IsAlone, held_at, made_at, taken_away_at, minted_at, IsWithin, quantity_limit};
 
 use std::alloc::AllocError;
 
@@ -18,6 +19,9 @@ pub trait Quantity: Copy {
 
     /// The quantity as a whole number.
     ghost whole: { Self → ℤ };
+
+    /// Holds of the quantities that the place allows.
+    ghost is_quantity: { Self → Type 0 };
 
     /// The quantity that stands first, and the bytes after it.
     ghost quantity_at: { List ℕ → Option (Self × List ℕ) };
@@ -37,7 +41,16 @@ pub trait Quantity: Copy {
     /// The quantity, in the width in which quantities are added.
     fn to_whole(self) -> i128
         ensures is { result ≡ whole self }
-        ensures within { IsWithin quantity_limit result };
+        ensures within { IsWithin quantity_limit result }
+        ensures said { whole self ≢ pos 0 → is_quantity self × IsAlone (item_of self) };
+
+    /// Whether it is 0, which no text says.
+    fn is_zero(self) -> bool
+        ensures zero { IsTrue result ↔ (whole self ≡ pos 0) }
+        ensures said { OnFalse result (is_quantity self × IsAlone (item_of self)) }
+    {
+        self.to_whole() == 0
+    }
 }
 
 /// Of an output: 1 to 2^64 - 1.
@@ -45,6 +58,8 @@ impl Quantity for u64 {
     ghost item_of = { Unsigned };
 
     ghost whole = { pos };
+
+    ghost is_quantity = { λ q. q ≢ 0 };
 
     ghost quantity_at = { held_at };
 
@@ -95,6 +110,8 @@ impl Quantity for i64 {
     ghost item_of = { item_of_number };
 
     ghost whole = { λ quantity. quantity };
+
+    ghost is_quantity = { IsMintedQuantity };
 
     ghost quantity_at = { minted_at };
 

@@ -1,18 +1,22 @@
 //! Values: what an output holds.
 
 ghost use Rattle.std.specs.Prelude.{◌≡◌, ◌++◌, ℕ, List, [], length, map, ◌<◌, ◌≤◌, ◌+◌, ◌^◌, ◌+ℤ◌, ◌-ℤ◌, IfOk, IfErr};
-ghost use Rattle.std.specs.Prelude.{OnOk, OnErr, vec_len, vec_capacity};
-ghost use Rattle.model.specs.Cbor.{text_of};
+ghost use Rattle.std.specs.Prelude.{OnOk, OnErr, vec_len, vec_capacity, pos};
+ghost use Rattle.model.specs.Cbor.{text_of, HasText};
 ghost use Rattle.model.specs.Value as model;
-ghost use Rattle.model.specs.Value.{item_of_value, SpellsValue, Asset, amount_of};
+ghost use Rattle.model.specs.Value.{item_of_value, IsValue, SpellsValue, Asset, amount_of};
 ghost use Rattle.cbor.specs.Gives.{IfMalformed};
 ghost use Rattle.cbor.specs.Texts.{BeginsWithText};
 ghost use Rattle.value.specs.Totals.{total_of};
-ghost use Rattle.value.specs.View.{policy_of};
+ghost use Rattle.value.specs.Parts.{IsValueOf, IsFirstFault, IfAtFault};
+ghost use Rattle.value.specs.View.{policy_of, asset_of};
 ghost use Rattle.cbor.specs.Texts.{Keeps, Writes};
 
+use crate::asset_fault::AssetFault;
+use crate::asset_quantity::AssetQuantity;
 use crate::assets::Policy;
 use crate::copying::clone_policies;
+use crate::grouping::policies_with;
 use crate::reader;
 use crate::side::Side;
 use crate::totals::Totals;
@@ -71,6 +75,32 @@ impl Value {
             coin,
             assets: Vec::new(alloc),
         }
+    }
+
+    /// The value of this coin, in lovelace, and these assets, which may come in any order. Err where no value with a
+    /// text is of these parts, for the first of the reasons that there is: `NameTooLong` for a name of more than 32
+    /// bytes, `ZeroQuantity`, and `Repeated` for two quantities of one policy and name. OutOfMemory only where there is
+    /// no such reason. Sorts the assets where they are and moves their names: n log n comparisons of n assets.
+    ///
+    /// ```text
+    /// let asset = AssetQuantity { policy, name: Vec::new(alloc), quantity: 5 };
+    /// let value = Value::new(alloc, 800, vec![in alloc; asset]?)?; // 800 lovelace, and 5 of the empty name
+    /// ```
+    pub fn new(
+        alloc: Global,
+        coin: u64,
+        assets: Vec<AssetQuantity<u64>>,
+    ) -> Result<Value, AssetFault>
+        ensures made { IfOk result (λ value. IsValueOf value coin (map asset_of assets.items)) }
+        ensures fault { IfErr result (IsFirstFault pos (map asset_of assets.items)) }
+        ensures refused { IfErr result (λ fault. IfAtFault fault ((value : model.Value) → IsValue value →
+            HasText (item_of_value value) → IsValueOf value coin (map asset_of assets.items) → ⊥)) }
+    {
+        Ok(Value {
+            alloc,
+            coin,
+            assets: policies_with(alloc, assets)?,
+        })
     }
 
     /// The value whose text stands first, and the bytes after it (RFC 8949, section 4.2.1; the value of

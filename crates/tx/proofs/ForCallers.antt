@@ -1,0 +1,4 @@
+-- What crates above cite of this one's proofs, and no other file.
+
+-- The two laws of reading a transaction.
+pub use Rattle.tx.proofs.TransactionTexts.{NestsWithin, nested_transaction_reads}
