@@ -16,7 +16,7 @@ const SMALLEST: &[u8] = b"\x83\xa3\x00\x80\x01\x80\x02\x00\xa0\xf6";
 /// How many of the smallest are read.
 const SMALL_COUNT: u64 = 100_000;
 
-/// How many large ones are read, each with so many outputs of coin alone: 16,412 bytes.
+/// How many large ones are read, each with so many outputs of coin alone: 16,392 bytes.
 const LARGE_COUNT: u64 = 61;
 
 const LARGE_OUTPUTS: u64 = 420;

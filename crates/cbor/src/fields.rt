@@ -8,8 +8,8 @@ ghost use Rattle.cbor.specs.Shapes.{key_at, field_at, optional_field_at};
 use crate::reader;
 
 /// The key `key` of an entry of a map, where it is the next of `left` entries: how many entries are left after this
-/// one, and the bytes from its value on. None where no entry is left, and where another key stands first, or none in its
-/// shortest form (RFC 8949, sections 3.1 and 4.2.1). Constant time.
+/// one, and the bytes from its value on. None where no entry is left, and where another key stands first, or none in
+/// its shortest form (RFC 8949, sections 3.1 and 4.2.1). Constant time.
 ///
 /// A map whose keys are known is read entry by entry, in the order of the keys, and none is left at its end:
 ///

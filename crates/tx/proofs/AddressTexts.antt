@@ -1,5 +1,5 @@
 -- The bytes of an address: the address that was read has them, and an address is read from its bytes.
-use Rattle.std.proofs.Common.{◌≡◌, ℕ, ◌+◌, ◌*◌, ◌/◌, ◌%◌, ◌<◌, Bool, true, false, cond, eqb, List, [], ◌∷◌, length, Option, Some, None, refl, ap, subst, ◌∙◌, arith, inl, inr}
+use Rattle.std.proofs.Common.{◌≡◌, ℕ, ◌+◌, ◌/◌, ◌%◌, ◌<◌, Bool, true, false, cond, eqb, List, [], ◌∷◌, length, Option, Some, None, refl, ap, subst, ◌∙◌, arith, inl, inr}
 use Rattle.std.specs.Prelude.{◌⊎◌}
 use Rattle.std.proofs.lemmas.Bool.{eqb-true}
 use Rattle.model.specs.Transaction.{Credential, KeyHash, ScriptHash, Address, payment_bytes, address_bytes, payment_hash, IsAddress}
@@ -14,10 +14,7 @@ pick true c x y p e = inl (refl, some_is x p e)
 pick false true x y p e = inr (refl, some_is y p e)
 pick false false x y p e = absurd cc
 
--- an address of this network is told by its first byte
-with_kind : (first kind : ℕ) (hash : List ℕ) → first / 16 ≡ kind → (16 * kind + first % 16) ∷ hash ≡ first ∷ hash
-with_kind first kind hash is = let e : 16 * kind + first % 16 ≡ first = omega (arith, is) in ap (λ (b : ℕ). b ∷ hash) e
-
+-- the bytes of an address whose kind was read
 same_bytes : (first : ℕ) (hash : List ℕ) (payment : Credential) → payment_of_kind (first / 16) hash ≡ Some payment → (payment_bytes (first % 16) payment ≡ first ∷ hash) × (payment_hash payment ≡ hash)
 same_bytes first hash payment e = elim (pick (eqb (first / 16) 6) (eqb (first / 16) 7) (KeyHash hash) (ScriptHash hash) payment e) [
   | inl key ↦

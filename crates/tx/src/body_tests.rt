@@ -202,3 +202,23 @@ fn most_outputs(rt: HostRuntime) -> Result<(), Fail> {
     assert_eq!(rt; body_fault(rt.alloc(), &more), Some(CborFault::Malformed));
     Ok(())
 }
+
+/// The text of a body that spends one input and leaves nothing.
+const SPENDING: &[u8] =
+    b"\xa3\x00\x81\x82\x58\x200123456789abcdef0123456789abcdef\x07\x01\x80\x02\x00";
+
+/// Holds whichever allocation is refused.
+#[test]
+fn refused_memory(rt: HostRuntime) -> Result<(), Fail> {
+    match Body::read(rt.alloc(), SPENDING) {
+        Ok((body, _)) => {
+            let mut out = Vec::new(rt.alloc());
+            match body.write(&mut out) {
+                Ok(()) => assert_eq!(rt; out.as_slice(), SPENDING),
+                Err(_) => assert!(rt; out.is_empty()),
+            }
+        }
+        Err(fault) => assert_eq!(rt; fault, CborFault::OutOfMemory),
+    }
+    Ok(())
+}
