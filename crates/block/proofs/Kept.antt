@@ -8,47 +8,58 @@ use Rattle.model.specs.Cbor.{head, text_of, items_of, items_count}
 use Rattle.model.specs.Transaction.{Transaction, item_of_transaction}
 use Rattle.model.specs.Limits.{block_size_limit}
 use Rattle.model.specs.Block.{Header, Block, item_of_header, item_of_transactions, block_text, block_hash_of, body_hash_of, body_size_of}
-use Rattle.model.proofs.BlockTexts.{block_text_is}
+use Rattle.model.proofs.BlockTexts.{one_block, block_text_is}
 use Rattle.cbor.proofs.ForCallers.{IsBytes}
 use Rattle.block.specs.declared.block.Block.TheInside.{Inside}
-use Rattle.model.specs.Block.{empty_block}
 use Rattle.block.specs.View.{header_of}
 use Rattle.block.specs.Reading.{block_at}
-use Rattle.block.specs.Read.{IsRead, IsMalformed, IsMismatched}
+use Rattle.block.specs.Read.{IsRead, IsMalformed, IsMismatched, IsUnread, IsReadable}
 use Rattle.block.specs.declared.block_ref.BlockRef.TheInside as ref
 use Rattle.block.specs.Held.{block_of, IsHeld}
 use Rattle.block.specs.HeldRef.{borrowed_block, IsHeldRef}
-use Rattle.block.proofs.Blocks.{block_takes, no_block}
+use Rattle.block.proofs.Blocks.{block_takes, block_again, no_block}
 
 -- ---- reading
 
 -- no block was read
-pub is_malformed : (bytes : List ℕ) → length bytes ≤ block_size_limit → None ≡ block_at bytes → IsMalformed bytes
-is_malformed bytes size e = record { size = size; no_block = no_block bytes (sym e) }
+pub is_malformed : (bytes : List ℕ) → length bytes ≤ block_size_limit → block_at bytes ≡ None → IsMalformed bytes
+is_malformed bytes size e = record { size = size; no_block = no_block bytes e }
 
 -- a block was read, and the digest of its body is what its header names
-pub is_read : (bytes : List ℕ) (header : Header) (digest body : List ℕ) → IsBytes bytes → length bytes ≤ block_size_limit → Some (empty_block header) ≡ block_at bytes
-    → digest ≡ sha256 body → body ≡ text_of (item_of_transactions []) → digest ≡ header.body_hash → IsRead (empty_block header) bytes
+pub is_read : (bytes : List ℕ) (b : Block) (digest body : List ℕ) → IsBytes bytes → length bytes ≤ block_size_limit → block_at bytes ≡ Some b
+    → digest ≡ sha256 body → body ≡ text_of (item_of_transactions b.transactions) → digest ≡ b.header.body_hash → IsRead b bytes
 unfolding body_hash_of
-is_read bytes header digest body fits size read is spelled same =
-    record { read = block_takes bytes (empty_block header) fits (sym read); size = size; body = sym same ∙ is ∙ ap sha256 spelled }
+is_read bytes b digest body fits size read is spelled same =
+    record { read = block_takes bytes b fits read; size = size; body = sym same ∙ is ∙ ap sha256 spelled }
 
 -- a block was read, and its header names another digest
-pub is_mismatched : (bytes : List ℕ) (header : Header) (digest body : List ℕ) → IsBytes bytes → length bytes ≤ block_size_limit → Some (empty_block header) ≡ block_at bytes
-    → digest ≡ sha256 body → body ≡ text_of (item_of_transactions []) → digest ≢ header.body_hash → IsMismatched bytes
+pub is_mismatched : (bytes : List ℕ) (b : Block) (digest body : List ℕ) → IsBytes bytes → length bytes ≤ block_size_limit → block_at bytes ≡ Some b
+    → digest ≡ sha256 body → body ≡ text_of (item_of_transactions b.transactions) → digest ≢ b.header.body_hash → IsMismatched bytes
 unfolding body_hash_of
-is_mismatched bytes header digest body fits size read is spelled other =
-    record { size = size; block = empty_block header; read = block_takes bytes (empty_block header) fits (sym read); body = λ same. other (is ∙ ap sha256 spelled ∙ sym same) }
+is_mismatched bytes b digest body fits size read is spelled other =
+    record { size = size; block = b; read = block_takes bytes b fits read; body = λ same. other (is ∙ ap sha256 spelled ∙ sym same) }
+
+-- where memory ran out while transactions were read, no block without any is spelled
+pub is_unread : (bytes : List ℕ) → length bytes ≤ block_size_limit → ((b : Block) → block_at bytes ≡ Some b → b.transactions ≡ [] → ⊥) → IsUnread bytes
+is_unread bytes size some = record { size = size; full = λ b spells none. some b (block_again b bytes spells) none }
+
+-- so that it would be read, if there were one
+pub unread_is_readable : (bytes : List ℕ) → IsUnread bytes → IsReadable bytes
+unread_is_readable bytes unread = record { size = unread.size; empty = λ b spells none. absurd (unread.full b spells none) }
+
+-- where it ran out after that, the bytes are read
+pub is_readable : (bytes : List ℕ) (b : Block) → IsRead b bytes → IsReadable bytes
+is_readable bytes b read = record { size = read.size; empty = λ c spells none. subst (λ (x : Block). IsRead x bytes) (one_block b c bytes read.read spells) read }
 
 -- what is kept beside the bytes of a block that was read
 pub is_held : (b : ref.Inside) (header_text body_text : List ℕ) → IsRead (borrowed_block b) b.bytes.now → b.hash.bytes ≡ sha256 header_text → b.body_size ≡ length body_text
-    → header_text ≡ text_of (item_of_header (header_of b.header)) → body_text ≡ text_of (item_of_transactions []) → IsHeldRef b
+    → header_text ≡ text_of (item_of_header (header_of b.header)) → body_text ≡ text_of (item_of_transactions b.transactions.items) → IsHeldRef b
 unfolding block_hash_of body_size_of
 is_held b header_text body_text read hash size header_spelled body_spelled = record { read = read; hash = hash ∙ ap sha256 header_spelled; body_size = size ∙ ap length body_spelled }
 
 -- so what was read is the block that its text spells
 pub read_text : (b : Inside) → IsHeld b → IsRead (block_of b) (block_text (block_of b))
-read_text b held = subst (IsRead (block_of b)) (sym (block_text_is (block_of b) b.inner.value.bytes.items held.read.read.spelled)) held.read
+read_text b held = subst (IsRead (block_of b)) (sym (block_text_is (block_of b) b.inner.value.bytes.items held.read.read)) held.read
 
 -- ---- the size of an empty body
 

@@ -7,7 +7,7 @@ use Rattle.std.specs.Str.{bytes_eq}
 use Rattle.std.proofs.lemmas.Bool.{cases_lt}
 use Rattle.std.proofs.lemmas.Slice.Eq.{bytes_eq-Decides}
 use Rattle.model.specs.Limits.{block_size_limit}
-use Rattle.model.specs.Block.{Block, SpellsBlock, IsReadAs, block_text, body_hash_of}
+use Rattle.model.specs.Block.{Block, SpellsBlock, block_text, body_hash_of}
 use Rattle.model.proofs.BlockTexts.{one_block, block_text_is}
 use Rattle.block.specs.declared.fault.NoBlock.{NoBlock}
 use Rattle.block.specs.declared.fault.NoBlock.TheVariants as none
@@ -20,12 +20,12 @@ use Rattle.block.proofs.Blocks.{block_takes, no_block}
 
 -- one block
 pub same_read : (bytes : List ℕ) (a b : Block) → IsRead a bytes → IsRead b bytes → a ≡ b
-same_read bytes a b p q = one_block a b bytes p.read.spelled q.read.spelled
+same_read bytes a b p q = one_block a b bytes p.read q.read
 
 -- a block that is read has the right body
 right_body : (bytes : List ℕ) (b : Block) → IsRead b bytes → IsMismatched bytes → ⊥
 right_body bytes b p q =
-    let same = one_block b q.block bytes p.read.spelled q.read.spelled in
+    let same = one_block b q.block bytes p.read q.read in
     q.body (subst (λ (x : Block). x.header.body_hash ≡ body_hash_of x.transactions) same p.body)
 
 -- a block or a fault
@@ -35,11 +35,12 @@ not_both bytes b Malformed p f = absurd (f.no_block b p.read)
 not_both bytes b BodyHashMismatch p f = absurd (right_body bytes b p f)
 not_both bytes b OutOfMemory p f = refl
 
--- bytes that are read as a block are no others
-pub is_no_other : (bytes : List ℕ) (b : Block) (e : NoBlock) → IsRead b bytes → IsNoBlock bytes e → ⊥
-is_no_other bytes b none.TooLarge p large = omega (arith, p.size, large)
-is_no_other bytes b none.Malformed p f = f.no_block b p.read
-is_no_other bytes b none.BodyHashMismatch p f = right_body bytes b p f
+-- bytes that are read as a block without transactions are no others
+pub is_no_other : (bytes : List ℕ) (b : Block) (e : NoBlock) → IsRead b bytes → b.transactions ≡ [] → IsNoBlock bytes e → ⊥
+is_no_other bytes b none.TooLarge p empty large = omega (arith, p.size, large)
+is_no_other bytes b none.Malformed p empty f = f.no_block b p.read
+is_no_other bytes b none.BodyHashMismatch p empty f = right_body bytes b p f
+is_no_other bytes b none.OutOfMemory p empty f = f.full b p.read empty
 
 -- one fault
 pub same_fault : (bytes : List ℕ) (e f : ReadFault) → IsReadFault bytes e → IsReadFault bytes f → e ≢ OutOfMemory → f ≢ OutOfMemory → e ≡ f
@@ -68,7 +69,7 @@ is_bytes (b ∷ bytes) all zero = all.0
 is_bytes (b ∷ bytes) all (suc i) = is_bytes bytes all.1 i
 
 -- whether the body has the hash that the header names
-judged : (bytes : List ℕ) (b : Block) (same : Bool) → length bytes ≤ block_size_limit → IsReadAs b bytes → Decides same (b.header.body_hash ≡ body_hash_of b.transactions) → HasAnswer bytes
+judged : (bytes : List ℕ) (b : Block) (same : Bool) → length bytes ≤ block_size_limit → SpellsBlock b bytes → Decides same (b.header.body_hash ≡ body_hash_of b.transactions) → HasAnswer bytes
 judged bytes b true size read decides = inl (b, record { read = read; size = size; body = decides.0 refl })
 judged bytes b false size read decides =
     let other : b.header.body_hash ≢ body_hash_of b.transactions = λ e. absurd (let is = decides.1 e in cc) in
@@ -93,12 +94,12 @@ has_answer bytes all =
 -- blocks are the same where their texts are
 pub same_blocks : (a b : Block) (x y : List ℕ) (r : Bool) → IsRead a x → IsRead b y → r ≡ bytes_eq x y → (r ≡ bytes_eq (block_text a) (block_text b)) × (IsTrue r ↔ (a ≡ b))
 same_blocks a b x y r p q e =
-    let first : x ≡ block_text a = sym (block_text_is a x p.read.spelled) in
-    let second : y ≡ block_text b = sym (block_text_is b y q.read.spelled) in
+    let first : x ≡ block_text a = sym (block_text_is a x p.read) in
+    let second : y ≡ block_text b = sym (block_text_is b y q.read) in
     let decides = bytes_eq-Decides x y in (
       e ∙ (λ i. bytes_eq (first i) (second i)),
       (
-        (λ yes. let texts : x ≡ y = decides.0 (sym e ∙ yes) in one_block a b x p.read.spelled (subst (SpellsBlock b) (sym texts) q.read.spelled)),
+        (λ yes. let texts : x ≡ y = decides.0 (sym e ∙ yes) in one_block a b x p.read (subst (SpellsBlock b) (sym texts) q.read)),
         λ same. e ∙ decides.1 (first ∙ ap block_text same ∙ sym second),
       ),
     )

@@ -2,13 +2,12 @@
 use Rattle.std.specs.Prelude.{◌≡◌}
 use Rattle.model.specs.Block.{Block, block_hash_of, body_size_of}
 use Rattle.block.specs.declared.block.Block.TheInside.{Inside}
-use Rattle.model.specs.Block.{empty_block}
 use Rattle.block.specs.View.{header_of}
 use Rattle.block.specs.Read.{IsRead}
 
--- the block: its header and, as long as no transaction is read, none
+-- the block: its header and its transactions
 abbrev pub block_of : Inside → Block
-block_of b = empty_block (header_of b.inner.value.header)
+block_of b = record { header = header_of b.inner.value.header; transactions = b.inner.value.transactions.items }
 
 -- the bytes are read as the block, and what is kept beside them is computed from it
 pub record IsHeld (b : Inside) : Type 0 where

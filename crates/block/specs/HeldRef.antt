@@ -2,13 +2,12 @@
 use Rattle.std.specs.Prelude.{◌≡◌}
 use Rattle.model.specs.Block.{Block, block_hash_of, body_size_of}
 use Rattle.block.specs.declared.block_ref.BlockRef.TheInside.{Inside}
-use Rattle.model.specs.Block.{empty_block}
 use Rattle.block.specs.View.{header_of}
 use Rattle.block.specs.Read.{IsRead}
 
--- the block: its header and, as long as no transaction is read, none
+-- the block: its header and its transactions
 abbrev pub borrowed_block : Inside → Block
-borrowed_block b = empty_block (header_of b.header)
+borrowed_block b = record { header = header_of b.header; transactions = b.transactions.items }
 
 -- the bytes are read as the block, and what is kept beside them is computed from it
 pub record IsHeldRef (b : Inside) : Type 0 where

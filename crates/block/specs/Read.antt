@@ -1,7 +1,7 @@
 -- What it means that bytes are read as a block, and each reason why they are not.
-use Rattle.std.specs.Prelude.{◌≡◌, ◌≢◌, ℕ, ◌≤◌, ◌<◌, List, length}
+use Rattle.std.specs.Prelude.{◌≡◌, ◌≢◌, ℕ, ◌≤◌, ◌<◌, List, [], length}
 use Rattle.model.specs.Limits.{block_size_limit}
-use Rattle.model.specs.Block.{Block, IsReadAs, body_hash_of}
+use Rattle.model.specs.Block.{Block, SpellsBlock, body_hash_of}
 use Rattle.block.specs.declared.fault.NoBlock.{NoBlock}
 use Rattle.block.specs.declared.fault.NoBlock.TheVariants as none
 use Rattle.block.specs.declared.fault.ReadFault.{ReadFault}
@@ -10,34 +10,41 @@ use Rattle.block.specs.declared.fault.ReadFault.TheVariants.{TooLarge, Malformed
 -- the bytes are read as this block: they spell it, they are not too many, and its body has the hash that
 -- its header names
 pub record IsRead (block : Block) (bytes : List ℕ) : Type 0 where
-  pub read : IsReadAs block bytes
+  pub read : SpellsBlock block bytes
   pub size : length bytes ≤ block_size_limit
   pub body : block.header.body_hash ≡ body_hash_of block.transactions
 
 -- the bytes spell no block
 pub record IsMalformed (bytes : List ℕ) : Type 0 where
   pub size : length bytes ≤ block_size_limit
-  pub no_block : (b : Block) → IsReadAs b bytes → ⊥
+  pub no_block : (b : Block) → SpellsBlock b bytes → ⊥
 
 -- the bytes spell a block whose body has another hash than its header names
 pub record IsMismatched (bytes : List ℕ) : Type 0 where
   pub size : length bytes ≤ block_size_limit
   pub block : Block
-  pub read : IsReadAs block bytes
+  pub read : SpellsBlock block bytes
   pub body : block.header.body_hash ≢ body_hash_of block.transactions
 
--- the bytes are read as a block, if only there is memory for it
-pub record IsReadable (bytes : List ℕ) : Type 0 where
-  pub block : Block
-  pub read : IsRead block bytes
+-- The bytes are not too many, and spell no block without transactions: memory is asked for by transactions alone.
+pub record IsUnread (bytes : List ℕ) : Type 0 where
+  pub size : length bytes ≤ block_size_limit
+  pub full : (b : Block) → SpellsBlock b bytes → b.transactions ≡ [] → ⊥
 
--- when bytes are no block: the first reason that applies
+-- when bytes are no block: the first reason that applies, or want of memory
 abbrev pub IsNoBlock : List ℕ → NoBlock → Type 0
 IsNoBlock bytes none.TooLarge = block_size_limit < length bytes
 IsNoBlock bytes none.Malformed = IsMalformed bytes
 IsNoBlock bytes none.BodyHashMismatch = IsMismatched bytes
+IsNoBlock bytes none.OutOfMemory = IsUnread bytes
 
--- when each fault comes: the first reason that applies, or want of memory where none of the others does
+-- The bytes are not too many, and where they spell a block without transactions they are read as it, if only there is
+-- memory for it.
+pub record IsReadable (bytes : List ℕ) : Type 0 where
+  pub size : length bytes ≤ block_size_limit
+  pub empty : (b : Block) → SpellsBlock b bytes → b.transactions ≡ [] → IsRead b bytes
+
+-- when each fault comes: the first reason that applies, or want of memory
 abbrev pub IsReadFault : List ℕ → ReadFault → Type 0
 IsReadFault bytes TooLarge = block_size_limit < length bytes
 IsReadFault bytes Malformed = IsMalformed bytes

@@ -1,11 +1,12 @@
 -- Reading a block from left to right: each reading gives what stands first and the bytes after it, or None
 -- where no such part stands there.
-use Rattle.std.specs.Prelude.{ℕ, List, [], length, Option, Some, None, ◌==◌, if◌then◌else◌}
+use Rattle.std.specs.Prelude.{ℕ, List, length, Option, Some, None, ◌==◌, if◌then◌else◌}
 use Rattle.cbor.specs.Reading.{◌>>=◌, fixed_at}
-use Rattle.cbor.specs.Shapes.{Reading, as_at, bounded_at, optional_at, nothing_at, both_at, array_at}
+use Rattle.cbor.specs.Shapes.{Reading, as_at, bounded_at, optional_at, both_at, array_at, list_array_at}
 use Rattle.model.specs.Limits.{hash_size, number_limit}
 use Rattle.model.specs.Transaction.{Transaction}
 use Rattle.model.specs.Block.{Header, Block}
+use Rattle.tx.specs.TransactionReading.{nested_transaction_at}
 
 -- the hash of the block before, or null
 unfoldable pub previous_at : Reading (Option (List ℕ))
@@ -22,9 +23,9 @@ header_at bytes =
     both_at (bounded_at number_limit) (both_at (bounded_at number_limit) (both_at previous_at (fixed_at hash_size)))
     )) bytes
 
--- the transactions of a body: as long as no transaction is read, the empty array
+-- the transactions of a body, an array; in a block they may nest 62 deep, so that the block nests 64 deep
 unfoldable pub transactions_at : Reading (List Transaction)
-transactions_at bytes = as_at (λ none. []) (array_at 0 nothing_at) bytes
+transactions_at bytes = list_array_at (nested_transaction_at 62) bytes
 
 -- a block of these parts
 abbrev pub block_with : Header × List Transaction → Block

@@ -2,7 +2,7 @@
 
 ghost use Rattle.std.specs.Prelude.{◌≡◌, ◌↔◌, [], option_map, IsTrue, IfOk, IfErr};
 ghost use Rattle.model.specs.Block.{block_text, block_hash_of, body_size_of};
-ghost use Rattle.model.specs.Block.{empty_block};
+ghost use Rattle.block.specs.Reading.{block_with};
 ghost use Rattle.block.specs.View.{bytes_of, header_of};
 ghost use Rattle.block.specs.Read.{IsRead, IsReadFault};
 
@@ -14,6 +14,7 @@ use std::alloc::{AllocError, Global};
 use std::fmt;
 use std::marker::Model;
 use std::sync::Arc;
+use tx::Tx;
 
 /// What the owners of a block share.
 #[derive(Drop)]
@@ -22,6 +23,7 @@ struct Inner {
     hash: BlockHash,
     header: Header,
     body_size: usize,
+    transactions: Vec<Tx>,
 }
 
 /// A block that was read, with its bytes and its hash. The owners of a block share one allocation.
@@ -96,6 +98,13 @@ impl Block {
         self.inner.body_size
     }
 
+    /// The transactions of the block, in order. Copies nothing.
+    pub fn transactions(&self) -> &[Tx]
+        ensures { result.now ≡ self.now.transactions }
+    {
+        &self.inner.transactions
+    }
+
     /// Whether the block has no transactions.
     pub fn is_empty(&self) -> bool
         ensures { IsTrue result ↔ (self.now.transactions ≡ []) }
@@ -159,17 +168,20 @@ fn share(
     hash: BlockHash,
     header: Header,
     body_size: usize,
+    transactions: Vec<Tx>,
 ) -> Result<Arc<Inner>, AllocError>
     ensures header { IfOk result (λ inner. inner.value.header ≡ header) }
     ensures bytes { IfOk result (λ inner. inner.value.bytes.items ≡ bytes.now) }
     ensures hash { IfOk result (λ inner. inner.value.hash ≡ hash) }
     ensures body_size { IfOk result (λ inner. inner.value.body_size ≡ body_size) }
+    ensures transactions { IfOk result (λ inner. inner.value.transactions.items ≡ transactions.items) }
 {
     let inner = Inner {
         bytes: Vec::from_slice(alloc, bytes)?,
         hash,
         header,
         body_size,
+        transactions,
     };
     Ok(Arc::new(alloc, inner)?)
 }
@@ -182,13 +194,14 @@ impl Block {
         hash: BlockHash,
         header: Header,
         body_size: usize,
+        transactions: Vec<Tx>,
     ) -> Result<Block, AllocError>
-        requires read { IsRead (empty_block (header_of header)) bytes.now }
-        requires hash { hash.bytes ≡ block_hash_of (empty_block (header_of header)) }
-        requires body_size { body_size ≡ body_size_of (empty_block (header_of header)) }
-        ensures { IfOk result (λ b. b ≡ empty_block (header_of header)) }
+        requires read { IsRead (block_with (header_of header, transactions.items)) bytes.now }
+        requires hash { hash.bytes ≡ block_hash_of (block_with (header_of header, transactions.items)) }
+        requires body_size { body_size ≡ body_size_of (block_with (header_of header, transactions.items)) }
+        ensures { IfOk result (λ b. b ≡ block_with (header_of header, transactions.items)) }
     {
-        let inner = share(alloc, bytes, hash, header, body_size)?;
+        let inner = share(alloc, bytes, hash, header, body_size, transactions)?;
         Ok(Block { inner })
     }
 }
@@ -196,14 +209,12 @@ impl Block {
 /// The block that the bytes spell (RFC 8949, section 4.2.1), with a copy of them. Else the first of these
 /// faults that applies:
 /// - TooLarge: there are more than 1,048,576 bytes;
-/// - Malformed: the bytes are the text of no block. As long as no transaction is read, the text of a block
-///   with transactions is Malformed too;
+/// - Malformed: the bytes are the text of no block;
 /// - BodyHashMismatch: the header names another hash than the SHA-256 digest (FIPS 180-4) of the body's text;
-/// - OutOfMemory: the bytes are read as a block, and one of two allocations failed, of which the larger has the size of
-///   the bytes.
+/// - OutOfMemory: memory ran out, which may stand for Malformed and BodyHashMismatch where the body has transactions.
 ///
-/// The cost grows with the bytes: one digest of the body's text, and where the block is read one of the
-/// header's and one copy of the bytes.
+/// The cost grows with the bytes: a digest of the body's text, one of the header's, those that identify transactions
+/// and scripts, and one copy of the bytes.
 ///
 /// ```text
 /// let block = block::read(alloc, &bytes)?;
@@ -213,13 +224,14 @@ pub fn read(alloc: Global, bytes: &[u8]) -> Result<Block, ReadFault>
     ensures ok { IfOk result (λ b. IsRead b bytes.now) }
     ensures fault { IfErr result (λ e. IsReadFault bytes.now e) }
 {
-    let found = match look(bytes) {
+    let found = match look(alloc, bytes) {
         Ok(found) => found,
         Err(NoBlock::TooLarge) => return Err(ReadFault::TooLarge),
         Err(NoBlock::Malformed) => return Err(ReadFault::Malformed),
         Err(NoBlock::BodyHashMismatch) => return Err(ReadFault::BodyHashMismatch),
+        Err(NoBlock::OutOfMemory) => return Err(ReadFault::OutOfMemory),
     };
-    match found.to_block(alloc) {
+    match found.into_block(alloc) {
         Ok(block) => Ok(block),
         Err(AllocError) => Err(ReadFault::OutOfMemory),
     }

@@ -8,20 +8,23 @@ use crate::block::Block;
 use crate::fault::NoBlock;
 use crate::header::Header;
 use crate::reading;
+use cbor::CborFault;
 use ident::{BlockHash, BodyHash};
 use std::alloc::{AllocError, Global};
 use std::marker::Model;
+use tx::Tx;
 
 /// The largest size of a block, in bytes.
 pub const MAX_BLOCK_SIZE: usize = 1_048_576;
 
-/// A block in bytes that are borrowed: it was read and hashed, and nothing is copied.
+/// A block in bytes that are borrowed: it was read and hashed, and of its bytes none are copied.
 #[derive(Drop)]
 pub struct BlockRef<'a> {
     bytes: &'a [u8],
     hash: BlockHash,
     header: Header,
     body_size: usize,
+    transactions: Vec<Tx>,
 }
 
 impl<'a> Model for BlockRef<'a> {
@@ -68,11 +71,18 @@ impl<'a> BlockRef<'a> {
         same_bytes(other.bytes(), self.bytes)
     }
 
-    /// The block with a copy of the bytes, in two allocations.
-    pub fn to_block(&self, alloc: Global) -> Result<Block, AllocError>
-        ensures { IfOk result (λ b. b ≡ self.now) }
+    /// The block with a copy of the bytes, in two allocations. Its transactions are moved.
+    pub fn into_block(self, alloc: Global) -> Result<Block, AllocError>
+        ensures { IfOk result (λ b. b ≡ self.entry) }
     {
-        Block::of_parts(alloc, self.bytes, self.hash, self.header, self.body_size)
+        Block::of_parts(
+            alloc,
+            self.bytes,
+            self.hash,
+            self.header,
+            self.body_size,
+            self.transactions,
+        )
     }
 }
 
@@ -90,17 +100,20 @@ fn is_same(a: &BodyHash, b: &BodyHash) -> bool
     a == b
 }
 
-/// The block that the bytes spell, or the first reason why they are none: [`crate::read`] without the copy. Takes no
-/// memory. The cost grows with the bytes: one digest of the body's text and one of the header's.
-pub fn look(bytes: &[u8]) -> Result<BlockRef<'_>, NoBlock>
+/// The block that the bytes spell, or the first reason why they are none: [`crate::read`] without the copy. Memory is
+/// asked for while transactions are read, and by a block without transactions never. The cost grows with the bytes: one
+/// digest of the body's text, one of the header's, and those that identify transactions and scripts.
+pub fn look(alloc: Global, bytes: &[u8]) -> Result<BlockRef<'_>, NoBlock>
     ensures ok { IfOk result (λ b. IsRead b bytes.now) }
     ensures fault { IfErr result (λ e. IsNoBlock bytes.now e) }
 {
     if bytes.len() > MAX_BLOCK_SIZE {
         return Err(NoBlock::TooLarge);
     }
-    let Some(parts) = reading::parts_of(bytes) else {
-        return Err(NoBlock::Malformed);
+    let parts = match reading::parts_of(alloc, bytes) {
+        Ok(parts) => parts,
+        Err(CborFault::Malformed) => return Err(NoBlock::Malformed),
+        Err(CborFault::OutOfMemory) => return Err(NoBlock::OutOfMemory),
     };
     if !is_same(&BodyHash::of_body(parts.body_text), &parts.header.body_hash) {
         return Err(NoBlock::BodyHashMismatch);
@@ -110,5 +123,6 @@ pub fn look(bytes: &[u8]) -> Result<BlockRef<'_>, NoBlock>
         hash: BlockHash::of_header(parts.header_text),
         header: parts.header,
         body_size: parts.body_text.len(),
+        transactions: parts.transactions,
     })
 }

@@ -19,6 +19,10 @@ pub enum NoBlock {
     /// The header names another body hash than the body's.
     #[error("the body has another hash than the header names")]
     BodyHashMismatch,
+    /// Memory ran out while transactions were read: the bytes are not too many, and not the text of a block without
+    /// any.
+    #[error("out of memory")]
+    OutOfMemory,
 }
 
 /// Why bytes are not read as a block, in the order in which the reasons are looked for.
@@ -33,7 +37,8 @@ pub enum ReadFault {
     /// The header names another body hash than the body's.
     #[error("the body has another hash than the header names")]
     BodyHashMismatch,
-    /// The bytes are a block, and there is no memory for it.
+    /// Memory ran out: the bytes are not too many, and where they are the text of a block without transactions they are
+    /// read as it.
     #[error("out of memory")]
     OutOfMemory,
 }

@@ -17,4 +17,6 @@ pub use laws::one_answer;
 pub use writing::{empty_body_hash, write_empty};
 
 #[cfg(test)]
+mod full_tests;
+#[cfg(test)]
 mod tests;

@@ -1,15 +1,22 @@
-//! Readers of the parts of a block's text (RFC 8949, sections 3 and 4.2.1): from a slice to what stands
-//! first and the bytes after it. None of them allocates, and each takes constant time.
+//! Readers of the parts of a block's text (RFC 8949, sections 3 and 4.2.1): from a slice to what stands first and the
+//! bytes after it. Transactions alone ask for memory; the time is linear in the bytes.
 
-ghost use Rattle.std.specs.Prelude.{◌≡◌, [], option_map, IfSome};
+ghost use Rattle.std.specs.Prelude.{◌≡◌, ℕ, List, [], Some, option_map, IfOk, OnErr};
 ghost use Rattle.model.specs.Cbor.{text_of};
-ghost use Rattle.model.specs.Block.{item_of_header, item_of_transactions};
-ghost use Rattle.model.specs.Block.{empty_block};
+ghost use Rattle.model.specs.Block.{Block, item_of_header, item_of_transactions};
+ghost use Rattle.cbor.specs.Gives.{Gives};
 ghost use Rattle.block.specs.View.{bytes_of, header_of};
+ghost use Rattle.block.specs.PartsView.{parts_block};
 ghost use Rattle.block.specs.Reading.{previous_at, header_at, transactions_at, block_at};
 
 use crate::header::{Header, NUMBER_LIMIT};
+use cbor::CborFault;
 use ident::{BlockHash, BodyHash};
+use std::alloc::Global;
+use tx::Tx;
+
+/// How deep a transaction may nest in a block: it stands two deep in it, and items nest at most 64 deep.
+const NESTING: usize = 62;
 
 /// The hash of the block before, or null where there is none.
 #[tactic(auto, unfolding(crate::specs::Reading::previous_at, cbor::specs::Shapes::optional_at))]
@@ -41,38 +48,47 @@ fn header(bytes: &[u8]) -> Option<(Header, &[u8])>
     Some((header, rest))
 }
 
-/// The transactions of a body: as long as no transaction is read, the empty array. The bytes after it.
-#[tactic(auto, unfolding(crate::specs::Reading::transactions_at, cbor::specs::Shapes::as_at, cbor::specs::Shapes::array_at))]
-fn transactions(bytes: &[u8]) -> Option<&[u8]>
-    ensures { option_map (λ x. ([], x.now)) result ≡ transactions_at bytes.now }
+/// The transactions of a body, and the bytes after it. An empty body asks for no memory.
+#[tactic(auto, using(tx::proofs::ForCallers::same_list), unfolding(crate::specs::Reading::transactions_at, cbor::specs::Shapes::list_array_at))]
+fn transactions(alloc: Global, bytes: &[u8]) -> Result<(Vec<Tx>, &[u8]), CborFault>
+    ensures exact { Gives (λ x. (x.0.items, x.1.now)) result (transactions_at bytes.now) }
+    ensures some { OnErr result ((rest : List ℕ) → transactions_at bytes.now ≡ Some ([], rest) → ⊥) }
 {
-    cbor::members(bytes, 0)
+    let (count, first) = cbor::array(bytes).ok_or(CborFault::Malformed)?;
+    if count == 0 {
+        return Ok((Vec::new(alloc), first));
+    }
+    cbor::list::<Tx>(alloc, NESTING, count, first)
 }
 
-/// A block's header, and the two parts of its text that are hashed.
+/// A block's header and transactions, and the two parts of its text that are hashed.
 #[derive(Drop)]
 pub struct Parts<'a> {
     pub header: Header,
+    pub transactions: Vec<Tx>,
     pub header_text: &'a [u8],
     pub body_text: &'a [u8],
 }
 
-/// The parts of the block that the bytes spell. None where they spell no block.
+/// The parts of the block that the bytes spell. Malformed where they spell no block. Where the body is empty no memory
+/// is asked for.
 #[tactic(auto, unfolding(crate::specs::Reading::block_at, crate::specs::Reading::parts_at, cbor::specs::Shapes::as_at, cbor::specs::Shapes::array_at, cbor::specs::Shapes::both_at))]
-pub fn parts_of(bytes: &[u8]) -> Option<Parts<'_>>
-    ensures exact { option_map (λ p. empty_block (header_of p.header)) result ≡ block_at bytes.now }
-    ensures header_text { IfSome result (λ p. p.header_text.now ≡ text_of (item_of_header (header_of p.header))) }
-    ensures body_text { IfSome result (λ p. p.body_text.now ≡ text_of (item_of_transactions [])) }
+pub fn parts_of(alloc: Global, bytes: &[u8]) -> Result<Parts<'_>, CborFault>
+    ensures exact { Gives parts_block result (block_at bytes.now) }
+    ensures some { OnErr result ((b : Block) → block_at bytes.now ≡ Some b → b.transactions ≡ [] → ⊥) }
+    ensures header_text { IfOk result (λ p. p.header_text.now ≡ text_of (item_of_header (header_of p.header))) }
+    ensures body_text { IfOk result (λ p. p.body_text.now ≡ text_of (item_of_transactions p.transactions.items)) }
 {
-    let members = cbor::members(bytes, 2)?;
-    let (header, body_text) = header(members)?;
-    let after = transactions(body_text)?;
+    let members = cbor::members(bytes, 2).ok_or(CborFault::Malformed)?;
+    let (header, body_text) = header(members).ok_or(CborFault::Malformed)?;
+    let (transactions, after) = transactions(alloc, body_text)?;
     if !after.is_empty() {
-        return None;
+        return Err(CborFault::Malformed);
     }
     let (header_text, _) = members.split_at(members.len() - body_text.len());
-    Some(Parts {
+    Ok(Parts {
         header,
+        transactions,
         header_text,
         body_text,
     })

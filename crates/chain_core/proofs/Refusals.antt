@@ -48,7 +48,7 @@ pub none_of_reading : (genesis : Genesis) (s : State) (b : Block) (bytes : List 
 none_of_reading genesis s b bytes read TooLarge lower applies = let size = read.size in omega arith
 none_of_reading genesis s b bytes read Malformed lower applies = applies b read.read
 none_of_reading genesis s b bytes read BodyHashMismatch lower applies =
-    applies.2 (subst (λ (c : Block). c.header.body_hash ≡ body_hash_of c.transactions) (one_block b applies.0 bytes read.read.spelled applies.1.spelled) read.body)
+    applies.2 (subst (λ (c : Block). c.header.body_hash ≡ body_hash_of c.transactions) (one_block b applies.0 bytes read.read applies.1) read.body)
 none_of_reading genesis s b bytes read TooOld lower applies = omega arith
 none_of_reading genesis s b bytes read Known lower applies = omega arith
 none_of_reading genesis s b bytes read Clash lower applies = omega arith
@@ -56,7 +56,7 @@ none_of_reading genesis s b bytes read VolatileFull lower applies = omega arith
 
 pub old_applies : (genesis : Genesis) (kept chain : List Block) (b : Block) (bytes : List ℕ) → IsRead b bytes → Applies genesis (state kept chain) bytes TooOld ↔ (b.header.number ≤ immutable_length genesis chain)
 old_applies genesis kept chain b bytes read = (
-  (λ applies. subst (λ (c : Block). c.header.number ≤ immutable_length genesis chain) (one_block applies.0 b bytes applies.1.spelled read.read.spelled) applies.2),
+  (λ applies. subst (λ (c : Block). c.header.number ≤ immutable_length genesis chain) (one_block applies.0 b bytes applies.1 read.read) applies.2),
   (λ le. (b, read.read, le)),
 )
 
@@ -66,7 +66,7 @@ any_member P bs c member holds = (member.0, c, member.1, member.2, holds)
 pub known_applies : (genesis : Genesis) (kept chain : List Block) (b : Block) (bytes : List ℕ) → IsRead b bytes
     → Applies genesis (state kept chain) bytes Known ↔ Any (λ c. (immutable_length genesis chain < c.header.number) × (block_text c ≡ block_text b)) kept
 known_applies genesis kept chain b bytes read =
-    let text : block_text b ≡ bytes = block_text_is b bytes read.read.spelled in (
+    let text : block_text b ≡ bytes = block_text_is b bytes read.read in (
       (λ applies. any_member (λ c. (immutable_length genesis chain < c.header.number) × (block_text c ≡ block_text b)) kept applies.0 (live_is_kept genesis kept chain applies.0 applies.1)
           (live_number genesis kept chain applies.0 applies.1, applies.2 ∙ sym text)),
       (λ any. (any.1, contains_filter (λ d. nat_lt (immutable_length genesis chain) d.header.number) kept any.1 (any.0, any.2, any.3) (lt-ltb (immutable_length genesis chain) any.1.header.number any.4.0), any.4.1 ∙ text)),
@@ -77,12 +77,12 @@ pub clash_applies : (genesis : Genesis) (kept chain : List Block) (b : Block) (b
 clash_applies genesis kept chain b bytes read = (to, back)
   where
     text : block_text b ≡ bytes
-    text = block_text_is b bytes read.read.spelled
+    text = block_text_is b bytes read.read
 
     to : Applies genesis (state kept chain) bytes Clash → Any (λ c. (immutable_length genesis chain < c.header.number) × IsClash c b) kept ⊎ Any (λ c. IsClash c b) chain
     to applies =
         let c = applies.2.0 in
-        let same : applies.0 ≡ b = one_block applies.0 b bytes applies.1.spelled read.read.spelled in
+        let same : applies.0 ≡ b = one_block applies.0 b bytes applies.1 read.read in
         let clash : IsClash c b = (applies.2.2 ∙ ap block_hash_of same, λ texts. applies.2.3 (texts ∙ text)) in
         elim applies.2.1 [
           | inl live ↦ inl (any_member (λ d. (immutable_length genesis chain < d.header.number) × IsClash d b) kept c (live_is_kept genesis kept chain c live) (live_number genesis kept chain c live, clash))

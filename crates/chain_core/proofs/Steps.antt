@@ -4,7 +4,7 @@ use Rattle.std.specs.Prelude.{nat_lt}
 use Rattle.std.specs.List.{AllByRecursion}
 use Rattle.std.proofs.lemmas.Bool.{lt-ltb, ltb-true}
 use Rattle.std.proofs.lemmas.List.Elements.{Contains-append_left, Contains-push, Contains-push_cases, filter-append}
-use Rattle.model.specs.Block.{Block, IsReadAs, block_hash_of}
+use Rattle.model.specs.Block.{Block, SpellsBlock, block_hash_of}
 use Rattle.model.specs.Chain.{Genesis, IsSelection, Stays, Changes, HaveDistinctHashes, immutable_length, live_blocks}
 use Rattle.model.specs.Follower.{Followers}
 use Rattle.model.specs.History.{State, opening, live_of, Refusal, TooLarge, Malformed, BodyHashMismatch, TooOld, Known, Clash, VolatileFull, Applies, IsRefused, Arrive, Kept, Refused, IsChange, Keeps, Step}
@@ -59,13 +59,13 @@ distinct_push [] b distinct apart = (tt, tt)
 distinct_push (x ∷ xs) b distinct apart =
     (all_push (λ c. block_hash_of c ≢ block_hash_of x) xs b distinct.0 (λ same. apart.0 (sym same)), distinct_push xs b distinct.1 apart.1)
 
-new_hash : (genesis : Genesis) (kept chain : List Block) (bytes : List ℕ) (b : Block) → IsReadAs b bytes → ((refusal : Refusal) → Applies genesis (state kept chain) bytes refusal → ⊥)
+new_hash : (genesis : Genesis) (kept chain : List Block) (bytes : List ℕ) (b : Block) → SpellsBlock b bytes → ((refusal : Refusal) → Applies genesis (state kept chain) bytes refusal → ⊥)
     → AllByRecursion (λ c. block_hash_of c ≢ block_hash_of b) (live_blocks genesis kept chain)
 new_hash genesis kept chain bytes b read not_refused =
     all_from_members (λ c. block_hash_of c ≢ block_hash_of b) (live_blocks genesis kept chain)
     (λ c member same. not_refused Clash (b, read, (c, inl member, same, λ text. not_refused Known (c, member, text))))
 
-distinct_pushed : (genesis : Genesis) (kept chain : List Block) (bytes : List ℕ) (b : Block) → HaveDistinctHashes (live_blocks genesis kept chain) → IsReadAs b bytes
+distinct_pushed : (genesis : Genesis) (kept chain : List Block) (bytes : List ℕ) (b : Block) → HaveDistinctHashes (live_blocks genesis kept chain) → SpellsBlock b bytes
     → ((refusal : Refusal) → Applies genesis (state kept chain) bytes refusal → ⊥) → HaveDistinctHashes (live_blocks genesis (kept ++ b ∷ []) chain)
 distinct_pushed genesis kept chain bytes b distinct read not_refused =
     subst HaveDistinctHashes (sym (filter-append (λ d. nat_lt (immutable_length genesis chain) d.header.number) kept (b ∷ []))) (with_test (nat_lt (immutable_length genesis chain) b.header.number))
@@ -84,7 +84,7 @@ selection_members genesis kept old new members (Stays none) = members
 selection_members genesis kept old new members (Changes c chosen) = chosen.candidate.members
 
 -- with a block that is not refused the core is sound
-pub sound_with : (genesis : Genesis) (kept chain : List Block) (bytes : List ℕ) (b : Block) → IsSound genesis kept chain → IsReadAs b bytes
+pub sound_with : (genesis : Genesis) (kept chain : List Block) (bytes : List ℕ) (b : Block) → IsSound genesis kept chain → SpellsBlock b bytes
     → ((refusal : Refusal) → Applies genesis (state kept chain) bytes refusal → ⊥) → IsSound genesis (kept ++ b ∷ []) chain
 sound_with genesis kept chain bytes b sound read not_refused = record {
   valid = sound.valid;
@@ -135,7 +135,7 @@ pub record KeptStep (genesis : Genesis) (kept chain : List Block) (b : Block) (b
   pub chain_kept : AllByRecursion (Contains (b ∷ other)) new
 
 pub kept_step : (genesis : Genesis) (kept chain : List Block) (b : Block) (bytes : List ℕ) (new : List Block) (back added : ℕ) (other : List Block) (followers : Followers) → IsSound genesis kept chain
-    → SameLive genesis chain kept other → AllByRecursion (Contains other) chain → IsReadAs b bytes → ((refusal : Refusal) → Applies genesis (state kept chain) bytes refusal → ⊥)
+    → SameLive genesis chain kept other → AllByRecursion (Contains other) chain → SpellsBlock b bytes → ((refusal : Refusal) → Applies genesis (state kept chain) bytes refusal → ⊥)
     → IsSelection genesis (kept ++ b ∷ []) chain new → IsChange chain new back added → KeptStep genesis kept chain b bytes new back added other followers
 kept_step genesis kept chain b bytes new back added other followers sound same chain_kept read not_refused selection change =
     let all = kept ++ b ∷ [] in
@@ -201,7 +201,7 @@ none_over genesis kept chain bytes followers none s stands r applies =
 
 -- a block that is kept is kept by each state
 pub kept_step_of : (genesis : Genesis) (kept chain : List Block) (b : Block) (bytes : List ℕ) (new : List Block) (back added : ℕ) (followers : Followers) (s : State) → IsSound genesis kept chain
-    → IsReadAs b bytes → ((refusal : Refusal) → Applies genesis (state kept chain) bytes refusal → ⊥)
+    → SpellsBlock b bytes → ((refusal : Refusal) → Applies genesis (state kept chain) bytes refusal → ⊥)
     → IsSelection genesis (kept ++ b ∷ []) chain new → IsChange chain new back added
     → Stands (held_of genesis kept chain followers) s → (t : State) × Step genesis s (Arrive bytes) (Kept back added) t × Stands (held_of genesis (kept ++ b ∷ []) new followers) t
 kept_step_of genesis kept chain b bytes new back added followers s sound read not_refused selection change stands =

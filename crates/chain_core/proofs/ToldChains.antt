@@ -3,7 +3,7 @@ use Rattle.std.proofs.Common.{◌≡◌, ℕ, zero, suc, ◌<◌, ◌≤◌, Lis
 use Rattle.std.specs.Prelude.{slice_get, slice_set, OnErr, IfErr, IsErrAnd}
 use Rattle.std.specs.Global.{Vec}
 use Rattle.std.proofs.lemmas.List.{length_push, map-set}
-use Rattle.model.specs.Block.{Block, IsReadAs, block_text}
+use Rattle.model.specs.Block.{Block, SpellsBlock, block_text}
 use Rattle.model.specs.Chain.{BeginsWith}
 use Rattle.model.specs.Follower.{Followers, Instruction, told_by, free_id, with_opened, MayBeTold, AddBlock, IsDue, IsNextInstruction}
 use Rattle.model.proofs.Changes.{taken_with}
@@ -16,14 +16,14 @@ begins_longer chain told b begins next =
     let step : length (told ++ b ∷ []) ≡ suc (length told) = omega (arith, length_push told b) in
     ap (λ n. take n chain) step ∙ ((taken_with chain (length told) b next).1 ∙ ap (λ (bs : List Block). bs ++ b ∷ []) begins)
 
-pub next_told : (chain told shown new : List Block) (b shared clone : Block) → shown ≡ told → BeginsWith chain shown → slice_get chain (length shown) ≡ Some b → IsReadAs b (block_text b) → shared ≡ b → clone ≡ b → new ≡ told ++ clone ∷ []
+pub next_told : (chain told shown new : List Block) (b shared clone : Block) → shown ≡ told → BeginsWith chain shown → slice_get chain (length shown) ≡ Some b → SpellsBlock b (block_text b) → shared ≡ b → clone ≡ b → new ≡ told ++ clone ∷ []
     → MayBeTold chain told (AddBlock (block_text shared)) new
 next_told chain told shown new b shared clone same begins next read is_shared is_clone pushed =
     let longer : new ≡ told ++ b ∷ [] = pushed ∙ ap (λ (c : Block). told ++ c ∷ []) is_clone in
     let begins' : BeginsWith chain told = subst (BeginsWith chain) same begins in
     let next' : slice_get chain (length told) ≡ Some b = subst (λ (bs : List Block). slice_get chain (length bs) ≡ Some b) same next in
     record {
-      replayed = (b, subst (λ (c : Block). IsReadAs b (block_text c)) (sym is_shared) read, longer);
+      replayed = (b, subst (λ (c : Block). SpellsBlock b (block_text c)) (sym is_shared) read, longer);
       told = inr (subst (BeginsWith chain) (sym longer) (begins_longer chain told b begins' next'));
     }
 

@@ -48,9 +48,10 @@ impl Model for Core {
 }
 
 impl Core {
-    ghost use Rattle.std.specs.Prelude.{◌≡◌, ◌<◌, IfOk, IfErr, OnErr};
+    ghost use Rattle.std.specs.Prelude.{◌≡◌, ◌<◌, ◌≤◌, [], length, IfOk, IfErr, OnErr};
+    ghost use Rattle.model.specs.Block.{Block as Plain, SpellsBlock};
     ghost use Rattle.model.specs.Chain.{tip_point};
-    ghost use Rattle.model.specs.Limits.{follower_limit};
+    ghost use Rattle.model.specs.Limits.{block_size_limit, follower_limit};
     ghost use Rattle.model.specs.Follower.{free_id};
     ghost use Rattle.model.specs.History as history;
     ghost use Rattle.model.specs.History.{State, Arrive, Open, Next, Step, IsRun, ChainTheorem, Applies};
@@ -76,30 +77,34 @@ impl Core {
     /// Bytes of a block arrive. They are refused for the first reason that applies, or the block is kept and
     /// the chain is selected anew. Where memory runs out nothing changes.
     ///
-    /// Reads and hashes the bytes once, and copies them once where they aren't refused: a refusal takes no memory.
-    /// Takes time that grows with the kept blocks times the longest fork past the immutable tip.
+    /// Reads and hashes the bytes once, and copies them once where they aren't refused. A refusal takes no memory, but
+    /// for the transactions that are read before it is known. Takes time that grows with the kept
+    /// blocks times the longest fork past the immutable tip.
     pub fn arrive(&mut self, bytes: &[u8]) -> Result<ArriveReply, AllocError>
         // For every state of the definitions that the core stands for, this is a step to one that it then stands for.
         ensures step { (s : State) → Stands self.old s → (t : State)
             × Step self.old.genesis s (Arrive bytes.now) (arrive_reply_of result) t × Stands self.new t }
-        // Memory is asked for only where no refusal applies.
-        ensures memory { OnErr result ((s : State) → Stands self.old s → (refusal : history.Refusal)
-            → Applies self.old.genesis s bytes.now refusal → ⊥) }
+        // Memory is asked for while transactions are read, and else only where no refusal applies.
+        ensures memory { OnErr result ((b : Plain) → SpellsBlock b bytes.now → b.transactions ≡ [] →
+            (s : State) → Stands self.old s → (refusal : history.Refusal) →
+            Applies self.old.genesis s bytes.now refusal → ⊥) }
+        ensures size { OnErr result (length bytes.now ≤ block_size_limit) }
         ensures genesis { self.new.genesis ≡ self.old.genesis }
         ensures err { OnErr result (self.new ≡ self.old) }
     {
-        let found = match block::look(bytes) {
+        let found = match block::look(self.alloc, bytes) {
             Ok(found) => found,
             Err(NoBlock::TooLarge) => return Ok(ArriveReply::Refused(Refusal::TooLarge)),
             Err(NoBlock::Malformed) => return Ok(ArriveReply::Refused(Refusal::Malformed)),
             Err(NoBlock::BodyHashMismatch) => {
                 return Ok(ArriveReply::Refused(Refusal::BodyHashMismatch));
             }
+            Err(NoBlock::OutOfMemory) => return Err(AllocError),
         };
         if let Some(refusal) = first_refusal(&self.genesis, &self.kept, &self.chain, &found) {
             return Ok(ArriveReply::Refused(refusal));
         }
-        let block = found.to_block(self.alloc)?;
+        let block = found.into_block(self.alloc)?;
         let change = keep(
             self.alloc,
             &self.genesis,

@@ -3,7 +3,7 @@ use Rattle.std.proofs.Common.{◌≡◌, ◌≢◌, ℕ, ◌<◌, ◌≤◌, ◌
 use Rattle.std.specs.Prelude.{nat_lt, slice_set}
 use Rattle.std.specs.List.{AllByRecursion, filter}
 use Rattle.std.proofs.lemmas.Bool.{lt-ltb, ltb-true}
-use Rattle.model.specs.Block.{Block, IsReadAs, block_hash_of}
+use Rattle.model.specs.Block.{Block, SpellsBlock, block_hash_of}
 use Rattle.model.specs.Chain.{Genesis, IsValidChain, NoneLonger, IsSelection, HaveDistinctHashes, immutable_length, immutable_part, live_blocks, BeginsWith}
 use Rattle.model.specs.Follower.{Instruction, Stay, AddBlock, RollBack, IsReplayed}
 use Rattle.model.specs.History.{State, opening, live_of, Refusal, Known, Clash, Applies, Event, Arrive, Open, Next, Reply, Kept, Refused, Opened, TooManyFollowers, Instructed, UnknownFollower, OutOfMemory, Keeps, Instructs, Step, Entry, IsRun, IsLegal, BringsBlock, IsKeptBy, length_with, length_from}
@@ -25,14 +25,14 @@ narrower_distinct p q (x ∷ xs) narrower distinct = one (p x) (q x) (narrower x
     one false true n d more = absurd (let e : false ≡ true = n refl in cc)
 
 -- a block that is not refused has another hash than the live blocks
-new_hash : (genesis : Genesis) (s : State) (bytes : List ℕ) (b : Block) → IsReadAs b bytes → ((refusal : Refusal) → Applies genesis s bytes refusal → ⊥)
+new_hash : (genesis : Genesis) (s : State) (bytes : List ℕ) (b : Block) → SpellsBlock b bytes → ((refusal : Refusal) → Applies genesis s bytes refusal → ⊥)
     → AllByRecursion (λ c. block_hash_of c ≢ block_hash_of b) (live_of genesis s)
 new_hash genesis s bytes b spelled not_refused =
     all_from_members (λ c. block_hash_of c ≢ block_hash_of b) (live_of genesis s)
     (λ c member same. not_refused Clash (b, spelled, (c, inl member, same, λ text. not_refused Known (c, member, text))))
 
 -- with a block that is not refused the live blocks have distinct hashes still
-pub distinct_with : (genesis : Genesis) (s : State) (bytes : List ℕ) (b : Block) → HaveDistinctHashes (live_of genesis s) → IsReadAs b bytes
+pub distinct_with : (genesis : Genesis) (s : State) (bytes : List ℕ) (b : Block) → HaveDistinctHashes (live_of genesis s) → SpellsBlock b bytes
     → ((refusal : Refusal) → Applies genesis s bytes refusal → ⊥) → HaveDistinctHashes (live_blocks genesis (b ∷ s.kept) s.chain)
 distinct_with genesis s bytes b distinct spelled not_refused = with_test (nat_lt (immutable_length genesis s.chain) b.header.number)
   where
@@ -117,7 +117,7 @@ legal_sound genesis history s legal = run_sound genesis opening history s (openi
 
 keeps_one : (genesis : Genesis) (s : State) (bytes : List ℕ) (back added : ℕ) (t u : State) → IsSoundState genesis s → Keeps genesis s bytes back added t → Keeps genesis s bytes back added u → t ≡ u
 keeps_one genesis s bytes back added t u sound first second =
-    let blocks : first.block ≡ second.block = one_block first.block second.block bytes first.read.spelled second.read.spelled in
+    let blocks : first.block ≡ second.block = one_block first.block second.block bytes first.read second.read in
     let kept : t.kept ≡ u.kept = first.kept ∙ (ap (λ (b : Block). b ∷ s.kept) blocks ∙ sym second.kept) in
     let distinct : HaveDistinctHashes (live_blocks genesis u.kept s.chain) = subst (λ (bs : List Block). HaveDistinctHashes (live_blocks genesis bs s.chain)) (sym second.kept) (distinct_with genesis s bytes second.block sound.distinct second.read second.not_refused) in
     let chain : t.chain ≡ u.chain = one_selection genesis u.kept s.chain t.chain u.chain distinct (subst (λ (bs : List Block). IsSelection genesis bs s.chain t.chain) kept first.selection) second.selection in
@@ -129,7 +129,7 @@ some_same x y e = cc
 
 replayed_one : (old : List Block) (instruction : Instruction) (a b : List Block) → IsReplayed old instruction a → IsReplayed old instruction b → a ≡ b
 replayed_one old Stay a b first second = first ∙ sym second
-replayed_one old (AddBlock bytes) a b first second = first.2 ∙ (ap (λ (c : Block). old ++ c ∷ []) (one_block first.0 second.0 bytes first.1.spelled second.1.spelled) ∙ sym second.2)
+replayed_one old (AddBlock bytes) a b first second = first.2 ∙ (ap (λ (c : Block). old ++ c ∷ []) (one_block first.0 second.0 bytes first.1 second.1) ∙ sym second.2)
 replayed_one old (RollBack point) a b first second = first.0 ∙ sym second.0
 
 instructs_one : (s : State) (id : ℕ) (instruction : Instruction) (t u : State) → Instructs s id instruction t → Instructs s id instruction u → t ≡ u
@@ -159,7 +159,7 @@ run_one genesis s (e ∷ es) t u sound first second =
 kept_or_brought : (genesis : Genesis) (s : State) (event : Event) (reply : Reply) (t : State) (b : Block) → Kind genesis s event reply t → Contains s.kept b ⊎ BringsBlock event reply b → Contains t.kept b
 kept_or_brought genesis s event reply t b (Keeping bytes back added u keeps) (inl member) = subst (λ (bs : List Block). Contains bs b) (sym keeps.kept) (contains_later keeps.block s.kept b member)
 kept_or_brought genesis s event reply t b (Keeping bytes back added u keeps) (inr read) =
-    subst (λ (bs : List Block). Contains bs b) (sym keeps.kept) (subst (λ (c : Block). Contains (c ∷ s.kept) b) (one_block b keeps.block bytes read.spelled keeps.read.spelled) (contains_first b s.kept))
+    subst (λ (bs : List Block). Contains bs b) (sym keeps.kept) (subst (λ (c : Block). Contains (c ∷ s.kept) b) (one_block b keeps.block bytes read keeps.read) (contains_first b s.kept))
 kept_or_brought genesis s event reply t b (Quiet e r u quiet) (inl member) = subst (λ (bs : List Block). Contains bs b) (sym quiet.kept) member
 kept_or_brought genesis s event reply t b (Quiet e r u quiet) (inr brought) = absurd (quiet.brings_none b brought)
 
@@ -176,7 +176,7 @@ kept_after genesis s (e ∷ es) t b run (inr (inr later)) = kept_after genesis r
 kind_came_from : (genesis : Genesis) (s : State) (event : Event) (reply : Reply) (t : State) (b : Block) → Kind genesis s event reply t → Contains t.kept b → Contains s.kept b ⊎ BringsBlock event reply b
 kind_came_from genesis s event reply t b (Keeping bytes back added u keeps) member =
     elim (contains_cases keeps.block s.kept b (subst (λ (bs : List Block). Contains bs b) keeps.kept member)) [
-      | inl is ↦ inr (subst (λ (c : Block). IsReadAs c bytes) is keeps.read)
+      | inl is ↦ inr (subst (λ (c : Block). SpellsBlock c bytes) is keeps.read)
       | inr later ↦ inl later
     ]
 kind_came_from genesis s event reply t b (Quiet e r u quiet) member = inl (subst (λ (bs : List Block). Contains bs b) quiet.kept member)

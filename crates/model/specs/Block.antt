@@ -53,12 +53,6 @@ pub record SpellsBlock (block : Block) (bytes : List ℕ) : Type 0 where
   pub shape : IsBlock block
   pub text : Spells (item_of_block block) bytes
 
--- The bytes are read as this block: they are its text. As long as no transaction is read, a block that is
--- read has none.
-pub record IsReadAs (block : Block) (bytes : List ℕ) : Type 0 where
-  pub spelled : SpellsBlock block bytes
-  pub empty : block.transactions ≡ []
-
 -- the text of a block
 unfoldable pub block_text : Block → List ℕ
 block_text block = text_of (item_of_block block)

@@ -2,7 +2,7 @@
 -- report, followers). What is promised of an instruction so far is `MayBeTold` alone.
 use Rattle.std.specs.Prelude.{◌≡◌, ℕ, suc, ◌⊎◌, List, [], ◌∷◌, ◌++◌, length, take, Option, Some, None, slice_get}
 use Rattle.std.specs.Prelude.{unwrap_or}
-use Rattle.model.specs.Block.{Block, IsReadAs, block_text}
+use Rattle.model.specs.Block.{Block, SpellsBlock, block_text}
 use Rattle.model.specs.Chain.{Point, tip_point, BeginsWith}
 
 -- for each number the chain that its follower was told, and None where no follower of that number is open
@@ -34,7 +34,7 @@ pub data Instruction : Type 0 where
 -- the instruction, carried out on the one chain, gives the other
 abbrev pub IsReplayed : List Block → Instruction → List Block → Type 0
 IsReplayed old Stay new = new ≡ old
-IsReplayed old (AddBlock bytes) new = (b : Block) × IsReadAs b bytes × (new ≡ old ++ b ∷ [])
+IsReplayed old (AddBlock bytes) new = (b : Block) × SpellsBlock b bytes × (new ≡ old ++ b ∷ [])
 IsReplayed old (RollBack point) new = (new ≡ take point.number old) × (tip_point new ≡ point)
 
 -- Where the chain is selected, a follower that was told the one chain may get this instruction, and has then

@@ -2,7 +2,7 @@
 -- own, over the Consensus and Storage Layer report's rules).
 use Rattle.std.specs.Prelude.{◌≡◌, ◌≢◌, ◌++◌, ℕ, ◌+◌, ◌-◌, ◌≤◌, ◌<◌, ◌⊎◌, List, [], ◌∷◌, length, take, Contains, Some}
 use Rattle.std.specs.Prelude.{None, slice_set}
-use Rattle.model.specs.Block.{Block, IsReadAs, block_text, block_hash_of, body_hash_of}
+use Rattle.model.specs.Block.{Block, SpellsBlock, block_text, block_hash_of, body_hash_of}
 use Rattle.model.specs.Chain.{Genesis, immutable_length, live_blocks, IsSelection, BeginsWith, IsValidChain, NoneLonger}
 use Rattle.model.specs.Limits.{block_size_limit, follower_limit}
 use Rattle.model.specs.Follower.{Followers, Instruction, told_by, free_id, with_opened, MayBeTold}
@@ -40,7 +40,7 @@ refusal_number VolatileFull = 7
 
 -- the bytes are read as a block that has this property
 abbrev pub IsBlockWith : List ℕ → (Block → Type 0) → Type 0
-IsBlockWith bytes P = (b : Block) × IsReadAs b bytes × P b
+IsBlockWith bytes P = (b : Block) × SpellsBlock b bytes × P b
 
 abbrev pub live_of : Genesis → State → List Block
 live_of genesis s = live_blocks genesis s.kept s.chain
@@ -48,7 +48,7 @@ live_of genesis s = live_blocks genesis s.kept s.chain
 -- the condition of each refusal
 abbrev pub Applies : Genesis → State → List ℕ → Refusal → Type 0
 Applies genesis s bytes TooLarge = block_size_limit < length bytes
-Applies genesis s bytes Malformed = (b : Block) → IsReadAs b bytes → ⊥
+Applies genesis s bytes Malformed = (b : Block) → SpellsBlock b bytes → ⊥
 Applies genesis s bytes BodyHashMismatch = IsBlockWith bytes (λ b. b.header.body_hash ≢ body_hash_of b.transactions)
 Applies genesis s bytes TooOld = IsBlockWith bytes (λ b. b.header.number ≤ immutable_length genesis s.chain)
 Applies genesis s bytes Known = (b : Block) × Contains (live_of genesis s) b × (block_text b ≡ bytes)
@@ -102,7 +102,7 @@ pub record IsChange (old new : List Block) (back added : ℕ) : Type 0 where
 -- later.
 pub record Keeps (genesis : Genesis) (s : State) (bytes : List ℕ) (back added : ℕ) (t : State) : Type 0 where
   pub block : Block
-  pub read : IsReadAs block bytes
+  pub read : SpellsBlock block bytes
   pub not_refused : (refusal : Refusal) → Applies genesis s bytes refusal → ⊥
   pub kept : t.kept ≡ block ∷ s.kept
   pub followers : t.followers ≡ s.followers
@@ -157,7 +157,7 @@ IsLegal genesis history s = IsRun genesis opening history s
 
 -- a block whose arrival was answered Kept
 abbrev pub BringsBlock : Event → Reply → Block → Type 0
-BringsBlock (Arrive bytes) (Kept back added) b = IsReadAs b bytes
+BringsBlock (Arrive bytes) (Kept back added) b = SpellsBlock b bytes
 BringsBlock event reply b = ⊥
 
 abbrev pub IsKeptBy : List Entry → Block → Type 0

@@ -30,7 +30,7 @@ bound_of_read : (header : Header) (block : Block) (bytes : List ℕ) (place : Po
     → bound_block (empty_block header) ≡ record { bytes = bytes; place = Some place }
 unfolding block_text
 bound_of_read header block bytes place spelled size body read number hash =
-    let same : block ≡ empty_block header = same_read bytes block (empty_block header) read (record { read = record { spelled = spelled; empty = refl }; size = omega arith; body = body }) in
+    let same : block ≡ empty_block header = same_read bytes block (empty_block header) read (record { read = spelled; size = omega arith; body = body }) in
     let text : bytes ≡ block_text (empty_block header) = spelled.text.spelled in
     let n : place.number ≡ header.number = number ∙ ap (λ (b : Block). b.header.number) same in
     let h : place.hash ≡ block_hash_of (empty_block header) = hash ∙ ap block_hash_of same in
@@ -50,4 +50,4 @@ built_is base slot header block bytes place is spelled size read number hash =
 -- what was written is a block
 pub is_written : (base : Base) (slot : ℕ) (header : Header) (bytes : List ℕ) (e : NoBlock) → header ≡ header_on base slot → SpellsBlock (empty_block header) bytes → length bytes ≤ 89 → IsNoBlock bytes e → ⊥
 is_written base slot header bytes e is spelled size none =
-    is_no_other bytes (empty_block header) e (record { read = record { spelled = spelled; empty = refl }; size = omega arith; body = ap (λ (h : Header). h.body_hash) is }) none
+    is_no_other bytes (empty_block header) e (record { read = spelled; size = omega arith; body = ap (λ (h : Header). h.body_hash) is }) refl none

@@ -1,6 +1,6 @@
 -- The lines that a script prints.
 use Rattle.std.specs.Prelude.{◌≡◌, ℕ, List, [], ◌∷◌, ◌++◌, decimal, codes, ◌==◌, if◌then◌else◌}
-use Rattle.model.specs.Block.{Block, IsReadAs, block_hash_of}
+use Rattle.model.specs.Block.{Block, SpellsBlock, block_hash_of}
 use Rattle.model.specs.Chain.{Point}
 use Rattle.model.specs.Follower.{Instruction, Stay, AddBlock, RollBack}
 use Rattle.model.specs.History.{Reply, Opened, TooManyFollowers, Instructed, UnknownFollower, OutOfMemory}
@@ -36,7 +36,7 @@ tip_text names point = codes "tip: " ++ decimal point.number ++ codes " " ++ poi
 -- what a follower is told: nothing, the name of the block whose bytes it is to put on, or of the place to go back to
 abbrev pub IsInstructionText : List Binding → Instruction → List ℕ → Type 0
 IsInstructionText names Stay text = text ≡ codes "none"
-IsInstructionText names (AddBlock bytes) text = (b : Block) × IsReadAs b bytes
+IsInstructionText names (AddBlock bytes) text = (b : Block) × SpellsBlock b bytes
     × (text ≡ codes "add " ++ printed_name (block_hash_of b) names)
 IsInstructionText names (RollBack point) text = text ≡ codes "rollback " ++ point_name names point
 

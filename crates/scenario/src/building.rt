@@ -62,7 +62,7 @@ pub fn build(alloc: Global, base: Base, slot: u64) -> Result<Bound, Stop>
         Err(WriteFault::OutOfRange) => return Err(Stop::Fault(LineFault::NotBuilt)),
         Err(WriteFault::OutOfMemory) => return Err(Stop::OutOfMemory),
     };
-    let place = match block::look(&bytes) {
+    let place = match block::look(alloc, &bytes) {
         Ok(block) => Point {
             number: block.number(),
             hash: block.hash(),

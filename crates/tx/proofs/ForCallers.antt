@@ -2,3 +2,4 @@
 
 -- The two laws of reading a transaction.
 pub use Rattle.tx.proofs.TransactionTexts.{NestsWithin, nested_transaction_reads}
+pub use Rattle.tx.proofs.Rising.{same_list}

@@ -39,10 +39,10 @@ pub returns-in_err-block-clause-memory : goal.returns-in_err-block-clause-memory
 returns-in_err-block-clause-memory c =
     let none = not_refused (genesis_of c.self.inside.genesis) c.self.inside.kept.items c.self.inside.chain.items c.deref.result.now c.deref-2.result.now c.args.bytes.now c.in-Ok.found
     c.deref.ensures.value c.deref-2.ensures.value c.in-Ok.ensures.ok c.in_default.ensures in
-    on_err c.from_residual.result _ (none_applies (genesis_of c.self.inside.genesis) c.self.inside.kept.items c.self.inside.chain.items (followers_of c.self.inside.followers.items) c.args.self.now c.args.bytes.now c.self.view_is none)
+    on_err c.from_residual.result _ (λ b spells empty. none_applies (genesis_of c.self.inside.genesis) c.self.inside.kept.items c.self.inside.chain.items (followers_of c.self.inside.followers.items) c.args.self.now c.args.bytes.now c.self.view_is none)
 
 pub returns-in_err-change-clause-memory : goal.returns-in_err-change-clause-memory
 returns-in_err-change-clause-memory c =
     let none = not_refused (genesis_of c.self.inside.genesis) c.self.inside.kept.items c.self.inside.chain.items c.deref.result.now c.deref-2.result.now c.args.bytes.now c.in-Ok.found
     c.deref.ensures.value c.deref-2.ensures.value c.in-Ok.ensures.ok c.in_default.ensures in
-    on_err c.from_residual-in_err-change.result _ (none_applies (genesis_of c.self.inside.genesis) c.self.inside.kept.items c.self.inside.chain.items (followers_of c.self.inside.followers.items) c.args.self.now c.args.bytes.now c.self.view_is none)
+    on_err c.from_residual-in_err-change.result _ (λ b spells empty. none_applies (genesis_of c.self.inside.genesis) c.self.inside.kept.items c.self.inside.chain.items (followers_of c.self.inside.followers.items) c.args.self.now c.args.bytes.now c.self.view_is none)
