@@ -13,3 +13,13 @@ pub mod Selections
 pub mod Changes
 pub mod LegalHistories
 pub mod ToldChains
+pub mod Unspent
+pub mod Reasons
+pub mod UtxoSums
+pub mod Balances
+pub mod Conserved
+pub mod TextLengths
+pub mod ExampleSizes
+pub mod ExampleConditions
+pub mod ExamplePayments
+pub mod ExampleMints

@@ -3,9 +3,14 @@ pub mod Cbor
 pub mod Value
 pub mod Script
 pub mod Transaction
+pub mod Signature
+pub mod Utxo
+pub mod Balance
+pub mod Rules
 pub mod Block
 pub mod Chain
 pub mod Follower
 pub mod History
 pub mod Codes
 pub mod Examples
+pub mod TransactionExamples

@@ -6,6 +6,8 @@
 
 mod examples;
 mod histories;
+mod rule_examples;
+mod rules;
 mod texts;
 
 pub use examples::{
@@ -15,6 +17,11 @@ pub use examples::{
 pub use histories::{
     chain_theorem, change_counts, immutable_part_grows, kept_blocks, live_hashes_differ,
     one_selection, one_state, selected_chain, told_chains,
+};
+pub use rule_examples::{asset_sum_past_64_bits, mint_and_burn, slots_of_intervals, spend_and_fee};
+pub use rules::{
+    balanced_in_each_asset, first_reason, pairs_after, same_reason, spent_pairs, test_signatures,
+    value_conserved,
 };
 pub use texts::{
     one_text_of_blocks, one_text_of_items, one_text_of_mints, one_text_of_scripts,
