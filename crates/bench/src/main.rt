@@ -1,11 +1,11 @@
 //! The program `bench`: measures what no proof says, how long the calls of a crate take. Without an argument it runs
-//! each measurement of transactions once, and prints their names alone.
+//! each measurement of blocks once, and prints their names alone.
 #![tactic(auto)]
 
+mod blocks;
 mod keys;
 mod maps;
 mod telling;
-mod transactions;
 
 use crate::telling::Telling;
 use std::{env, io};
@@ -15,10 +15,10 @@ fn main(rt: HostRuntime) -> io::Result<()> {
     for word in &words {
         match word.as_str() {
             "persistent_map" => return maps::measure(&rt),
-            "transactions" => return transactions::measure(&rt, Telling::Times),
+            "blocks" => return blocks::measure(&rt, Telling::Times),
             _ => {}
         }
     }
-    transactions::measure(&rt, Telling::Names)?;
-    println!(rt; "to measure: bench persistent_map, bench transactions")
+    blocks::measure(&rt, Telling::Names)?;
+    println!(rt; "to measure: bench persistent_map, bench blocks")
 }

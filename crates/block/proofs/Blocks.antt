@@ -18,12 +18,12 @@ use Rattle.block.proofs.Parts.{header_reads, transactions_reads, parts_reads, tr
 -- ---- the text of a block with an empty body
 
 -- null and a hash hold no map
-rising_previous : (previous : Option (List ℕ)) → HasRisingKeys (item_of_previous previous)
+pub rising_previous : (previous : Option (List ℕ)) → HasRisingKeys (item_of_previous previous)
 rising_previous None = tt
 rising_previous (Some hash) = tt
 
 -- nor another item
-flat_previous : (previous : Option (List ℕ)) → nesting (item_of_previous previous) ≡ 1
+pub flat_previous : (previous : Option (List ℕ)) → nesting (item_of_previous previous) ≡ 1
 flat_previous None = refl
 flat_previous (Some hash) = refl
 

@@ -2,5 +2,6 @@ pub mod Parts
 pub mod Blocks
 pub mod Kept
 pub mod Texts
+pub mod FullBlocks
 pub mod OneAnswer
 pub mod ForCallers

@@ -12,7 +12,7 @@ use Rattle.block.specs.View.{bytes_of, header_of}
 use Rattle.block.proofs.Blocks.{empty_spells}
 
 -- the hashes of a header have 32 bytes
-previous_sized : (previous : Option BlockHash) → IfSome (option_map bytes_of previous) (λ hash. length hash ≡ 32)
+pub previous_sized : (previous : Option BlockHash) → IfSome (option_map bytes_of previous) (λ hash. length hash ≡ 32)
 previous_sized None = tt
 previous_sized (Some hash) = hash.sized
 
@@ -25,11 +25,14 @@ previous_in_range : (previous : Option BlockHash) → IsInRange (item_of_previou
 previous_in_range None = tt
 previous_in_range (Some hash) = (omega (arith, hash.sized), AllByRecursion-bytes hash.bytes hash.fits)
 
+-- a header of the code whose numbers are in range has its arguments in range
+pub header_in_range : (h : code.Header) → h.number < 2 ^ 63 → h.slot < 2 ^ 63 → IsInRange (item_of_header (header_of h))
+header_in_range h number slot = (omega arith, (omega arith, (omega arith, (previous_in_range h.previous, ((omega (arith, h.body_hash.sized), AllByRecursion-bytes h.body_hash.bytes h.body_hash.fits), tt)))))
+
 -- what is written of a header in range is the text of its block
 pub is_written : (h : code.Header) (bytes : List ℕ) → h.number < 2 ^ 63 → h.slot < 2 ^ 63 → bytes ≡ text_of (item_of_block (empty_block (header_of h))) → SpellsBlock (empty_block (header_of h)) bytes
 is_written h bytes number slot spelled =
-    let in_range : IsInRange (item_of_header (header_of h)) = (omega arith, (omega arith, (omega arith, (previous_in_range h.previous, ((omega (arith, h.body_hash.sized), AllByRecursion-bytes h.body_hash.bytes h.body_hash.fits), tt))))) in
-    empty_spells (header_of h) bytes (is_header h number slot) in_range spelled
+    empty_spells (header_of h) bytes (is_header h number slot) (header_in_range h number slot) spelled
 
 -- each form of a head has at most nine bytes
 nine_bytes : (p q r s : Bool) (a b c d e : ℕ) (u v w x : List ℕ) → length u ≤ 8 → length v ≤ 8 → length w ≤ 8 → length x ≤ 8

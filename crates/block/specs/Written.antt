@@ -1,9 +1,57 @@
--- Why a header has no text.
-use Rattle.model.specs.Block.{Header, IsHeader}
+-- Why a header or a block of transactions has no text.
+use Rattle.std.specs.Prelude.{◌≡◌, ℕ, ◌<◌, ◌≤◌, List, take, Option, Some, slice_get}
+use Rattle.std.specs.List.{AllByRecursion}
+use Rattle.model.specs.Cbor.{nesting, text_of}
+use Rattle.model.specs.Transaction.{Transaction, item_of_transaction, SpellsTransaction}
+use Rattle.model.specs.Block.{Header, Block, IsHeader, SpellsBlock, body_hash_of}
 use Rattle.block.specs.declared.fault.WriteFault.{WriteFault}
 use Rattle.block.specs.declared.fault.WriteFault.TheVariants.{OutOfRange, OutOfMemory}
+use Rattle.block.specs.declared.fault.NoText.{NoText}
+use Rattle.block.specs.declared.fault.NoText.TheVariants as no
 
 -- when each fault comes: out of range, or want of memory for a header that has a text
 abbrev pub IsWriteFault : Header → WriteFault → Type 0
 IsWriteFault header OutOfRange = IsHeader header → ⊥
 IsWriteFault header OutOfMemory = IsHeader header
+
+-- the block of these transactions at this place, whose header names the hash of its body
+abbrev pub full_block : ℕ → ℕ → Option (List ℕ) → List Transaction → Block
+full_block number slot previous transactions =
+    record {
+      header = record { number = number; slot = slot; previous = previous; body_hash = body_hash_of transactions };
+      transactions = transactions;
+    }
+
+-- A transaction of a block: it has a text, and stands two deep in a block, which nests at most 64 deep.
+pub record FitsBlock (t : Transaction) : Type 0 where
+  pub spelled : SpellsTransaction t (text_of (item_of_transaction t))
+  pub nests : nesting (item_of_transaction t) ≤ 62
+
+-- the first transaction that does not fit stands there, and nests too deep
+pub record IsFirstTooDeep (index : ℕ) (transactions : List Transaction) : Type 0 where
+  pub transaction : Transaction
+  pub place : slice_get transactions index ≡ Some transaction
+  pub deep : 62 < nesting (item_of_transaction transaction)
+  pub before : AllByRecursion FitsBlock (take index transactions)
+
+-- its numbers are in range, and this transaction is too deep
+pub record IsTooDeep (index : ℕ) (block : Block) : Type 0 where
+  pub header : IsHeader block.header
+  pub first : IsFirstTooDeep index block.transactions
+
+-- its numbers are in range, and all of its transactions fit
+pub record IsWritable (block : Block) : Type 0 where
+  pub header : IsHeader block.header
+  pub transactions : AllByRecursion FitsBlock block.transactions
+
+-- when each fault of a block of transactions comes: the first reason that applies, or want of memory where none does
+abbrev pub IsNoText : Block → NoText → Type 0
+IsNoText block no.OutOfRange = IsHeader block.header → ⊥
+IsNoText block (no.TooDeep index) = IsTooDeep index block
+IsNoText block no.OutOfMemory = IsWritable block
+
+-- but for want of memory no bytes are its text
+abbrev pub IsUnspelled : Block → NoText → Type 0
+IsUnspelled block no.OutOfRange = (bytes : List ℕ) → SpellsBlock block bytes → ⊥
+IsUnspelled block (no.TooDeep index) = (bytes : List ℕ) → SpellsBlock block bytes → ⊥
+IsUnspelled block no.OutOfMemory = Unit {0}

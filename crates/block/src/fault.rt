@@ -3,6 +3,7 @@
 ghost use Rattle.std.specs.Prelude.{◌≡◌};
 ghost use Rattle.block.specs.declared.fault.ReadFault.TheVariants as read;
 ghost use Rattle.block.specs.declared.fault.WriteFault.TheVariants as write;
+ghost use Rattle.block.specs.declared.fault.NoText.TheVariants as text;
 
 use std::alloc::AllocError;
 use thiserror::Error;
@@ -54,6 +55,20 @@ pub enum WriteFault {
     OutOfMemory,
 }
 
+/// Why a block of transactions that are handed in has no text, in the order in which the reasons are looked for.
+#[derive(Clone, Copy, Debug, PartialEq, Eq, Error)]
+pub enum NoText {
+    /// The number or the slot is 2^63 or more.
+    #[error("the number or the slot is 2^63 or more")]
+    OutOfRange,
+    /// The transaction at this place, counted from 0, nests deeper than 62.
+    #[error("transaction {0} nests deeper than 62")]
+    TooDeep(usize),
+    /// Memory ran out, and neither of the others applies.
+    #[error("out of memory")]
+    OutOfMemory,
+}
+
 impl From<AllocError> for ReadFault {
     ghost from_gives = { λ _ e. e ≡ read.OutOfMemory };
 
@@ -67,5 +82,13 @@ impl From<AllocError> for WriteFault {
 
     fn from(_error: AllocError) -> WriteFault {
         WriteFault::OutOfMemory
+    }
+}
+
+impl From<AllocError> for NoText {
+    ghost from_gives = { λ _ e. e ≡ text.OutOfMemory };
+
+    fn from(_error: AllocError) -> NoText {
+        NoText::OutOfMemory
     }
 }

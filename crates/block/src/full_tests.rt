@@ -242,3 +242,50 @@ fn nested_counts(rt: HostRuntime) -> Result<(), Fail> {
     assert_eq!(rt; read(alloc, &text).err(), Some(ReadFault::Malformed));
     Ok(())
 }
+
+#[test]
+fn written_blocks(rt: HostRuntime) -> Result<(), Fail> {
+    let alloc = rt.alloc();
+    let (payment, minting) = (payment(alloc)?, minting(alloc)?);
+    let both = [Tx::decode(alloc, &payment)?, Tx::decode(alloc, &minting)?];
+    let first = BlockHash::from_bytes(FIRST_HASH);
+    let text = write(alloc, 2, 5, Some(first), &both)?;
+    let worked = block_of_both(alloc)?;
+    assert_eq!(rt; text.as_slice(), worked.as_slice());
+    let header = Header {
+        number: 2,
+        slot: 5,
+        previous: Some(first),
+        body_hash: empty_body_hash(),
+    };
+    let (none, empty) = (
+        write(alloc, 2, 5, Some(first), &[])?,
+        write_empty(alloc, &header)?,
+    );
+    assert_eq!(rt; none.as_slice(), empty.as_slice());
+    assert_eq!(rt;
+        write(alloc, 1 << 63, 5, None, &both).err(),
+        Some(NoText::OutOfRange)
+    );
+    assert_eq!(rt;
+        write(alloc, 2, 1 << 63, None, &both).err(),
+        Some(NoText::OutOfRange)
+    );
+    Ok(())
+}
+
+#[test]
+fn transactions_too_deep_to_write(rt: HostRuntime) -> Result<(), Fail> {
+    let alloc = rt.alloc();
+    let payment = payment(alloc)?;
+    let deeper = nested_body(alloc, 29)?;
+    let Some((_, alone)) = deeper.split_first() else {
+        panic!(rt; "there is a transaction");
+    };
+    let pair = [Tx::decode(alloc, &payment)?, Tx::decode(alloc, alone)?];
+    assert_eq!(rt;
+        write(alloc, 1, 1, None, &pair).err(),
+        Some(NoText::TooDeep(1))
+    );
+    Ok(())
+}

@@ -4,6 +4,7 @@
 mod block;
 mod block_ref;
 mod fault;
+mod full;
 mod header;
 mod laws;
 mod reading;
@@ -11,7 +12,8 @@ mod writing;
 
 pub use block::{Block, read};
 pub use block_ref::{BlockRef, MAX_BLOCK_SIZE, look};
-pub use fault::{NoBlock, ReadFault, WriteFault};
+pub use fault::{NoBlock, NoText, ReadFault, WriteFault};
+pub use full::write;
 pub use header::Header;
 pub use laws::one_answer;
 pub use writing::{empty_body_hash, write_empty};

@@ -16,7 +16,7 @@ use std::alloc::Global;
 use tx::Tx;
 
 /// How deep a transaction may nest in a block: it stands two deep in it, and items nest at most 64 deep.
-const NESTING: usize = 62;
+pub const NESTING: usize = 62;
 
 /// The hash of the block before, or null where there is none.
 #[tactic(auto, unfolding(crate::specs::Reading::previous_at, cbor::specs::Shapes::optional_at))]

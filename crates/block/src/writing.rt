@@ -35,7 +35,7 @@ fn write_previous(out: &mut Vec<u8>, previous: Option<BlockHash>) -> Result<(), 
     }
 }
 
-fn write_header(out: &mut Vec<u8>, header: &Header) -> Result<(), AllocError>
+pub fn write_header(out: &mut Vec<u8>, header: &Header) -> Result<(), AllocError>
     ensures { OnOk result (out.new.items ≡ out.old.items ++ text_of (item_of_header (header_of header.now))) }
 {
     cbor::write_array(out, 4)?;

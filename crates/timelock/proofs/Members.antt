@@ -4,7 +4,7 @@ use Rattle.std.proofs.Common.{◌≡◌, ℕ, zero, suc, ◌+◌, ◌≤◌, ◌
 use Rattle.std.specs.Prelude.{Bool, ◌||◌, bytes_eq}
 use Rattle.std.specs.List.{list_any}
 use Rattle.ident.specs.declared.key_hash.KeyHash.{KeyHash}
-use Rattle.model.specs.Cbor.{Item, NextItem, items_of}
+use Rattle.model.specs.Cbor.{Item, NextItem, items_of, nesting, items_nesting}
 use Rattle.model.specs.Script.{NextScript, item_of_script, items_of_scripts}
 use Rattle.timelock.specs.declared.timelock.Timelock.{Timelock}
 use Rattle.timelock.specs.View.{timelock_of, timelocks_of, key_bytes}
@@ -19,6 +19,15 @@ depth_at (t ∷ ts) (suc k) d lt = omega (arith, depth_at ts k d (omega arith))
 -- a member is no deeper than the members
 pub member_depth : (ts : List Timelock) (k : ℕ) (t : Timelock) → k < length ts → t ≡ get_or ts k t → depth_of_script (timelock_of t) ≤ depth_of_scripts (timelocks_of ts)
 member_depth ts k t lt e = subst (λ (x : Timelock). depth_of_script (timelock_of x) ≤ depth_of_scripts (timelocks_of ts)) (sym e) (depth_at ts k t lt)
+
+nesting_at : (ts : List Timelock) (k : ℕ) (d : Timelock) → k < length ts → nesting (item_of_script (timelock_of (get_or ts k d))) ≤ items_nesting (items_of_scripts (timelocks_of ts))
+nesting_at [] k d lt = absurd (omega arith)
+nesting_at (t ∷ ts) zero d lt = omega arith
+nesting_at (t ∷ ts) (suc k) d lt = omega (arith, nesting_at ts k d (omega arith))
+
+-- nor does its text nest deeper
+pub member_nesting : (ts : List Timelock) (k : ℕ) (t : Timelock) → k < length ts → t ≡ get_or ts k t → nesting (item_of_script (timelock_of t)) ≤ items_nesting (items_of_scripts (timelocks_of ts))
+member_nesting ts k t lt e = subst (λ (x : Timelock). nesting (item_of_script (timelock_of x)) ≤ items_nesting (items_of_scripts (timelocks_of ts))) (sym e) (nesting_at ts k t lt)
 
 -- from a member on there is the member, and those after it
 pub from_member : (ts : List Timelock) (k : ℕ) (t : Timelock) → k < length ts → t ≡ get_or ts k t → drop k ts ≡ t ∷ drop (k + 1) ts

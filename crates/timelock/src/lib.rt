@@ -7,6 +7,7 @@ mod fault;
 mod fitting;
 mod holding;
 mod interval;
+mod nesting;
 mod reading;
 mod script;
 mod timelock;

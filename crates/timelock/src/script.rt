@@ -2,7 +2,7 @@
 
 ghost use Rattle.std.specs.Prelude.{◌≡◌, ◌++◌, ◌↔◌, IsTrue, ℕ, List, length, map, ◌<◌, ◌≤◌, ◌+◌, IfOk, IfErr};
 ghost use Rattle.std.specs.Prelude.{OnOk, OnErr, vec_len, vec_capacity};
-ghost use Rattle.model.specs.Cbor.{text_of};
+ghost use Rattle.model.specs.Cbor.{text_of, nesting};
 ghost use Rattle.model.specs.Script as model;
 ghost use Rattle.model.specs.Script.{item_of_script, SpellsScript, script_hash_of, Holds};
 ghost use Rattle.cbor.specs.Gives.{Gives, IfMalformed};
@@ -16,6 +16,7 @@ use crate::fault::ScriptFault;
 use crate::fitting::fits;
 use crate::holding::is_met;
 use crate::interval::Interval;
+use crate::nesting::nesting_of;
 use crate::reading::timelock;
 use crate::timelock::Timelock;
 use crate::writing::write_timelock;
@@ -148,6 +149,16 @@ impl Script {
         ensures { result.bytes ≡ script_hash_of self.now }
     {
         self.hash
+    }
+
+    /// How deep the script's text nests (RFC 8949, items in one another): 2 to 64, and 2 more than the deepest of the
+    /// scripts that stand in it. Linear in the script. No memory is taken.
+    pub fn nesting(&self) -> usize
+        ensures deep { result ≡ nesting (item_of_script self.now) }
+        ensures within { result ≤ 64 }
+        ensures spelled { SpellsScript self.now (text_of (item_of_script self.now)) }
+    {
+        nesting_of(&self.timelock)
     }
 
     /// What the script asks for, as a tree. Copies nothing.

@@ -181,6 +181,7 @@ fn nested_scripts(rt: HostRuntime) -> Result<(), Fail> {
     let alloc = rt.alloc();
     let deepest = goes_round(&rt, alloc, &nested(alloc, 32)?)?;
     assert!(rt; deepest.holds(&[], OPEN));
+    assert_eq!(rt; deepest.nesting(), 64);
     let deeper = Script::decode(alloc, &nested(alloc, 33)?).err();
     assert_eq!(rt; deeper, Some(CborFault::Malformed));
     let mut members = Vec::new(alloc);
@@ -208,5 +209,6 @@ fn scripts_by_hand(rt: HostRuntime) -> Result<(), Fail> {
     };
     assert!(rt; script.holds(&[], within));
     assert!(rt; !script.holds(&[], from(24)));
+    assert_eq!(rt; script.nesting(), 4);
     Ok(())
 }

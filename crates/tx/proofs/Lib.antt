@@ -4,4 +4,12 @@ pub mod PartTexts
 pub mod BodyTexts
 pub mod WitnessTexts
 pub mod TransactionTexts
+pub mod Depths
+pub mod PartsSaid
+pub mod Ties
+pub mod Faults
+pub mod MadeTexts
+pub mod Sealing
+pub mod Makings
+pub mod OneOrder
 pub mod ForCallers

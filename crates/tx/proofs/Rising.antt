@@ -6,10 +6,11 @@ use Rattle.std.specs.List.Sorted.{IsStrictlySortedBy}
 use Rattle.std.specs.Ordering.{is_lt}
 use Rattle.std.specs.declared.cmp.Ordering.{Ordering}
 use Rattle.std.specs.declared.cmp.Ordering.TheVariants.{Less, Equal, Greater}
-use Rattle.std.proofs.lemmas.Cmp.{nat_cmp_total, nat_list_cmp_total, on_total, then_total}
-use Rattle.model.specs.Transaction.{Input, KeyWitness, input_cmp, witness_cmp, script_cmp}
+use Rattle.std.proofs.lemmas.Cmp.{nat_list_cmp_total, on_total}
+use Rattle.model.specs.Transaction.{KeyWitness, witness_cmp, script_cmp}
 use Rattle.model.specs.Script.{script_hash_of}
 use Rattle.tx.specs.Rising.{rises_by}
+pub use Rattle.tx.specs.Order.{inputs_total}
 
 and_false : (b : Bool) → b && false ≡ false
 and_false true = refl
@@ -82,9 +83,6 @@ rises_if cmp (x ∷ []) h = refl
 rises_if cmp (x ∷ y ∷ ys) h = rw (h.0.0, rises_if cmp (y ∷ ys) h.1) refl
 
 -- ---- the two orders
-
-pub inputs_total : IsTotalOrder input_cmp
-inputs_total = then_total (on_total (λ (i : Input). i.transaction) nat_list_cmp_total) (on_total (λ (i : Input). i.index) nat_cmp_total)
 
 pub keys_total : IsTotalOrder witness_cmp
 keys_total = on_total (λ (w : KeyWitness). w.key) nat_list_cmp_total

@@ -7,3 +7,8 @@ pub mod BodyReading
 pub mod TransactionReading
 pub mod WitnessesView
 pub mod Held
+pub mod Said
+pub mod Order
+pub mod Repeats
+pub mod Parts
+pub mod Making

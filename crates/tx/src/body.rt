@@ -1,7 +1,7 @@
 //! Bodies of transactions (Shelley-MA): what a transaction does, and what its identifier is the hash of.
 
 ghost use Rattle.std.specs.Prelude.{◌≡◌, ◌<◌, ◌≤◌, ◌+◌, ◌++◌, length, OnOk, OnErr, vec_len, vec_capacity};
-ghost use Rattle.model.specs.Cbor.{text_of, pairs_of, pairs_text};
+ghost use Rattle.model.specs.Cbor.{text_of, pairs_of, pairs_text, nesting};
 ghost use Rattle.cbor.specs.Gives.{Gives};
 ghost use Rattle.cbor.specs.Texts.{Keeps};
 ghost use Rattle.value.specs.Reading.{mint_at};
@@ -11,6 +11,7 @@ ghost use Rattle.tx.specs.BodyView.{body_of};
 
 use crate::input::Input;
 use crate::keys::{END, FEE, INPUTS, MINT, OUTPUTS, START};
+use crate::nesting::{inputs_nesting, outputs_nesting};
 use crate::output::Output;
 use crate::{body_writer, lists};
 use cbor::CborFault::{self, Malformed};
@@ -93,6 +94,16 @@ impl Body {
     {
         let has_mint = !self.mint.policies().is_empty();
         3 + u64::from(self.end.is_some()) + u64::from(self.start.is_some()) + u64::from(has_mint)
+    }
+
+    /// How deep the text of the body nests: 2 to 7. Linear in the outputs.
+    pub fn nesting(&self) -> usize
+        ensures deep { result ≡ nesting (body_item (body_of self.now)) }
+        ensures within { result ≤ 7 }
+    {
+        let items = inputs_nesting(&self.inputs).max(outputs_nesting(&self.outputs));
+        let mint = self.mint.nesting();
+        1 + mint.max(1 + items)
     }
 
     /// Writes inputs, outputs and fee.

@@ -5,8 +5,6 @@ ghost use Rattle.model.specs.Cbor.{text_of};
 ghost use Rattle.model.specs.Transaction as model;
 ghost use Rattle.model.specs.Transaction.{item_of_input};
 ghost use Rattle.cbor.specs.Texts.{Keeps};
-ghost use Rattle.tx.specs.Reading.{input_at};
-ghost use Rattle.tx.specs.View.{input_of};
 
 use cbor::{CborFault, Decode, Encode};
 use ident::TxId;
@@ -19,9 +17,13 @@ pub struct Input {
     pub transaction: TxId,
     /// The place of the output among those of its transaction, from 0 on.
     pub index: u16,
+    pub ghost in_range: { index ≤ 65535 },
 }
 
 impl Input {
+    ghost use Rattle.tx.specs.Reading.{input_at};
+    ghost use Rattle.tx.specs.View.{input_of};
+
     /// The input whose text stands first, and the bytes after it (RFC 8949, section 4.2.1): an array of the identifier
     /// and the index. None where no input's text stands there. Constant time.
     #[tactic(auto, unfolding(crate::specs::Reading::input_at, cbor::specs::Shapes::as_at, cbor::specs::Shapes::array_at, cbor::specs::Shapes::both_at, cbor::specs::Shapes::bounded_at, cbor::specs::Shapes::such_at))]
@@ -40,6 +42,9 @@ impl Input {
 }
 
 impl Decode for Input {
+    ghost use Rattle.tx.specs.Reading.{input_at};
+    ghost use Rattle.tx.specs.View.{input_of};
+
     ghost Plain = { model.Input };
 
     ghost plain = { input_of };
@@ -52,6 +57,8 @@ impl Decode for Input {
 }
 
 impl Encode for Input {
+    ghost use Rattle.tx.specs.View.{input_of};
+
     ghost item_of = { λ input. item_of_input (input_of input) };
 
     fn write(&self, out: &mut Vec<u8>) -> Result<(), AllocError> {

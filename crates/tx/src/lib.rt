@@ -1,4 +1,4 @@
-//! Transactions of the Shelley-MA era and their parts: read from their text and written.
+//! Transactions of the Shelley-MA era and their parts: read from their text, made of parts in any order, and written.
 #![tactic(auto)]
 
 mod address;
@@ -8,20 +8,30 @@ mod copying;
 mod input;
 mod key_witness;
 mod keys;
+mod laws;
 mod lists;
+mod nesting;
 mod output;
+mod parts;
+mod ranked;
 mod tx;
+mod tx_fault;
 mod witness_writer;
 mod witnesses;
 
 pub use address::{ADDRESS_SIZE, Address, Credential};
 pub use input::Input;
 pub use key_witness::KeyWitness;
+pub use laws::one_tx_of_parts;
 pub use output::Output;
+pub use parts::TxParts;
 pub use tx::Tx;
+pub use tx_fault::TxFault;
 
 #[cfg(test)]
 mod body_tests;
+#[cfg(test)]
+mod making_tests;
 #[cfg(test)]
 mod tests;
 #[cfg(test)]

@@ -16,7 +16,7 @@ use std::alloc::Global;
 use timelock::Script;
 
 /// How many outputs a transaction has at most: the index of an input has 16 bits.
-const MAX_OUTPUTS: usize = 1 << 16;
+pub const MAX_OUTPUTS: usize = 1 << 16;
 
 /// How deep inputs, outputs and signatures nest at most: assets in the value of an output.
 const NESTING: usize = 5;

@@ -2,7 +2,7 @@
 
 ghost use Rattle.std.specs.Prelude.{◌≡◌, ◌++◌, ℕ, List, length, map, ◌<◌, ◌≤◌, ◌+◌, IfOk, IfErr, OnOk, OnErr};
 ghost use Rattle.std.specs.Prelude.{vec_len, vec_capacity};
-ghost use Rattle.model.specs.Cbor.{text_of};
+ghost use Rattle.model.specs.Cbor.{text_of, nesting};
 ghost use Rattle.model.specs.Transaction as model;
 ghost use Rattle.model.specs.Transaction.{item_of_transaction, SpellsTransaction, transaction_id_of, size_of};
 ghost use Rattle.model.specs.Transaction.{interval_of_transaction};
@@ -11,12 +11,19 @@ ghost use Rattle.cbor.specs.Texts.{BeginsWithText, Keeps, Writes};
 ghost use Rattle.timelock.specs.View.{interval_of};
 ghost use Rattle.tx.specs.View.{input_of, output_of, witness_of};
 ghost use Rattle.tx.specs.TransactionReading.{transaction_at};
+ghost use Rattle.tx.specs.BodyView.{body_of};
+ghost use Rattle.tx.specs.WitnessesView.{witnesses_of};
+ghost use Rattle.tx.specs.Parts.{IsTxOf, IsFirstFault, IfAtFault};
+ghost use Rattle.tx.specs.Making.{parts_of, transaction_of_halves, HasTextWith};
 
 use crate::body::Body;
 use crate::copying::{clone_body, clone_witnesses};
 use crate::input::Input;
 use crate::key_witness::KeyWitness;
+use crate::nesting::MAX_SCRIPT_NESTING;
 use crate::output::Output;
+use crate::parts::TxParts;
+use crate::tx_fault::TxFault;
 use crate::witnesses::Witnesses;
 use cbor::{CborFault, Decode, Encode};
 use ident::TxId;
@@ -25,11 +32,8 @@ use std::marker::Model;
 use timelock::{Interval, Script};
 use value::Mint;
 
-/// How deep the scripts of a transaction nest at most: they stand three deep in it, and items nest at most 64 deep.
-const MAX_SCRIPT_NESTING: usize = 61;
-
 /// A transaction of the Shelley-MA era that has a text. Its identifier and its size were computed once, when it was
-/// read, and are kept.
+/// read or made, and are kept.
 #[derive(Debug, Drop)]
 pub struct Tx {
     alloc: Global,
@@ -74,6 +78,51 @@ impl Tx {
             witnesses,
         };
         Ok((tx, rest))
+    }
+
+    /// The transaction of a body and witnesses that have a text. The text is written once: the body's part of it is
+    /// hashed, and all of it is counted.
+    fn sealed(alloc: Global, body: Body, witnesses: Witnesses) -> Result<Tx, AllocError>
+        requires { HasTextWith (body_of body) (witnesses_of witnesses) }
+        ensures { IfOk result (λ tx. tx ≡ transaction_of_halves (body_of body) (witnesses_of witnesses)) }
+    {
+        let mut text = Vec::new(alloc);
+        cbor::write_array(&mut text, 3)?;
+        let start = text.len();
+        body.write(&mut text)?;
+        let (_, written) = text.split_at(start);
+        let id = TxId::of_body(written);
+        witnesses.write(&mut text)?;
+        cbor::write_null(&mut text)?;
+        Ok(Tx {
+            alloc,
+            id,
+            size: text.len() as u64,
+            body,
+            witnesses,
+        })
+    }
+
+    /// The transaction of these parts, of which inputs, signatures and scripts may come in any order. Err where no
+    /// transaction has just these parts, for the first of the reasons that there is: `RepeatedInput`, `TooManyOutputs`
+    /// for more than 65,536, `RepeatedKey`, `RepeatedScript`, and `TooDeep` for a script that nests deeper than 61. Of
+    /// what is repeated the least is told. OutOfMemory only where there is no such reason. Sorts n parts where they
+    /// are, in n log n comparisons, and writes the text once, to hash and to count it.
+    ///
+    /// ```text
+    /// let tx = Tx::new(alloc, parts)?;
+    /// println!("{} has {} bytes", tx.id(), tx.size());
+    /// ```
+    pub fn new(alloc: Global, mut parts: TxParts) -> Result<Tx, TxFault>
+        ensures made { IfOk result (λ tx. IsTxOf tx (parts_of parts)) }
+        ensures fault { IfErr result (IsFirstFault (parts_of parts)) }
+        ensures refused { IfErr result (λ fault. IfAtFault fault ((tx : model.Transaction) (text : List ℕ) →
+            SpellsTransaction tx text → IsTxOf tx (parts_of parts) → ⊥)) }
+    {
+        parts.put_in_order();
+        parts.check()?;
+        let (body, witnesses) = parts.into_halves();
+        Ok(Tx::sealed(alloc, body, witnesses)?)
     }
 
     /// The transaction whose text stands first, and the bytes after it (RFC 8949, section 4.2.1; an array of the body,
@@ -174,6 +223,17 @@ impl Tx {
         ensures { result ≡ size_of self.now }
     {
         self.size
+    }
+
+    /// How deep the text of the transaction nests (RFC 8949, items in one another): 3 to 64. In a block it stands two
+    /// items deeper. Linear in the outputs and the scripts. No memory is taken.
+    pub fn nesting(&self) -> usize
+        ensures deep { result ≡ nesting (item_of_transaction self.now) }
+        ensures within { result ≤ 64 }
+        // The transaction has a text, whose nesting that is.
+        ensures spelled { SpellsTransaction self.now (text_of (item_of_transaction self.now)) }
+    {
+        1 + self.body.nesting().max(self.witnesses.nesting())
     }
 
     /// What is spent, in strictly rising order. Copies nothing.

@@ -10,7 +10,7 @@ use std::test::Fail;
 use timelock::Interval;
 
 /// The hash of the script that asks for all of none, which is the policy that it governs.
-const POLICY: [u8; 32] = [
+pub const POLICY: [u8; 32] = [
     0x31, 0x0e, 0x8a, 0xd6, 0xfd, 0x17, 0x68, 0x49, 0xa5, 0x66, 0x7f, 0x83, 0x09, 0xd8, 0x28, 0xa7,
     0xaa, 0x48, 0xdd, 0x2d, 0x56, 0xe3, 0x08, 0xeb, 0xe7, 0x90, 0xba, 0xbd, 0x1c, 0x7d, 0xaf, 0x88,
 ];
@@ -21,7 +21,7 @@ fn input(alloc: Global) -> Result<Vec<u8>, AllocError> {
 }
 
 /// The body that leaves 910 lovelace to the key of 32 bytes 01, and pays a fee of 290.
-fn paying_body(alloc: Global) -> Result<Vec<u8>, AllocError> {
+pub fn paying_body(alloc: Global) -> Result<Vec<u8>, AllocError> {
     let input = input(alloc)?;
     let to_key = b"\x01\x81\x82\x58\x21\x60".as_slice();
     joined(
@@ -37,7 +37,7 @@ fn paying_body(alloc: Global) -> Result<Vec<u8>, AllocError> {
 }
 
 /// The body that mints 5 of a policy, and leaves it with 800 lovelace to the same key.
-fn minting_body(alloc: Global) -> Result<Vec<u8>, AllocError> {
+pub fn minting_body(alloc: Global) -> Result<Vec<u8>, AllocError> {
     let input = input(alloc)?;
     let to_key = b"\x01\x81\x82\x58\x21\x60".as_slice();
     let front = joined(alloc, &[b"\xa4\x00", &input, to_key, &KEY_HASH])?;
@@ -50,7 +50,7 @@ fn minting_body(alloc: Global) -> Result<Vec<u8>, AllocError> {
 }
 
 /// The text of an array of one signature by the key of 32 bytes 01.
-fn signature(alloc: Global) -> Result<Vec<u8>, AllocError> {
+pub fn signature(alloc: Global) -> Result<Vec<u8>, AllocError> {
     joined(
         alloc,
         &[b"\x81\x82\x58\x20", &[1; 32], b"\x58\x40", &[9; 64]],
@@ -84,6 +84,7 @@ fn a_payment(rt: HostRuntime) -> Result<(), Fail> {
     let text = joined(alloc, &[b"\x83", &body, &witnesses, b"\xf6"])?;
     let tx = goes_round(&rt, alloc, &text)?;
     assert_eq!(rt; tx.size(), 190);
+    assert_eq!(rt; tx.nesting(), 5);
     let id = format!(in alloc; "{}", tx.id())?;
     assert_eq!(rt;
         id.as_str(),
@@ -112,6 +113,7 @@ fn a_minting(rt: HostRuntime) -> Result<(), Fail> {
     let text = joined(alloc, &[b"\x83", &body, &witnesses, b"\xf6"])?;
     let tx = goes_round(&rt, alloc, &text)?;
     assert_eq!(rt; tx.size(), 273);
+    assert_eq!(rt; tx.nesting(), 8);
     let id = format!(in alloc; "{}", tx.id())?;
     assert_eq!(rt;
         id.as_str(),
@@ -193,7 +195,9 @@ fn nested_scripts(rt: HostRuntime) -> Result<(), Fail> {
     let body = paying_body(alloc)?;
     let witnesses = nested(alloc, 30)?;
     let deepest = joined(alloc, &[b"\x83", &body, &witnesses, b"\xf6"])?;
-    assert_eq!(rt; Tx::decode(alloc, &deepest)?.size(), 179);
+    let whole = Tx::decode(alloc, &deepest)?;
+    assert_eq!(rt; whole.size(), 179);
+    assert_eq!(rt; whole.nesting(), 63);
     let witnesses = nested(alloc, 31)?;
     let deeper = joined(alloc, &[b"\x83", &body, &witnesses, b"\xf6"])?;
     assert_eq!(rt;

@@ -1,19 +1,24 @@
 //! Witness sets (Shelley-MA): the signatures and scripts by which a transaction may do what it does.
 
 ghost use Rattle.std.specs.Prelude.{◌≡◌, ◌<◌, ◌≤◌, ◌+◌, ◌++◌, length, map, OnOk, OnErr, vec_capacity};
-ghost use Rattle.model.specs.Cbor.{text_of, map_of, pairs_of, pairs_text};
+ghost use Rattle.model.specs.Cbor.{text_of, map_of, pairs_of, pairs_text, nesting, pairs_nesting};
+ghost use Rattle.model.specs.Transaction.{unless_empty};
 ghost use Rattle.cbor.specs.Gives.{Gives};
 ghost use Rattle.cbor.specs.Texts.{Keeps};
 ghost use Rattle.tx.specs.View.{witness_of};
 ghost use Rattle.tx.specs.TransactionReading.{signatures_field_at, scripts_field_at, witnesses_at};
-ghost use Rattle.tx.specs.WitnessesView.{witnesses_of, witness_entries};
+ghost use Rattle.tx.specs.WitnessesView.{witnesses_of, witness_entries, signatures_item, scripts_item};
 
 use crate::key_witness::KeyWitness;
 use crate::keys::{SCRIPTS, SIGNATURES};
+use crate::nesting::scripts_nesting;
 use crate::{lists, witness_writer};
 use cbor::CborFault;
 use std::alloc::{AllocError, Global};
 use timelock::Script;
+
+/// How deep the array of the signatures nests, where there are some: each is an array of two byte strings.
+const SIGNATURES_NESTING: usize = 3;
 
 /// The witnesses of a transaction.
 #[derive(Debug, Drop)]
@@ -76,6 +81,37 @@ impl Witnesses {
             scripts,
         };
         Ok((witnesses, rest))
+    }
+
+    /// How deep the entry of the signatures nests, or 0 where it is left out.
+    fn signatures_nesting(&self) -> usize
+        ensures deep { result ≡
+            pairs_nesting (pairs_of (unless_empty 0 signatures_item (witnesses_of self.now).0)) }
+        ensures within { result ≤ 3 }
+    {
+        if self.signatures.is_empty() {
+            return 0;
+        }
+        SIGNATURES_NESTING
+    }
+
+    /// How deep the entry of the scripts nests, or 0 where it is left out. Linear in the scripts.
+    fn scripts_nesting(&self) -> usize
+        ensures deep { result ≡ pairs_nesting (pairs_of (unless_empty 1 scripts_item (witnesses_of self.now).1)) }
+        ensures within { result ≤ 65 }
+    {
+        if self.scripts.is_empty() {
+            return 0;
+        }
+        1 + scripts_nesting(&self.scripts)
+    }
+
+    /// How deep the text of the witness set nests: 1 to 66. Linear in the scripts.
+    pub fn nesting(&self) -> usize
+        ensures deep { result ≡ nesting (map_of (witness_entries (witnesses_of self.now))) }
+        ensures within { result ≤ 66 }
+    {
+        1 + self.signatures_nesting().max(self.scripts_nesting())
     }
 
     /// How many entries the map of the witness set has.

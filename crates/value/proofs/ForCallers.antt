@@ -6,3 +6,9 @@ pub use Rattle.value.proofs.TextOrder.{text_order, same_length_order}
 pub use Rattle.value.proofs.ValueTexts.{value_reads, mint_reads}
 -- Copying one after the other, as a loop does.
 pub use Rattle.value.proofs.Copies.{IsPartCopied, one_copied, all_copied}
+-- A walk over a list that stops at the first that is bad, and otherwise finds all good.
+pub use Rattle.value.proofs.Walks.{none_bad, any_moved, any_here, any_there, IsWalked, walk_goes_on, walk_stops}
+-- Where something is there it stands for something.
+pub use Rattle.value.proofs.Nesting.{some_seen}
+-- Members, in whatever order they stand.
+pub use Rattle.value.proofs.OneMaking.{IsIn, moved_in, from_all}

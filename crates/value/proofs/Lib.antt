@@ -20,4 +20,5 @@ pub mod Refusing
 pub mod Sound
 pub mod Making
 pub mod OneMaking
+pub mod Nesting
 pub mod ForCallers

@@ -20,7 +20,7 @@ use Rattle.value.proofs.Making.{value_rises}
 
 -- ---- members
 
-abbrev IsIn : {X : Type 0} → X → List X → Type 0
+abbrev pub IsIn : {X : Type 0} → X → List X → Type 0
 IsIn z [] = ⊥
 IsIn z (x ∷ xs) = (z ≡ x) ⊎ IsIn z xs
 
@@ -37,10 +37,10 @@ contained (x ∷ xs) z h =
       | inr rest ↦ let c = contained xs z rest in (suc c.0, omega (arith, c.1), c.2)
     ]
 
-moved_in : {X : Type 0} (xs ys : List X) → IsPermutation xs ys → (z : X) → IsIn z xs → IsIn z ys
+pub moved_in : {X : Type 0} (xs ys : List X) → IsPermutation xs ys → (z : X) → IsIn z xs → IsIn z ys
 moved_in xs ys same z h = let c = Contains-permutation xs ys z same (contained xs z h) in is_in ys z c.0 c.1 c.2
 
-from_all : {X : Type 0} (P : X → Type 0) (xs : List X) (z : X) → AllByRecursion P xs → IsIn z xs → P z
+pub from_all : {X : Type 0} (P : X → Type 0) (xs : List X) (z : X) → AllByRecursion P xs → IsIn z xs → P z
 from_all P [] z all h = absurd h
 from_all P (x ∷ xs) z all h = elim h [ inl same ↦ subst P (sym same) all.0 | inr rest ↦ from_all P xs z all.1 rest ]
 

@@ -2,7 +2,7 @@
 
 ghost use Rattle.std.specs.Prelude.{◌≡◌, ◌≢◌, ◌++◌, ℕ, List, [], length, map, ◌<◌, ◌≤◌, ◌+◌, ◌^◌, ◌+ℤ◌, IfOk, IfErr};
 ghost use Rattle.std.specs.Prelude.{OnOk, OnErr, vec_len, vec_capacity};
-ghost use Rattle.model.specs.Cbor.{text_of, HasText};
+ghost use Rattle.model.specs.Cbor.{text_of, HasText, nesting};
 ghost use Rattle.model.specs.Value as model;
 ghost use Rattle.model.specs.Value.{item_of_number, item_of_assets, IsMint, SpellsMint, Asset, minted_amount};
 ghost use Rattle.cbor.specs.Gives.{IfMalformed};
@@ -23,6 +23,12 @@ use crate::writer::write_assets;
 use cbor::CborFault;
 use std::alloc::{AllocError, Global};
 use std::marker::Model;
+
+/// How deep the empty map nests.
+const NOTHING_NESTING: usize = 1;
+
+/// How deep assets nest: the map of the policies, and in it the maps of names to quantities.
+const ASSETS_NESTING: usize = 3;
 
 /// What a transaction mints, and with quantities below 0 burns: each -2^63 to 2^63 - 1 without 0. Empty
 /// where it does neither.
@@ -114,6 +120,20 @@ impl Mint {
         ensures { map policy_of result.now ≡ self.now }
     {
         &self.policies
+    }
+
+    /// How deep the map of the assets nests (RFC 8949, items in one another): 3, and 1 where nothing is minted.
+    /// Constant time.
+    pub fn nesting(&self) -> usize
+        ensures deep { result ≡ nesting (item_of_assets item_of_number self.now) }
+        ensures within { result ≤ 3 }
+        ensures mint { IsMint self.now }
+        ensures text { HasText (item_of_assets item_of_number self.now) }
+    {
+        if self.policies.is_empty() {
+            return NOTHING_NESTING;
+        }
+        ASSETS_NESTING
     }
 
     /// Writes the text after the bytes (RFC 8949, section 4.2.1), in time linear in it. Err where memory runs out,

@@ -2,7 +2,7 @@
 
 ghost use Rattle.std.specs.Prelude.{◌≡◌, ◌++◌, ℕ, List, [], length, map, ◌<◌, ◌≤◌, ◌+◌, ◌^◌, ◌+ℤ◌, ◌-ℤ◌, IfOk, IfErr};
 ghost use Rattle.std.specs.Prelude.{OnOk, OnErr, vec_len, vec_capacity, pos};
-ghost use Rattle.model.specs.Cbor.{text_of, HasText};
+ghost use Rattle.model.specs.Cbor.{text_of, HasText, nesting};
 ghost use Rattle.model.specs.Value as model;
 ghost use Rattle.model.specs.Value.{item_of_value, IsValue, SpellsValue, Asset, amount_of};
 ghost use Rattle.cbor.specs.Gives.{IfMalformed};
@@ -24,6 +24,12 @@ use crate::writer::write_assets;
 use cbor::CborFault;
 use std::alloc::{AllocError, Global};
 use std::marker::Model;
+
+/// How deep coin alone nests: it is a number.
+const COIN_NESTING: usize = 1;
+
+/// How deep coin with assets nests: an array, the map of the policies, and in it the maps of names to quantities.
+const ASSETS_NESTING: usize = 4;
 
 /// What an output holds: coin in lovelace, and quantities of other assets, each 1 to 2^64 - 1.
 #[derive(Debug, Drop)]
@@ -137,6 +143,19 @@ impl Value {
         ensures { map policy_of result.now ≡ self.now.assets }
     {
         &self.assets
+    }
+
+    /// How deep the text of the value nests (RFC 8949, items in one another): 1 for coin alone, and 4 with assets.
+    /// Constant time.
+    pub fn nesting(&self) -> usize
+        ensures deep { result ≡ nesting (item_of_value self.now) }
+        ensures within { result ≤ 4 }
+        ensures spelled { SpellsValue self.now (text_of (item_of_value self.now)) }
+    {
+        if self.assets.is_empty() {
+            return COIN_NESTING;
+        }
+        ASSETS_NESTING
     }
 
     /// Writes coin and assets after the bytes.

@@ -9,3 +9,5 @@ mod fixture;
 mod follower_tests;
 #[cfg(test)]
 mod library_tests;
+#[cfg(test)]
+mod text_tests;

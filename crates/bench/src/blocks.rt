@@ -1,14 +1,13 @@
-//! Reading and writing bodies of blocks: arrays of transactions of about 1,000,000 bytes.
+//! Reading and writing blocks: many empty ones, and one of about 1,000,000 bytes.
 
 use crate::telling::Telling;
-use cbor::CborFault;
+use ident::BodyHash;
 use std::alloc::{AllocError, Global};
 use std::io;
 use std::time::{Duration, Instant};
-use tx::Tx;
 
-/// How deep a transaction may nest in a block.
-const NESTING: usize = 62;
+/// How many times an empty block is read.
+const EMPTY_COUNT: u32 = 10_000;
 
 /// The smallest transaction: no input, no output, no fee, no witness.
 const SMALLEST: &[u8] = b"\x83\xa3\x00\x80\x01\x80\x02\x00\xa0\xf6";
@@ -21,14 +20,23 @@ const LARGE_COUNT: u64 = 61;
 
 const LARGE_OUTPUTS: u64 = 420;
 
-/// The array of the smallest transactions.
+/// The text of the first block with this body.
+fn block_with(alloc: Global, body: &[u8]) -> Result<Vec<u8>, AllocError> {
+    let mut bytes = Vec::with_capacity(alloc, body.len().saturating_add(40))?;
+    bytes.extend_from_slice(b"\x82\x84\x01\x01\xf6\x58\x20")?;
+    bytes.extend_from_slice(BodyHash::of_body(body).as_bytes())?;
+    bytes.extend_from_slice(body)?;
+    Ok(bytes)
+}
+
+/// The block of the smallest transactions.
 fn small_transactions(alloc: Global) -> Result<Vec<u8>, AllocError> {
     let mut bytes = Vec::new(alloc);
     cbor::write_array(&mut bytes, SMALL_COUNT)?;
     for _ in 0..SMALL_COUNT {
         bytes.extend_from_slice(SMALLEST)?;
     }
-    Ok(bytes)
+    block_with(alloc, &bytes)
 }
 
 /// Writes a transaction of many outputs, each to the key of another hash.
@@ -43,56 +51,60 @@ fn write_large(bytes: &mut Vec<u8>) -> Result<(), AllocError> {
     bytes.extend_from_slice(b"\x02\x00\xa0\xf6")
 }
 
-/// The array of the large transactions.
+/// The block of the large transactions.
 fn large_transactions(alloc: Global) -> Result<Vec<u8>, AllocError> {
     let mut bytes = Vec::new(alloc);
     cbor::write_array(&mut bytes, LARGE_COUNT)?;
     for _ in 0..LARGE_COUNT {
         write_large(&mut bytes)?;
     }
-    Ok(bytes)
+    block_with(alloc, &bytes)
 }
 
 /// Runs each measurement, and prints its name, or what it took.
 pub fn measure(rt: &HostRuntime, telling: Telling) -> io::Result<()> {
+    let empty = block_with(rt.alloc(), b"\x80")?;
+    measure_reading(rt, telling, "read_empty_blocks", EMPTY_COUNT, &empty)?;
     let small = small_transactions(rt.alloc())?;
-    measure_reading(rt, telling, "read_small_transactions", &small)?;
+    measure_reading(rt, telling, "read_small_transactions", 1, &small)?;
     let large = large_transactions(rt.alloc())?;
-    measure_reading(rt, telling, "read_large_transactions", &large)?;
+    measure_reading(rt, telling, "read_large_transactions", 1, &large)?;
     measure_writing(rt, telling, "write_transactions", &large)
 }
 
-/// Reads the array so many times.
-fn measure_reading(rt: &HostRuntime, telling: Telling, name: &str, bytes: &[u8]) -> io::Result<()> {
+/// Reads the block so many times in each repetition.
+fn measure_reading(
+    rt: &HostRuntime,
+    telling: Telling,
+    name: &str,
+    count: u32,
+    bytes: &[u8],
+) -> io::Result<()> {
     let start = Instant::now(rt)?;
     for _ in 0..telling.repetitions() {
-        if read(rt.alloc(), bytes).is_err() {
-            return println!(rt; "{name}: not read");
+        for _ in 0..count {
+            if block::read(rt.alloc(), bytes).is_err() {
+                return println!(rt; "{name}: not read");
+            }
+        }
+    }
+    let elapsed = start.elapsed(rt)?;
+    print(rt, telling, name, bytes.len().saturating_mul(count as usize), elapsed)
+}
+
+/// Writes the transactions of the block as a block again, once in each repetition.
+fn measure_writing(rt: &HostRuntime, telling: Telling, name: &str, bytes: &[u8]) -> io::Result<()> {
+    let Ok(block) = block::read(rt.alloc(), bytes) else {
+        return println!(rt; "{name}: not read");
+    };
+    let start = Instant::now(rt)?;
+    for _ in 0..telling.repetitions() {
+        if block::write(rt.alloc(), 1, 1, None, block.transactions()).is_err() {
+            return println!(rt; "{name}: not written");
         }
     }
     let elapsed = start.elapsed(rt)?;
     print(rt, telling, name, bytes.len(), elapsed)
-}
-
-/// The transactions of the array.
-fn read(alloc: Global, bytes: &[u8]) -> Result<Vec<Tx>, CborFault> {
-    let (transactions, _) = cbor::list_array::<Tx>(alloc, NESTING, bytes)?;
-    Ok(transactions)
-}
-
-/// Writes the array so many times.
-fn measure_writing(rt: &HostRuntime, telling: Telling, name: &str, bytes: &[u8]) -> io::Result<()> {
-    let Ok(transactions) = read(rt.alloc(), bytes) else {
-        return println!(rt; "{name}: not read");
-    };
-    let mut out = Vec::with_capacity(rt.alloc(), bytes.len())?;
-    let start = Instant::now(rt)?;
-    for _ in 0..telling.repetitions() {
-        out.clear();
-        cbor::write_list_array(&mut out, &transactions)?;
-    }
-    let elapsed = start.elapsed(rt)?;
-    print(rt, telling, name, out.len(), elapsed)
 }
 
 /// The name of a measurement, or what it took.

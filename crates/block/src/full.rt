@@ -1,0 +1,93 @@
+//! The text of a block of transactions that are handed in (RFC 8949, section 4.2.1).
+
+ghost use Rattle.std.specs.Prelude.{◌≡◌, ◌<◌, ◌^◌, ◌++◌, length, None, option_map, IfOk, IfErr, IfSome};
+ghost use Rattle.std.specs.List.{AllByRecursion};
+ghost use Rattle.model.specs.Cbor.{head, text_of};
+ghost use Rattle.model.specs.Block.{SpellsBlock, item_of_header, item_of_transactions};
+ghost use Rattle.block.specs.View.{bytes_of, header_of};
+ghost use Rattle.block.specs.Written.{full_block, FitsBlock, IsFirstTooDeep, IsNoText, IsUnspelled};
+
+use crate::fault::NoText;
+use crate::header::{Header, NUMBER_LIMIT};
+use crate::reading::NESTING;
+use crate::writing::write_header;
+use ident::{BlockHash, BodyHash};
+use std::alloc::{AllocError, Global};
+use tx::Tx;
+
+/// The largest size of what stands before the body, in bytes.
+const LARGEST_FRONT: usize = 88;
+
+/// Where the first transaction stands that nests deeper than a block's may.
+fn first_too_deep(transactions: &[Tx]) -> Option<usize>
+    ensures none { result ≡ None → AllByRecursion FitsBlock transactions.now }
+    ensures some { IfSome result (λ i. IsFirstTooDeep i transactions.now) }
+    ensures counted { result ≡ None → length transactions.now < 2 ^ 64 }
+{
+    let mut index = 0;
+    for tx in transactions {
+        if tx.nesting() > NESTING {
+            return Some(index);
+        }
+        index += 1;
+    }
+    None
+}
+
+/// The text of a body.
+fn body_text(alloc: Global, transactions: &[Tx]) -> Result<Vec<u8>, AllocError>
+    ensures { IfOk result (λ text. text.items ≡ text_of (item_of_transactions transactions.now)) }
+{
+    let mut text = Vec::new(alloc);
+    cbor::write_list_array(&mut text, transactions)?;
+    Ok(text)
+}
+
+/// The text of the block with this header and the body of this text.
+fn text_with(alloc: Global, header: &Header, body: &[u8]) -> Result<Vec<u8>, AllocError>
+    ensures { IfOk result (λ text.
+        text.items ≡ head 4 2 ++ (text_of (item_of_header (header_of header.now)) ++ body.now)) }
+{
+    let mut out = Vec::with_capacity(alloc, body.len().saturating_add(LARGEST_FRONT))?;
+    cbor::write_array(&mut out, 2)?;
+    write_header(&mut out, header)?;
+    out.extend_from_slice(body)?;
+    Ok(out)
+}
+
+/// The text of the block of these transactions, in this order, with this number and slot, after the block with this
+/// hash, or None for the first block of a chain (RFC 8949, section 4.2.1). Its header names the SHA-256 digest (FIPS
+/// 180-4) of the body's text. Else the first of these faults that applies:
+/// - OutOfRange: the number or the slot is 2^63 or more;
+/// - TooDeep: a transaction nests deeper than 62, so that the block would nest deeper than 64;
+/// - OutOfMemory: memory ran out, and neither of these applies.
+///
+/// A text of more than 1,048,576 bytes is written too, and is read by no [`crate::read`]. Linear in the text: the body
+/// is hashed once, and its text copied once.
+pub fn write(
+    alloc: Global,
+    number: u64,
+    slot: u64,
+    previous: Option<BlockHash>,
+    transactions: &[Tx],
+) -> Result<Vec<u8>, NoText>
+    ensures ok { IfOk result (λ text.
+        SpellsBlock (full_block number slot (option_map bytes_of previous) transactions.now) text.items) }
+    ensures fault { IfErr result (IsNoText (full_block number slot (option_map bytes_of previous) transactions.now)) }
+    ensures none { IfErr result (IsUnspelled (full_block number slot (option_map bytes_of previous) transactions.now)) }
+{
+    if number >= NUMBER_LIMIT || slot >= NUMBER_LIMIT {
+        return Err(NoText::OutOfRange);
+    }
+    if let Some(index) = first_too_deep(transactions) {
+        return Err(NoText::TooDeep(index));
+    }
+    let body = body_text(alloc, transactions)?;
+    let header = Header {
+        number,
+        slot,
+        previous,
+        body_hash: BodyHash::of_body(&body),
+    };
+    Ok(text_with(alloc, &header, &body)?)
+}

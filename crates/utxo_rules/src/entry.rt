@@ -1,0 +1,74 @@
+//! The entries of a map of unspent outputs: they stand for plain inputs and outputs.
+
+ghost use Rattle.std.specs.Prelude.{◌≡◌};
+ghost use Rattle.tx.specs.View.{input_of, output_of};
+
+use std::marker::Model;
+use tx::{Input, Output};
+
+/// Where an output stands: the input that would spend it. Ordered by the bytes of the identifier, then by the index.
+#[derive(Clone, Copy, PartialEq, Eq, PartialOrd, Ord, Drop)]
+pub struct Place {
+    transaction: [u8; 32],
+    index: u16,
+}
+
+impl Model for Place {
+    ghost use Rattle.model.specs.Transaction.{Input};
+    ghost use Rattle.model.specs.Codes.{coded_input};
+
+    ghost Value = { Input };
+
+    ghost coded = { coded_input };
+
+    ghost view = { λ p. record { transaction = p.transaction; index = p.index } };
+
+    ghost inverse = { λ i. record { transaction = i.transaction; index = i.index } };
+}
+
+impl Place {
+    /// The place of the output that this input would spend.
+    pub fn of(input: &Input) -> Place
+        ensures { result ≡ input_of input.now }
+    {
+        Place {
+            transaction: *input.transaction.as_bytes(),
+            index: input.index,
+        }
+    }
+}
+
+/// An output that stands in the map.
+#[derive(Drop)]
+pub struct Unspent {
+    output: Output,
+}
+
+impl Model for Unspent {
+    ghost use Rattle.model.specs.Transaction as model;
+    ghost use Rattle.model.specs.Codes.{coded_output};
+
+    ghost Value = { model.Output };
+
+    ghost coded = { coded_output };
+
+    ghost use Rattle.tx.specs.View.{output_of};
+
+    ghost view = { λ u. output_of u.output };
+}
+
+impl Unspent {
+    /// The output, to be kept.
+    pub fn of(output: Output) -> Unspent
+        ensures { result ≡ output_of output }
+    {
+        Unspent { output }
+    }
+
+    /// The output.
+    pub fn output(&self) -> &Output
+        ensures { output_of result.now ≡ self.now }
+    {
+        &self.output
+    }
+}

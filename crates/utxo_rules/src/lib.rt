@@ -1,0 +1,10 @@
+//! The unspent outputs of a chain.
+#![tactic(auto)]
+
+mod entry;
+mod utxo;
+
+pub use utxo::Utxo;
+
+#[cfg(test)]
+mod tests;
