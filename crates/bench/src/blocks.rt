@@ -89,7 +89,13 @@ fn measure_reading(
         }
     }
     let elapsed = start.elapsed(rt)?;
-    print(rt, telling, name, bytes.len().saturating_mul(count as usize), elapsed)
+    print(
+        rt,
+        telling,
+        name,
+        bytes.len().saturating_mul(count as usize),
+        elapsed,
+    )
 }
 
 /// Writes the transactions of the block as a block again, once in each repetition.
