@@ -16,9 +16,11 @@ pub mod ToldChains
 pub mod Unspent
 pub mod Reasons
 pub mod UtxoSums
+pub mod OpeningOutputs
 pub mod Balances
 pub mod Conserved
 pub mod TextLengths
+pub mod TransactionSizes
 pub mod ExampleSizes
 pub mod ExampleConditions
 pub mod ExamplePayments

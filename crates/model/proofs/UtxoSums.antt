@@ -162,7 +162,8 @@ free_later id k j (x ∷ xs) u o lt free =
     and_from (is_free (finite.insert u (place id k) o) (place id j, x)) (list_all (is_free (finite.insert u (place id k) o)) (pairs_from id (suc j) xs))
     (ap (λ (q : Option Output). not (is_some q)) here ∙ parts.0) (free_later id k (suc j) xs u o (omega (arith, lt)) parts.1)
 
-with_sum : (asset : Asset) (id : List ℕ) (k : ℕ) (os : List Output) (u : Utxo) → list_all (is_free u) (pairs_from id k os) ≡ true
+-- with new pairs at free places the sum is theirs and that of the others
+pub with_sum : (asset : Asset) (id : List ℕ) (k : ℕ) (os : List Output) (u : Utxo) → list_all (is_free u) (pairs_from id k os) ≡ true
     → sum_of asset (outputs_of (with_pairs (pairs_from id k os) u)) ≡ sum_of asset os +ℤ sum_of asset (outputs_of u)
 with_sum asset id k [] u free = omega (arith, ints)
 with_sum asset id k (o ∷ os) u free =

@@ -13,6 +13,8 @@ use Rattle.model.specs.Script.{Script, Scripts, RequireSignature, RequireAllOf, 
 use Rattle.model.specs.Script.{RequireTimeStart, RequireTimeExpire, NoScripts, NextScript}
 use Rattle.model.specs.Transaction.{Credential, KeyHash, ScriptHash, Address, Input, Output, KeyWitness, Transaction}
 use Rattle.model.specs.Block.{Header, Block}
+use Rattle.model.specs.Rules.{Params}
+use Rattle.model.specs.Genesis.{Grant, Genesis as Configuration}
 use Rattle.model.specs.Chain.{Genesis, Ledger, Tip}
 use Rattle.model.specs.Follower.{Followers}
 use Rattle.model.specs.History.{State, Refusal, TooLarge, Malformed, BodyHashMismatch, TooOld, Known, Clash}
@@ -286,6 +288,42 @@ abbrev pub coded_block : Coded Block
 coded_block =
     code_by (Header × List Transaction) (coded× coded_header (coded_list coded_transaction))
     (λ b. (b.header, b.transactions)) (λ p. record { header = p.0; transactions = p.1 }) (λ _. refl)
+
+-- ---- the genesis
+
+-- the fields of what is asked of transactions, as pairs
+abbrev pub ParamsFields : Type 0
+ParamsFields = ℕ × (ℕ × (ℕ × (ℕ × (ℕ × ℕ))))
+
+-- what is asked of transactions
+abbrev pub coded_params : Coded Params
+coded_params =
+    code_by ParamsFields (coded× coded_ℕ (coded× coded_ℕ (coded× coded_ℕ (coded× coded_ℕ (coded× coded_ℕ coded_ℕ)))))
+    (λ p. (p.network, (p.min_fee_a, (p.min_fee_b, (p.min_utxo, (p.max_tx_size, p.max_body_size))))))
+    (λ p. record {
+      network = p.0;
+      min_fee_a = p.1.0;
+      min_fee_b = p.1.1.0;
+      min_utxo = p.1.1.1.0;
+      max_tx_size = p.1.1.1.1.0;
+      max_body_size = p.1.1.1.1.1;
+    })
+    (λ _. refl)
+
+-- what stands at an address from the start
+abbrev pub coded_grant : Coded Grant
+coded_grant =
+    code_by (Address × ℕ) (coded× coded_address coded_ℕ) (λ g. (g.address, g.coin))
+    (λ p. record { address = p.0; coin = p.1 }) (λ _. refl)
+
+-- all that a network agrees on before its first block
+abbrev pub coded_configuration : Coded Configuration
+coded_configuration =
+    code_by (Params × (ℕ × (ℕ × (ℕ × List Grant))))
+    (coded× coded_params (coded× coded_ℕ (coded× coded_ℕ (coded× coded_ℕ (coded_list coded_grant)))))
+    (λ g. (g.params, (g.k, (g.max_volatile, (g.max_mempool, g.grants)))))
+    (λ p. record { params = p.0; k = p.1.0; max_volatile = p.1.1.0; max_mempool = p.1.1.1.0; grants = p.1.1.1.1 })
+    (λ _. refl)
 
 -- ---- chains and histories
 

@@ -7,6 +7,7 @@ pub mod Signature
 pub mod Utxo
 pub mod Balance
 pub mod Rules
+pub mod Genesis
 pub mod Block
 pub mod Chain
 pub mod Follower

@@ -11,13 +11,14 @@ use Rattle.model.specs.Signature.{Verifies}
 use Rattle.model.specs.Utxo.{Utxo, output_at, spent_outputs, new_pairs}
 use Rattle.model.specs.Balance.{is_balanced}
 
--- what a network asks of each transaction (Shelley, protocol parameters)
+-- what a network asks of each transaction, and of each block's body (Shelley, protocol parameters)
 pub record Params : Type 0 where
   pub network : ℕ  -- which network this is, 0 to 15
   pub min_fee_a : ℕ  -- the least fee for each byte of a transaction, in lovelace
   pub min_fee_b : ℕ  -- the least fee for a transaction, whatever its size, in lovelace
   pub min_utxo : ℕ  -- how much lovelace an output holds at least
   pub max_tx_size : ℕ  -- how many bytes a transaction has at most
+  pub max_body_size : ℕ  -- how many bytes a block's body has at most
 
 -- what may be said against a transaction, in the order in which it is looked for; each reason has its condition below
 pub data Reason : Type 0 where

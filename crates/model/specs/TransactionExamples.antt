@@ -11,7 +11,14 @@ use Rattle.model.specs.Rules.{Params}
 
 -- a fee of 100 lovelace and 1 for each byte, at least 10 lovelace in an output, at most 4,096 bytes
 abbrev pub small_params : Params
-small_params = record { network = 0; min_fee_a = 1; min_fee_b = 100; min_utxo = 10; max_tx_size = 4096 }
+small_params = record {
+  network = 0;
+  min_fee_a = 1;
+  min_fee_b = 100;
+  min_utxo = 10;
+  max_tx_size = 4096;
+  max_body_size = 65536;
+}
 
 -- lovelace alone
 abbrev pub coin_alone : ℕ → Value

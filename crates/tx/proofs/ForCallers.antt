@@ -3,3 +3,5 @@
 -- The two laws of reading a transaction.
 pub use Rattle.tx.proofs.TransactionTexts.{NestsWithin, nested_transaction_reads}
 pub use Rattle.tx.proofs.Rising.{same_list}
+-- An address that was read has the bytes, and an address is read from its bytes.
+pub use Rattle.tx.proofs.AddressTexts.{address_read, address_again}

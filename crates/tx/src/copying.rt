@@ -17,11 +17,8 @@ fn clone_outputs(alloc: Global, outputs: &[Output]) -> Result<Vec<Output>, Alloc
 {
     let mut copies = Vec::with_capacity(alloc, outputs.len())?;
     for output in outputs {
-        let value = output.value.try_clone()?;
-        copies.push(Output {
-            address: output.address,
-            value,
-        })?;
+        let copy = output.try_clone()?;
+        copies.push(copy)?;
     }
     Ok(copies)
 }

@@ -1,14 +1,15 @@
 //! Transactions that are made of parts in any order, and parts that are refused.
 
-use crate::tests::joined;
-use crate::tx_tests::{POLICY, minting_body, paying_body, signature};
+use crate::tests::{joined, same, same_bytes, same_text};
+use crate::tx_tests::{MINTING, PAYING, POLICY, is_inside, is_named};
 use crate::{Address, Credential, Input, KeyWitness, Output, Tx, TxFault, TxParts};
 use cbor::CborFault;
 use ident::{KeyHash, ScriptHash, TxId};
 use std::alloc::{AllocError, Global};
+use std::process::Abort;
 use std::test::Fail;
 use timelock::{Interval, Script, Timelock, Timelocks};
-use value::{AssetQuantity, Mint, Value};
+use value::{AssetFault, AssetQuantity, Mint, Value};
 
 /// An output that is the key's of 32 bytes 01.
 fn output(value: Value) -> Result<Output, Fail> {
@@ -79,183 +80,308 @@ fn asset<Q: Drop>(alloc: Global, quantity: Q) -> Result<Vec<AssetQuantity<Q>>, A
     Ok(assets)
 }
 
-/// The parts that leave 800 lovelace and 5 of a policy, minted there, and pay a fee of 400, with no signature.
-fn minting(alloc: Global) -> Result<TxParts, Fail> {
-    let value = Value::new(alloc, 800, asset(alloc, 5u64)?)?;
-    let mut parts = payment(alloc)?;
-    parts.outputs.clear();
-    parts.outputs.push(output(value)?)?;
-    parts.scripts.push(script(alloc, true)?)?;
-    parts.fee = 400;
-    Ok(parts)
+/// 800 lovelace and 5 of a policy.
+fn value_with_asset(alloc: Global) -> Result<Value, AssetFault> {
+    let assets = asset(alloc, 5u64)?;
+    Value::new(alloc, 800, assets)
 }
 
-/// The transaction of these parts and 5 of the policy minted, or none, with the signature of the key of 32 bytes 01.
-fn signed(alloc: Global, parts: TxParts, mint: Mint) -> Result<Tx, Fail> {
-    let mut parts = parts;
-    parts.mint = mint;
-    parts.signatures.push(witness(1, 9))?;
+/// 5 of that policy.
+fn minted(alloc: Global) -> Result<Mint, AssetFault> {
+    let assets = asset(alloc, 5i64)?;
+    Mint::new(alloc, assets)
+}
+
+/// Puts one of both scripts into parts.
+fn put_script(alloc: Global, parts: &mut TxParts, all: bool) -> Result<(), Fail> {
+    let script = script(alloc, all)?;
+    parts.scripts.push(script)?;
+    Ok(())
+}
+
+/// Puts an output of this value into parts.
+fn put_output(parts: &mut TxParts, value: Value) -> Result<(), Fail> {
+    let output = output(value)?;
+    parts.outputs.push(output)?;
+    Ok(())
+}
+
+/// Turns the payment into parts that leave 800 lovelace and 5 of a policy, minted there, and pay a fee of 400.
+fn put_minting(alloc: Global, parts: &mut TxParts) -> Result<(), Fail> {
+    parts.outputs.clear();
+    parts.fee = 400;
+    parts.mint = minted(alloc)?;
+    let value = value_with_asset(alloc)?;
+    put_output(parts, value)?;
+    put_script(alloc, parts, true)
+}
+
+/// Puts signatures into parts, each by the bytes that its key and it are made of.
+fn put_signatures(parts: &mut TxParts, pairs: &[(u8, u8)]) -> Result<(), AllocError> {
+    for (key, signature) in pairs {
+        parts.signatures.push(witness(*key, *signature))?;
+    }
+    Ok(())
+}
+
+/// The transaction of parts.
+fn made(alloc: Global, parts: TxParts) -> Result<Tx, Fail> {
     Ok(Tx::new(alloc, parts)?)
 }
 
-/// The text of a body with that signature, and what comes after it in the witness set, and its head.
-fn text_of(alloc: Global, body: &[u8], head: &[u8], more: &[u8]) -> Result<Vec<u8>, AllocError> {
-    let signatures = signature(alloc)?;
-    let mut text = joined(alloc, &[b"\x83"])?;
-    text.extend_from_slice(body)?;
-    text.extend_from_slice(head)?;
-    text.extend_from_slice(&signatures)?;
-    text.extend_from_slice(more)?;
-    text.extend_from_slice(b"\xf6")?;
-    Ok(text)
+/// The payment, with the signature of the key of 32 bytes 01.
+fn paying(alloc: Global) -> Result<Tx, Fail> {
+    let mut parts = payment(alloc)?;
+    put_signatures(&mut parts, &[(1, 9)])?;
+    made(alloc, parts)
+}
+
+/// The minting, with the same signature.
+fn minting(alloc: Global) -> Result<Tx, Fail> {
+    let mut parts = payment(alloc)?;
+    put_minting(alloc, &mut parts)?;
+    put_signatures(&mut parts, &[(1, 9)])?;
+    made(alloc, parts)
+}
+
+/// The transaction's text is this, in parts.
+fn is_written(rt: &impl Abort, alloc: Global, tx: &Tx, parts: &[&[u8]]) -> Result<(), AllocError> {
+    let text = tx.encode()?;
+    let expected = joined(alloc, parts)?;
+    same_bytes(rt, &text, &expected);
+    Ok(())
 }
 
 #[test]
 fn a_payment_of_parts(rt: HostRuntime) -> Result<(), Fail> {
-    let alloc = rt.alloc();
-    let tx = signed(alloc, payment(alloc)?, Mint::nothing(alloc))?;
-    let text = text_of(alloc, &paying_body(alloc)?, b"\xa1\x00", b"")?;
-    assert_eq!(rt; tx.encode()?.as_slice(), text.as_slice());
-    assert_eq!(rt; tx.size(), 190);
-    let id = format!(in alloc; "{}", tx.id())?;
-    assert_eq!(rt;
-        id.as_str(),
-        "afd9fff1a7c82f9259b208652b718624b06a4648eaca7288e41ea8f5646e34e1"
-    );
-    Ok(())
+    let tx = paying(rt.alloc())?;
+    is_written(&rt, rt.alloc(), &tx, PAYING)?;
+    same(&rt, "size", tx.size(), 190);
+    is_named(
+        &rt,
+        rt.alloc(),
+        &tx,
+        "afd9fff1a7c82f9259b208652b718624b06a4648eaca7288e41ea8f5646e34e1",
+    )
 }
 
 #[test]
 fn a_minting_of_parts(rt: HostRuntime) -> Result<(), Fail> {
-    let alloc = rt.alloc();
-    let mint = Mint::new(alloc, asset(alloc, 5i64)?)?;
-    let tx = signed(alloc, minting(alloc)?, mint)?;
-    let body = minting_body(alloc)?;
-    let text = text_of(alloc, &body, b"\xa2\x00", b"\x01\x81\x82\x01\x80")?;
-    assert_eq!(rt; tx.encode()?.as_slice(), text.as_slice());
-    assert_eq!(rt; tx.size(), 273);
+    let tx = minting(rt.alloc())?;
+    is_written(&rt, rt.alloc(), &tx, MINTING)?;
+    same(&rt, "size", tx.size(), 273);
     Ok(())
 }
 
-/// The transaction of three inputs, two signatures and two scripts, which come in this order or the other way round.
-fn in_order(alloc: Global, turned: bool) -> Result<Tx, Fail> {
-    let mut parts = payment(alloc)?;
-    parts.inputs.clear();
-    let indexes = if turned { [256, 2, 1] } else { [2, 256, 1] };
+/// Puts inputs into parts, by their places.
+fn put_inputs(parts: &mut TxParts, indexes: &[u16]) -> Result<(), AllocError> {
     for index in indexes {
-        parts.inputs.push(input(index))?;
+        parts.inputs.push(input(*index))?;
     }
+    Ok(())
+}
+
+/// Puts both scripts into parts.
+fn put_scripts(alloc: Global, parts: &mut TxParts, turned: bool) -> Result<(), Fail> {
+    put_script(alloc, parts, turned)?;
+    put_script(alloc, parts, !turned)
+}
+
+/// Turns the payment into parts of three inputs, two signatures and two scripts, which come in this order or the
+/// other way round.
+fn put_in_order(alloc: Global, parts: &mut TxParts, turned: bool) -> Result<(), Fail> {
+    parts.inputs.clear();
     parts.interval.start = Some(7);
     parts.interval.end = Some(9);
-    parts
-        .signatures
-        .push(witness(if turned { 2 } else { 1 }, 9))?;
-    parts
-        .signatures
-        .push(witness(if turned { 1 } else { 2 }, 9))?;
-    parts.scripts.push(script(alloc, turned)?)?;
-    parts.scripts.push(script(alloc, !turned)?)?;
-    Ok(Tx::new(alloc, parts)?)
+    put_scripts(alloc, parts, turned)?;
+    if turned {
+        put_inputs(parts, &[256, 2, 1])?;
+        return Ok(put_signatures(parts, &[(2, 9), (1, 9)])?);
+    }
+    put_inputs(parts, &[2, 256, 1])?;
+    Ok(put_signatures(parts, &[(1, 9), (2, 9)])?)
+}
+
+/// The transaction of those parts.
+fn in_order(alloc: Global, turned: bool) -> Result<Tx, Fail> {
+    let mut parts = payment(alloc)?;
+    put_in_order(alloc, &mut parts, turned)?;
+    made(alloc, parts)
+}
+
+/// What is written of it.
+fn text_in_order(alloc: Global, turned: bool) -> Result<Vec<u8>, Fail> {
+    let tx = in_order(alloc, turned)?;
+    Ok(tx.encode()?)
 }
 
 #[test]
 fn parts_in_any_order(rt: HostRuntime) -> Result<(), Fail> {
-    let alloc = rt.alloc();
-    let (one, other) = (in_order(alloc, false)?, in_order(alloc, true)?);
-    let (text, same) = (one.encode()?, other.encode()?);
-    assert_eq!(rt; text.as_slice(), same.as_slice());
-    assert_eq!(rt; other.id(), one.id());
-    assert_eq!(rt; Tx::decode(alloc, &text)?.id(), one.id());
+    let text = text_in_order(rt.alloc(), false)?;
+    let same = text_in_order(rt.alloc(), true)?;
+    same_bytes(&rt, &text, &same);
+    Ok(())
+}
+
+/// Its identifier.
+fn id_in_order(alloc: Global, turned: bool) -> Result<TxId, Fail> {
+    Ok(in_order(alloc, turned)?.id())
+}
+
+/// The identifier of the transaction that its text is read as.
+fn id_read_again(alloc: Global, turned: bool) -> Result<TxId, Fail> {
+    let text = text_in_order(alloc, turned)?;
+    Ok(Tx::decode(alloc, &text)?.id())
+}
+
+#[test]
+fn identifier_in_any_order(rt: HostRuntime) -> Result<(), Fail> {
+    let id = id_in_order(rt.alloc(), false)?;
+    let other = id_in_order(rt.alloc(), true)?;
+    let again = id_read_again(rt.alloc(), false)?;
+    assert!(rt; other == id);
+    assert!(rt; again == id);
     Ok(())
 }
 
 #[test]
 fn made_parts(rt: HostRuntime) -> Result<(), Fail> {
     let tx = in_order(rt.alloc(), true)?;
-    assert_eq!(rt; tx.inputs(), [input(1), input(2), input(256)].as_slice());
-    assert_eq!(rt; tx.signatures(), [witness(1, 9), witness(2, 9)].as_slice());
-    let interval = Interval {
-        start: Some(7),
-        end: Some(9),
-    };
-    assert_eq!(rt; tx.interval(), interval);
+    let inputs = [input(1), input(2), input(256)];
+    assert!(rt; tx.inputs() == inputs.as_slice());
+    let signatures = [witness(1, 9), witness(2, 9)];
+    assert!(rt; tx.signatures() == signatures.as_slice());
+    is_inside(&rt, &tx, Some(7), Some(9));
     Ok(())
 }
 
-/// What is wrong with the payment with these inputs and signatures more, and so many scripts that nest too deep.
+/// Puts so many scripts into parts, each that many times nested.
+fn put_deep(alloc: Global, parts: &mut TxParts, count: usize, deep: usize) -> Result<(), Fail> {
+    for _ in 0..count {
+        parts.scripts.push(nested(alloc, deep)?)?;
+    }
+    Ok(())
+}
+
+/// The payment with these inputs and signatures more.
+fn payment_with(alloc: Global, inputs: &[u16], signatures: &[(u8, u8)]) -> Result<TxParts, Fail> {
+    let mut parts = payment(alloc)?;
+    put_inputs(&mut parts, inputs)?;
+    put_signatures(&mut parts, signatures)?;
+    Ok(parts)
+}
+
+/// What is wrong with that payment, and so many scripts that nest too deep.
 fn fault_of(
     alloc: Global,
     inputs: &[u16],
     signatures: &[(u8, u8)],
     deep: usize,
 ) -> Result<Option<TxFault>, Fail> {
-    let mut parts = payment(alloc)?;
-    for index in inputs {
-        parts.inputs.push(input(*index))?;
-    }
-    for (key, signature) in signatures {
-        parts.signatures.push(witness(*key, *signature))?;
-    }
-    for _ in 0..deep {
-        parts.scripts.push(nested(alloc, 31)?)?;
-    }
+    let mut parts = payment_with(alloc, inputs, signatures)?;
+    put_deep(alloc, &mut parts, deep, 31)?;
     Ok(Tx::new(alloc, parts).err())
+}
+
+/// The fault is the one that is wanted.
+fn is_fault(rt: &impl Abort, found: Option<TxFault>, want: TxFault) {
+    assert_eq!(rt; found, Some(want));
 }
 
 #[test]
 fn repeated_parts(rt: HostRuntime) -> Result<(), Fail> {
-    let alloc = rt.alloc();
-    let fault = fault_of(alloc, &[9, 4, 9, 4], &[], 0)?;
-    assert_eq!(rt; fault, Some(TxFault::RepeatedInput(input(4))));
-    let fault = fault_of(alloc, &[], &[(3, 0), (2, 1), (3, 2), (2, 3)], 0)?;
-    assert_eq!(rt; fault, Some(TxFault::RepeatedKey([2; 32])));
+    let fault = fault_of(rt.alloc(), &[9, 4, 9, 4], &[], 0)?;
+    is_fault(&rt, fault, TxFault::RepeatedInput(input(4)));
+    let fault = fault_of(rt.alloc(), &[], &[(3, 0), (2, 1), (3, 2), (2, 3)], 0)?;
+    is_fault(&rt, fault, TxFault::RepeatedKey([2; 32]));
     Ok(())
+}
+
+/// Puts so many outputs into parts, of 0 lovelace and of each number more.
+fn put_outputs(alloc: Global, parts: &mut TxParts, count: u64) -> Result<(), Fail> {
+    for coin in 0..count {
+        put_output(parts, Value::of_coin(alloc, coin))?;
+    }
+    Ok(())
+}
+
+/// What is wrong with the payment with so many outputs more.
+fn fault_of_outputs(alloc: Global, count: u64) -> Result<Option<TxFault>, Fail> {
+    let mut parts = payment(alloc)?;
+    put_outputs(alloc, &mut parts, count)?;
+    Ok(Tx::new(alloc, parts).err())
 }
 
 #[test]
 fn too_many_outputs(rt: HostRuntime) -> Result<(), Fail> {
-    let alloc = rt.alloc();
-    let mut parts = payment(alloc)?;
-    for coin in 0..65536 {
-        parts.outputs.push(output(Value::of_coin(alloc, coin))?)?;
-    }
-    let fault = Tx::new(alloc, parts).err();
-    assert_eq!(rt; fault, Some(TxFault::TooManyOutputs(65537)));
+    let fault = fault_of_outputs(rt.alloc(), 65536)?;
+    is_fault(&rt, fault, TxFault::TooManyOutputs(65537));
     Ok(())
+}
+
+/// The payment with a script that is nested so many times.
+fn nesting_payment(alloc: Global, deep: usize) -> Result<Tx, Fail> {
+    let mut parts = payment(alloc)?;
+    put_deep(alloc, &mut parts, 1, deep)?;
+    made(alloc, parts)
+}
+
+/// Whether what is written of a transaction is read as one of the same identifier.
+fn is_read_again(alloc: Global, tx: &Tx) -> Result<bool, CborFault> {
+    let text = tx.encode()?;
+    Ok(Tx::decode(alloc, &text)?.id() == tx.id())
 }
 
 #[test]
 fn scripts_that_nest(rt: HostRuntime) -> Result<(), Fail> {
-    let alloc = rt.alloc();
-    let mut parts = payment(alloc)?;
-    parts.scripts.push(nested(alloc, 30)?)?;
-    let tx = Tx::new(alloc, parts)?;
-    assert_eq!(rt; tx.nesting(), 63);
-    assert_eq!(rt; Tx::decode(alloc, &tx.encode()?)?.id(), tx.id());
-    assert_eq!(rt; fault_of(alloc, &[], &[], 1)?, Some(TxFault::TooDeep));
+    let tx = nesting_payment(rt.alloc(), 30)?;
+    same(&rt, "nesting", tx.nesting() as u64, 63);
+    let is_same = is_read_again(rt.alloc(), &tx)?;
+    assert!(rt; is_same);
     Ok(())
+}
+
+/// The hash of a script that nests too deep.
+fn deep_hash(alloc: Global) -> Result<ScriptHash, Fail> {
+    Ok(nested(alloc, 31)?.hash())
 }
 
 // Of several faults the first in order is told.
 #[test]
+fn faults_of_scripts_in_order(rt: HostRuntime) -> Result<(), Fail> {
+    let fault = fault_of(rt.alloc(), &[], &[], 1)?;
+    is_fault(&rt, fault, TxFault::TooDeep);
+    let fault = fault_of(rt.alloc(), &[], &[], 2)?;
+    let hash = deep_hash(rt.alloc())?;
+    is_fault(&rt, fault, TxFault::RepeatedScript(hash));
+    Ok(())
+}
+
+#[test]
 fn faults_in_order(rt: HostRuntime) -> Result<(), Fail> {
-    let alloc = rt.alloc();
-    let hash = nested(alloc, 31)?.hash();
-    let fault = fault_of(alloc, &[], &[], 2)?;
-    assert_eq!(rt; fault, Some(TxFault::RepeatedScript(hash)));
-    let fault = fault_of(alloc, &[], &[(1, 1), (1, 2)], 2)?;
-    assert_eq!(rt; fault, Some(TxFault::RepeatedKey([1; 32])));
-    let fault = fault_of(alloc, &[0], &[(1, 1), (1, 2)], 1)?;
-    assert_eq!(rt; fault, Some(TxFault::RepeatedInput(input(0))));
+    let fault = fault_of(rt.alloc(), &[], &[(1, 1), (1, 2)], 2)?;
+    is_fault(&rt, fault, TxFault::RepeatedKey([1; 32]));
+    let fault = fault_of(rt.alloc(), &[0], &[(1, 1), (1, 2)], 1)?;
+    is_fault(&rt, fault, TxFault::RepeatedInput(input(0)));
+    Ok(())
+}
+
+/// A fault as text for people is this.
+fn is_shown(rt: &impl Abort, alloc: Global, fault: TxFault, want: &str) -> Result<(), Fail> {
+    let shown = format!(in alloc; "{fault}")?;
+    same_text(rt, &shown, want);
     Ok(())
 }
 
 #[test]
 fn faults_shown(rt: HostRuntime) -> Result<(), Fail> {
-    let alloc = rt.alloc();
-    let shown = format!(in alloc; "{}", TxFault::TooManyOutputs(65537))?;
-    assert_eq!(rt; shown.as_str(), "65537 outputs, where there may be 65536");
-    let shown = format!(in alloc; "{}", TxFault::RepeatedInput(input(0)))?;
-    assert_eq!(rt; shown.as_str(), "an input that stands there twice");
-    Ok(())
+    let many = TxFault::TooManyOutputs(65537);
+    is_shown(
+        &rt,
+        rt.alloc(),
+        many,
+        "65537 outputs, where there may be 65536",
+    )?;
+    let twice = TxFault::RepeatedInput(input(0));
+    is_shown(&rt, rt.alloc(), twice, "an input that stands there twice")
 }

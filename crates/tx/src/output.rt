@@ -1,6 +1,7 @@
 //! Outputs: what a transaction leaves to be spent.
 
-ghost use Rattle.std.specs.Prelude.{◌≡◌, ◌<◌, ◌≤◌, ◌+◌, ◌++◌, length, option_map, OnOk, OnErr, vec_len, vec_capacity};
+ghost use Rattle.std.specs.Prelude.{◌≡◌, ◌<◌, ◌≤◌, ◌+◌, ◌++◌, length, option_map, vec_len, vec_capacity};
+ghost use Rattle.std.specs.Prelude.{IfOk, OnOk, OnErr};
 ghost use Rattle.model.specs.Cbor.{text_of};
 ghost use Rattle.model.specs.Transaction as model;
 ghost use Rattle.model.specs.Transaction.{item_of_output};
@@ -20,6 +21,18 @@ use value::Value;
 pub struct Output {
     pub address: Address,
     pub value: Value,
+}
+
+impl Output {
+    /// An equal output. Err where memory runs out. Linear in the assets.
+    pub fn try_clone(&self) -> Result<Output, AllocError>
+        ensures { IfOk result (λ copy. output_of copy ≡ output_of self.now) }
+    {
+        Ok(Output {
+            address: self.address,
+            value: self.value.try_clone()?,
+        })
+    }
 }
 
 /// The address that stands first, a byte string, and the bytes after it.

@@ -7,6 +7,12 @@ use std::alloc::{AllocError, Global};
 use std::process::Abort;
 use std::test::Fail;
 
+/// A text, in parts, and a figure of what is read of it, or why it is none's.
+pub type Row = (&'static [&'static [u8]], Result<u64, CborFault>);
+
+/// What is told of a text that is none's.
+pub const MALFORMED: Result<u64, CborFault> = Err(CborFault::Malformed);
+
 /// The parts, one after the other.
 pub fn joined(alloc: Global, parts: &[&[u8]]) -> Result<Vec<u8>, AllocError> {
     let mut text = Vec::new(alloc);
@@ -16,26 +22,35 @@ pub fn joined(alloc: Global, parts: &[&[u8]]) -> Result<Vec<u8>, AllocError> {
     Ok(text)
 }
 
-/// The text of inputs: of each the byte that its identifier is made of, and the text of its index.
-pub fn inputs_text(
-    alloc: Global,
-    head: &[u8],
-    inputs: &[(u8, &[u8])],
-) -> Result<Vec<u8>, AllocError> {
-    let mut text = joined(alloc, &[head])?;
-    for (byte, index) in inputs {
-        text.extend_from_slice(b"\x82\x58\x20")?;
-        text.extend_from_slice(&[*byte; 32])?;
-        text.extend_from_slice(*index)?;
-    }
-    Ok(text)
+// Each assertion makes the proof of its test longer, so that most stand in these.
+
+/// The figure of this name is the one that is wanted.
+pub fn same(rt: &impl Abort, name: &str, found: u64, want: u64) {
+    assert_eq!(rt; found, want, "{name}");
 }
 
-/// How many inputs are read of the text, or why none are.
-fn read_inputs(alloc: Global, text: &[u8]) -> Result<usize, CborFault> {
-    let (inputs, _) = lists::read_inputs(alloc, text)?;
-    Ok(inputs.len())
+/// The bytes are those that are wanted.
+pub fn same_bytes(rt: &impl Abort, found: &[u8], want: &[u8]) {
+    assert_eq!(rt; found, want);
 }
+
+/// The text for people is the one that is wanted.
+pub fn same_text(rt: &impl Abort, found: &str, want: &str) {
+    assert_eq!(rt; found, want);
+}
+
+/// What is read of the text in parts is what is wanted.
+pub fn gives(
+    rt: &impl Abort,
+    parts: &[&[u8]],
+    found: Result<u64, CborFault>,
+    want: Result<u64, CborFault>,
+) {
+    assert_eq!(rt; found, want, "{parts:?}");
+}
+
+/// What stands before the identifier of an input.
+const INPUT: &[u8] = b"\x82\x58\x20";
 
 /// The text of the least index.
 const LEAST: &[u8] = b"\x00";
@@ -43,72 +58,75 @@ const LEAST: &[u8] = b"\x00";
 /// The text of the greatest index.
 const MOST: &[u8] = b"\x19\xff\xff";
 
-#[test]
-fn inputs_in_order(rt: HostRuntime) -> Result<(), Fail> {
-    let accepted: [(&[u8], &[(u8, &[u8])]); 4] = [
-        (b"\x80", &[]),
-        (b"\x81", &[(7, MOST)]),
-        // the identifier decides first
-        (b"\x82", &[(0, MOST), (1, LEAST)]),
-        (b"\x83", &[(0, LEAST), (0, MOST), (1, LEAST)]),
-    ];
-    for (head, inputs) in accepted {
-        let text = inputs_text(rt.alloc(), head, inputs)?;
-        assert_eq!(rt;
-            read_inputs(rt.alloc(), &text),
-            Ok(inputs.len()),
-            "{text:?}"
-        );
-    }
-    let refused: [(&[u8], &[(u8, &[u8])]); 7] = [
-        // equal, and falling by the index and by the identifier
-        (b"\x82", &[(1, LEAST), (1, LEAST)]),
-        (b"\x82", &[(1, b"\x01"), (1, LEAST)]),
-        (b"\x82", &[(1, LEAST), (0, MOST)]),
-        // out of order behind others
-        (b"\x83", &[(0, LEAST), (2, LEAST), (1, LEAST)]),
-        // an index of 65,536, and one in a long form
-        (b"\x81", &[(0, b"\x1a\x00\x01\x00\x00")]),
-        (b"\x81", &[(0, b"\x18\x00")]),
-        // a head that claims more than stands there
-        (b"\x82", &[(0, LEAST)]),
-    ];
-    for (head, inputs) in refused {
-        let text = inputs_text(rt.alloc(), head, inputs)?;
-        assert_eq!(rt;
-            read_inputs(rt.alloc(), &text),
-            Err(CborFault::Malformed),
-            "{text:?}"
-        );
-    }
-    Ok(())
+/// Inputs, and how many there are.
+const INPUTS: &[Row] = &[
+    (&[b"\x80"], Ok(0)),
+    (&[b"\x81", INPUT, &[7; 32], MOST], Ok(1)),
+    // the identifier decides first
+    (
+        &[b"\x82", INPUT, &[0; 32], MOST, INPUT, &[1; 32], LEAST],
+        Ok(2),
+    ),
+    (
+        &[
+            b"\x83", INPUT, &[0; 32], LEAST, INPUT, &[0; 32], MOST, INPUT, &[1; 32], LEAST,
+        ],
+        Ok(3),
+    ),
+    // equal, and falling by the index and by the identifier
+    (
+        &[b"\x82", INPUT, &[1; 32], LEAST, INPUT, &[1; 32], LEAST],
+        MALFORMED,
+    ),
+    (
+        &[b"\x82", INPUT, &[1; 32], b"\x01", INPUT, &[1; 32], LEAST],
+        MALFORMED,
+    ),
+    (
+        &[b"\x82", INPUT, &[1; 32], LEAST, INPUT, &[0; 32], MOST],
+        MALFORMED,
+    ),
+    // out of order behind others
+    (
+        &[
+            b"\x83", INPUT, &[0; 32], LEAST, INPUT, &[2; 32], LEAST, INPUT, &[1; 32], LEAST,
+        ],
+        MALFORMED,
+    ),
+    // an index of 65,536, and one in a long form
+    (
+        &[b"\x81", INPUT, &[0; 32], b"\x1a\x00\x01\x00\x00"],
+        MALFORMED,
+    ),
+    (&[b"\x81", INPUT, &[0; 32], b"\x18\x00"], MALFORMED),
+    // a head that claims more than stands there
+    (&[b"\x82", INPUT, &[0; 32], LEAST], MALFORMED),
+    (&[b""], MALFORMED),
+    // a map, and an array of unknown length
+    (&[b"\xa0"], MALFORMED),
+    (&[b"\x9f\xff"], MALFORMED),
+    // an identifier that is no byte string, an input of three members, and an identifier of 33 bytes
+    (&[b"\x81\x82\x00\x00"], MALFORMED),
+    (&[b"\x81\x83\x40\x00\x00"], MALFORMED),
+    (&[b"\x81\x82\x58\x21", &[0; 33], b"\x00"], MALFORMED),
+];
+
+/// How many inputs are read of a text, or why none are.
+fn read_inputs(alloc: Global, parts: &[&[u8]]) -> Result<u64, CborFault> {
+    let text = joined(alloc, parts)?;
+    let (inputs, _) = lists::read_inputs(alloc, &text)?;
+    Ok(inputs.len() as u64)
 }
 
 #[test]
-fn inputs_of_other_shapes(rt: HostRuntime) -> Result<(), Fail> {
-    let refused: [&[u8]; 5] = [
-        b"",
-        // a map, and an array of unknown length
-        b"\xa0",
-        b"\x9f\xff",
-        // an identifier that is no byte string, and an input of three members
-        b"\x81\x82\x00\x00",
-        b"\x81\x83\x40\x00\x00",
-    ];
-    for text in refused {
-        assert_eq!(rt;
-            read_inputs(rt.alloc(), text),
-            Err(CborFault::Malformed),
-            "{text:?}"
-        );
+fn inputs_in_order(rt: HostRuntime) {
+    for (parts, want) in INPUTS {
+        gives(&rt, *parts, read_inputs(rt.alloc(), *parts), *want);
     }
-    let long = joined(rt.alloc(), &[b"\x81\x82\x58\x21", &[0; 33], b"\x00"])?;
-    assert_eq!(rt; read_inputs(rt.alloc(), &long), Err(CborFault::Malformed));
-    Ok(())
 }
 
 #[test]
-fn order_of_inputs(rt: HostRuntime) -> Result<(), Fail> {
+fn order_of_inputs(rt: HostRuntime) {
     let low = TxId::from_bytes([0; 32]);
     let high = TxId::from_bytes([1; 32]);
     let first = Input {
@@ -125,8 +143,7 @@ fn order_of_inputs(rt: HostRuntime) -> Result<(), Fail> {
     };
     assert!(rt; first < second);
     assert!(rt; second < third);
-    assert_eq!(rt; third, third);
-    Ok(())
+    assert!(rt; third == third);
 }
 
 /// An address whose first byte is this and whose others are 9, as far as there is one.
@@ -136,202 +153,218 @@ fn address(first: u8) -> Option<Address> {
     Address::from_bytes(&bytes)
 }
 
+/// The address is the one that is wanted, if one is.
+fn same_address(rt: &impl Abort, first: u8, found: Option<Address>, want: Option<Address>) {
+    assert_eq!(rt; found, want, "{first}");
+}
+
+/// The address of this first byte is that of the network and the credential.
+fn address_goes_round(rt: &impl Abort, first: u8, network: u8, payment: Credential) {
+    let Some(found) = address(first) else {
+        panic!(rt; "no address: {first}");
+    };
+    same_address(rt, first, Some(found), Address::new(network, payment));
+    assert!(rt; found.network() == network);
+    assert!(rt; found.payment() == payment);
+    let mut bytes = [9; 33];
+    bytes[0] = first;
+    same_bytes(rt, &found.to_bytes(), &bytes);
+}
+
 #[test]
-fn addresses(rt: HostRuntime) -> Result<(), Fail> {
+fn addresses(rt: HostRuntime) {
     let key = Credential::Key(KeyHash::from_bytes([9; 32]));
     let script = Credential::Script(ScriptHash::from_bytes([9; 32]));
-    let kinds = [
-        (0x60, key, 0),
-        (0x6f, key, 15),
-        (0x70, script, 0),
-        (0x7f, script, 15),
-    ];
-    for (first, payment, network) in kinds {
-        assert_eq!(rt; address(first), Address::new(network, payment), "{first}");
-        let Some(found) = address(first) else {
-            assert!(rt; false, "no address: {first}");
-            return Ok(());
-        };
-        assert_eq!(rt; found.network(), network);
-        assert_eq!(rt; found.payment(), payment);
-        let mut bytes = [9; 33];
-        bytes[0] = first;
-        assert_eq!(rt; found.to_bytes().as_slice(), bytes.as_slice());
-    }
+    address_goes_round(&rt, 0x60, 0, key);
+    address_goes_round(&rt, 0x6f, 15, key);
+    address_goes_round(&rt, 0x70, 0, script);
+    address_goes_round(&rt, 0x7f, 15, script);
+}
+
+#[test]
+fn no_addresses(rt: HostRuntime) {
     for first in [0x00, 0x50, 0x5f, 0x80, 0xe1, 0xff] {
-        assert_eq!(rt; address(first), None, "{first}");
+        same_address(&rt, first, address(first), None);
     }
-    assert_eq!(rt; Address::new(16, key), None);
-    assert_eq!(rt; Address::new(255, key), None);
-    Ok(())
+    let key = Credential::Key(KeyHash::from_bytes([9; 32]));
+    same_address(&rt, 16, Address::new(16, key), None);
+    same_address(&rt, 255, Address::new(255, key), None);
 }
 
-/// The text of an output: the head of its address, the first byte and how many 9 there are after it, and its value.
-fn output_text(
-    alloc: Global,
-    head: &[u8],
-    first: u8,
-    others: &[u8],
-    value: &[u8],
-) -> Result<Vec<u8>, AllocError> {
-    let mut text = joined(alloc, &[b"\x82"])?;
-    text.extend_from_slice(head)?;
-    text.push(first)?;
-    text.extend_from_slice(others)?;
-    text.extend_from_slice(value)?;
-    Ok(text)
-}
+/// An output of 910 lovelace.
+const OUTPUT_OF_COIN: &[&[u8]] = &[b"\x82\x58\x21\x61", &[9; 32], b"\x19\x03\x8e"];
 
-/// What is read of the text of an output is written again as it stood there.
-fn output_goes_round(rt: &impl Abort, alloc: Global, text: &[u8]) -> Result<Output, Fail> {
-    let (output, rest) = Output::decode(alloc, 5, text)?;
-    assert!(rt; rest.is_empty());
-    let mut out = Vec::new(alloc);
-    output.write(&mut out)?;
-    assert_eq!(rt; out.as_slice(), text);
+/// An output of 5 lovelace and 1 of the empty name under the policy of 32 bytes 03.
+const OUTPUT_WITH_ASSET: &[&[u8]] = &[
+    b"\x82\x58\x21\x7f",
+    &[9; 32],
+    b"\x82\x05\xa1\x58\x20",
+    &[3; 32],
+    b"\xa1\x40\x01",
+];
+
+/// Outputs, and their lovelace.
+const OUTPUTS: &[Row] = &[
+    (OUTPUT_OF_COIN, Ok(910)),
+    (OUTPUT_WITH_ASSET, Ok(5)),
+    // other kinds of address
+    (&[b"\x82\x58\x21\x50", &[9; 32], b"\x00"], MALFORMED),
+    (&[b"\x82\x58\x21\x80", &[9; 32], b"\x00"], MALFORMED),
+    // addresses of 32 and 34 bytes
+    (&[b"\x82\x58\x20\x60", &[9; 31], b"\x00"], MALFORMED),
+    (&[b"\x82\x58\x22\x60", &[9; 33], b"\x00"], MALFORMED),
+    // a value below 0, and none
+    (&[b"\x82\x58\x21\x60", &[9; 32], b"\x20"], MALFORMED),
+    (&[b"\x82\x58\x21\x60", &[9; 32], b""], MALFORMED),
+];
+
+/// The output that is read of a text.
+fn read_output(alloc: Global, parts: &[&[u8]]) -> Result<Output, CborFault> {
+    let text = joined(alloc, parts)?;
+    let (output, _) = Output::decode(alloc, 5, &text)?;
     Ok(output)
 }
 
-/// Why an output isn't read, if it isn't.
-fn output_fault(alloc: Global, text: &[u8]) -> Option<CborFault> {
-    match Output::decode(alloc, 5, text) {
-        Ok(_) => None,
-        Err(fault) => Some(fault),
+/// Its lovelace.
+fn read_coin(alloc: Global, parts: &[&[u8]]) -> Result<u64, CborFault> {
+    Ok(read_output(alloc, parts)?.value.coin())
+}
+
+#[test]
+fn outputs(rt: HostRuntime) {
+    for (parts, want) in OUTPUTS {
+        gives(&rt, *parts, read_coin(rt.alloc(), *parts), *want);
     }
 }
 
 #[test]
-fn outputs(rt: HostRuntime) -> Result<(), Fail> {
-    let alloc = rt.alloc();
-    let text = output_text(alloc, b"\x58\x21", 0x61, &[9; 32], b"\x19\x03\x8e")?;
-    let output = output_goes_round(&rt, alloc, &text)?;
-    assert_eq!(rt; Some(output.address), address(0x61));
-    assert_eq!(rt; output.value.coin(), 910);
-    let assets = joined(alloc, &[b"\x82\x05\xa1\x58\x20", &[3; 32], b"\xa1\x40\x01"])?;
-    let text = output_text(alloc, b"\x58\x21", 0x7f, &[9; 32], &assets)?;
-    let output = output_goes_round(&rt, alloc, &text)?;
-    assert_eq!(rt; output.value.assets().len(), 1);
+fn parts_of_outputs(rt: HostRuntime) -> Result<(), Fail> {
+    let output = read_output(rt.alloc(), OUTPUT_OF_COIN)?;
+    same_address(&rt, 0x61, Some(output.address), address(0x61));
+    let output = read_output(rt.alloc(), OUTPUT_WITH_ASSET)?;
+    same(&rt, "assets", output.value.assets().len() as u64, 1);
+    Ok(())
+}
+
+/// What is written of the output that a text is, and nothing more.
+fn written_output(alloc: Global, text: &[u8]) -> Result<Vec<u8>, CborFault> {
+    let (output, rest) = Output::decode(alloc, 5, text)?;
+    if !rest.is_empty() {
+        return Err(CborFault::Malformed);
+    }
+    let mut out = Vec::new(alloc);
+    output.write(&mut out)?;
+    Ok(out)
+}
+
+/// What is read of the text of an output is written again as it stood there.
+fn output_goes_round(rt: &impl Abort, alloc: Global, parts: &[&[u8]]) -> Result<(), CborFault> {
+    let text = joined(alloc, parts)?;
+    let out = written_output(alloc, &text)?;
+    same_bytes(rt, &out, &text);
     Ok(())
 }
 
 #[test]
-fn refused_outputs(rt: HostRuntime) -> Result<(), Fail> {
-    let alloc = rt.alloc();
-    let refused = [
-        // other kinds of address
-        output_text(alloc, b"\x58\x21", 0x50, &[9; 32], b"\x00")?,
-        output_text(alloc, b"\x58\x21", 0x80, &[9; 32], b"\x00")?,
-        // addresses of 32 and 34 bytes
-        output_text(alloc, b"\x58\x20", 0x60, &[9; 31], b"\x00")?,
-        output_text(alloc, b"\x58\x22", 0x60, &[9; 33], b"\x00")?,
-        // a value below 0, and none
-        output_text(alloc, b"\x58\x21", 0x60, &[9; 32], b"\x20")?,
-        output_text(alloc, b"\x58\x21", 0x60, &[9; 32], b"")?,
-    ];
-    for text in &refused {
-        assert_eq!(rt;
-            output_fault(alloc, text),
-            Some(CborFault::Malformed),
-            "{text:?}"
-        );
-    }
-    Ok(())
+fn outputs_written_again(rt: HostRuntime) -> Result<(), Fail> {
+    output_goes_round(&rt, rt.alloc(), OUTPUT_OF_COIN)?;
+    Ok(output_goes_round(&rt, rt.alloc(), OUTPUT_WITH_ASSET)?)
 }
 
-/// The text of signatures: of each the bytes that its key and its signature are made of.
-fn signatures_text(alloc: Global, head: &[u8], pairs: &[(u8, u8)]) -> Result<Vec<u8>, AllocError> {
-    let mut text = joined(alloc, &[head])?;
-    for (key, signature) in pairs {
-        text.extend_from_slice(b"\x82\x58\x20")?;
-        text.extend_from_slice(&[*key; 32])?;
-        text.extend_from_slice(b"\x58\x40")?;
-        text.extend_from_slice(&[*signature; 64])?;
-    }
-    Ok(text)
-}
+/// What stands before the key of a signature.
+const KEY: &[u8] = b"\x82\x58\x20";
 
-/// How many signatures are read of the text, or why none are.
-fn read_signatures(alloc: Global, text: &[u8]) -> Result<usize, CborFault> {
-    let (signatures, _) = lists::read_signatures(alloc, text)?;
-    Ok(signatures.len())
-}
+/// What stands before the signature behind its key.
+const SIGNED: &[u8] = b"\x58\x40";
 
-#[test]
-fn signatures_by_key(rt: HostRuntime) -> Result<(), Fail> {
-    let accepted: [(&[u8], &[(u8, u8)]); 3] = [
-        (b"\x81", &[(0, 0)]),
-        // the signatures have no order
-        (b"\x82", &[(1, 9), (2, 8)]),
-        (b"\x82", &[(1, 9), (2, 9)]),
-    ];
-    for (head, pairs) in accepted {
-        let text = signatures_text(rt.alloc(), head, pairs)?;
-        assert_eq!(rt;
-            read_signatures(rt.alloc(), &text),
-            Ok(pairs.len()),
-            "{text:?}"
-        );
-    }
-    let refused: [(&[u8], &[(u8, u8)]); 5] = [
-        (b"\x80", &[]),
-        (b"\xa1", &[(0, 0)]),
-        // a key twice, keys that fall, and fewer than the head claims
-        (b"\x82", &[(1, 8), (1, 9)]),
-        (b"\x82", &[(2, 8), (1, 9)]),
-        (b"\x82", &[(2, 8)]),
-    ];
-    for (head, pairs) in refused {
-        let text = signatures_text(rt.alloc(), head, pairs)?;
-        assert_eq!(rt;
-            read_signatures(rt.alloc(), &text),
-            Err(CborFault::Malformed),
-            "{text:?}"
-        );
-    }
-    Ok(())
+/// Signatures, and how many there are.
+const SIGNATURES: &[Row] = &[
+    (&[b"\x81", KEY, &[0; 32], SIGNED, &[0; 64]], Ok(1)),
+    // the signatures have no order
+    (
+        &[
+            b"\x82", KEY, &[1; 32], SIGNED, &[9; 64], KEY, &[2; 32], SIGNED, &[8; 64],
+        ],
+        Ok(2),
+    ),
+    (
+        &[
+            b"\x82", KEY, &[1; 32], SIGNED, &[9; 64], KEY, &[2; 32], SIGNED, &[9; 64],
+        ],
+        Ok(2),
+    ),
+    (&[b"\x80"], MALFORMED),
+    (&[b"\xa1", KEY, &[0; 32], SIGNED, &[0; 64]], MALFORMED),
+    // a key twice, keys that fall, and fewer than the head claims
+    (
+        &[
+            b"\x82", KEY, &[1; 32], SIGNED, &[8; 64], KEY, &[1; 32], SIGNED, &[9; 64],
+        ],
+        MALFORMED,
+    ),
+    (
+        &[
+            b"\x82", KEY, &[2; 32], SIGNED, &[8; 64], KEY, &[1; 32], SIGNED, &[9; 64],
+        ],
+        MALFORMED,
+    ),
+    (&[b"\x82", KEY, &[2; 32], SIGNED, &[8; 64]], MALFORMED),
+    // keys of 31 and 33 bytes, and signatures of 63 and 65
+    (
+        &[b"\x81\x82\x58\x1f", &[1; 31], b"\x58\x40", &[2; 64]],
+        MALFORMED,
+    ),
+    (
+        &[b"\x81\x82\x58\x21", &[1; 33], b"\x58\x40", &[2; 64]],
+        MALFORMED,
+    ),
+    (
+        &[b"\x81\x82\x58\x20", &[1; 32], b"\x58\x3f", &[2; 63]],
+        MALFORMED,
+    ),
+    (
+        &[b"\x81\x82\x58\x20", &[1; 32], b"\x58\x41", &[2; 65]],
+        MALFORMED,
+    ),
+];
+
+/// How many signatures are read of a text, or why none are.
+fn read_signatures(alloc: Global, parts: &[&[u8]]) -> Result<u64, CborFault> {
+    let text = joined(alloc, parts)?;
+    let (signatures, _) = lists::read_signatures(alloc, &text)?;
+    Ok(signatures.len() as u64)
 }
 
 #[test]
-fn lengths_in_signatures(rt: HostRuntime) -> Result<(), Fail> {
-    let alloc = rt.alloc();
-    let refused = [
-        joined(
-            alloc,
-            &[b"\x81\x82\x58\x1f", &[1; 31], b"\x58\x40", &[2; 64]],
-        )?,
-        joined(
-            alloc,
-            &[b"\x81\x82\x58\x21", &[1; 33], b"\x58\x40", &[2; 64]],
-        )?,
-        joined(
-            alloc,
-            &[b"\x81\x82\x58\x20", &[1; 32], b"\x58\x3f", &[2; 63]],
-        )?,
-        joined(
-            alloc,
-            &[b"\x81\x82\x58\x20", &[1; 32], b"\x58\x41", &[2; 65]],
-        )?,
-    ];
-    for text in &refused {
-        assert_eq!(rt;
-            read_signatures(alloc, text),
-            Err(CborFault::Malformed),
-            "{text:?}"
-        );
+fn signatures_by_key(rt: HostRuntime) {
+    for (parts, want) in SIGNATURES {
+        gives(&rt, *parts, read_signatures(rt.alloc(), *parts), *want);
     }
-    Ok(())
 }
 
+/// A signature of 64 bytes 02 by the key of 32 bytes 01.
+const ONE_SIGNATURE: &[&[u8]] = &[KEY, &[1; 32], SIGNED, &[2; 64]];
+
 #[test]
-fn signature_goes_round(rt: HostRuntime) -> Result<(), Fail> {
-    let witness = KeyWitness::new([1; 32], [2; 64]);
-    assert_eq!(rt; witness.key_hash(), KeyHash::of_key(&[1; 32]));
+fn signature_is_written(rt: HostRuntime) -> Result<(), Fail> {
     let mut out = Vec::new(rt.alloc());
-    witness.write(&mut out)?;
-    let expected = signatures_text(rt.alloc(), b"", &[(1, 2)])?;
-    assert_eq!(rt; out.as_slice(), expected.as_slice());
-    let (read, rest) = KeyWitness::decode(rt.alloc(), 2, &out)?;
-    assert_eq!(rt; read, witness);
+    KeyWitness::new([1; 32], [2; 64]).write(&mut out)?;
+    let expected = joined(rt.alloc(), ONE_SIGNATURE)?;
+    same_bytes(&rt, &out, &expected);
+    Ok(())
+}
+
+#[test]
+fn signature_is_read(rt: HostRuntime) -> Result<(), Fail> {
+    let text = joined(rt.alloc(), ONE_SIGNATURE)?;
+    let (read, rest) = KeyWitness::decode(rt.alloc(), 2, &text)?;
+    assert!(rt; read == KeyWitness::new([1; 32], [2; 64]));
     assert!(rt; rest.is_empty());
     Ok(())
+}
+
+#[test]
+fn hash_of_a_key(rt: HostRuntime) {
+    let witness = KeyWitness::new([1; 32], [2; 64]);
+    assert_eq!(rt; witness.key_hash(), KeyHash::of_key(&[1; 32]));
 }

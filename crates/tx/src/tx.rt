@@ -213,7 +213,9 @@ impl Tx {
     /// The identifier, which is also what keys sign: SHA-256 (FIPS 180-4) of the body's text. It is kept: constant
     /// time.
     pub fn id(&self) -> TxId
-        ensures { result.bytes ≡ transaction_id_of self.now }
+        ensures is { result.bytes ≡ transaction_id_of self.now }
+        // The transaction has a text, so what is said of such transactions is said of it.
+        ensures spelled { SpellsTransaction self.now (text_of (item_of_transaction self.now)) }
     {
         self.id
     }

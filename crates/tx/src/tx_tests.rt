@@ -1,8 +1,8 @@
 //! Whole transactions: worked texts, and texts just inside the shape and just outside.
 
 use crate::Tx;
-use crate::body_tests::KEY_HASH;
-use crate::tests::joined;
+use crate::body_tests::FRONT;
+use crate::tests::{MALFORMED, Row, gives, joined, same, same_bytes, same_text};
 use cbor::{CborFault, Decode};
 use std::alloc::{AllocError, Global};
 use std::process::Abort;
@@ -15,201 +15,259 @@ pub const POLICY: [u8; 32] = [
     0xaa, 0x48, 0xdd, 0x2d, 0x56, 0xe3, 0x08, 0xeb, 0xe7, 0x90, 0xba, 0xbd, 0x1c, 0x7d, 0xaf, 0x88,
 ];
 
-/// The text of an array of one input: place 0 of the transaction of 32 zero bytes.
-fn input(alloc: Global) -> Result<Vec<u8>, AllocError> {
-    joined(alloc, &[b"\x81\x82\x58\x20", &[0; 32], b"\x00"])
-}
-
 /// The body that leaves 910 lovelace to the key of 32 bytes 01, and pays a fee of 290.
-pub fn paying_body(alloc: Global) -> Result<Vec<u8>, AllocError> {
-    let input = input(alloc)?;
-    let to_key = b"\x01\x81\x82\x58\x21\x60".as_slice();
-    joined(
-        alloc,
-        &[
-            b"\xa3\x00",
-            &input,
-            to_key,
-            &KEY_HASH,
-            b"\x19\x03\x8e\x02\x19\x01\x22",
-        ],
-    )
+const PAYING_BODY: [u8; 84] = [
+    0xa3, 0x00, 0x81, 0x82, 0x58, 0x20, 0x00, 0x00, 0x00, 0x00, 0x00, 0x00, 0x00, 0x00, 0x00, 0x00,
+    0x00, 0x00, 0x00, 0x00, 0x00, 0x00, 0x00, 0x00, 0x00, 0x00, 0x00, 0x00, 0x00, 0x00, 0x00, 0x00,
+    0x00, 0x00, 0x00, 0x00, 0x00, 0x00, 0x00, 0x01, 0x81, 0x82, 0x58, 0x21, 0x60, 0x72, 0xcd, 0x6e,
+    0x84, 0x22, 0xc4, 0x07, 0xfb, 0x6d, 0x09, 0x86, 0x90, 0xf1, 0x13, 0x0b, 0x7d, 0xed, 0x7e, 0xc2,
+    0xf7, 0xf5, 0xe1, 0xd3, 0x0b, 0xd9, 0xd5, 0x21, 0xf0, 0x15, 0x36, 0x37, 0x93, 0x19, 0x03, 0x8e,
+    0x02, 0x19, 0x01, 0x22,
+];
+
+/// The text of the transaction of that body, with a witness set of 104 bytes: the signature of the same key.
+pub const PAYING: &[&[u8]] = &[
+    b"\x83",
+    &PAYING_BODY,
+    b"\xa1\x00\x81\x82\x58\x20",
+    &[1; 32],
+    b"\x58\x40",
+    &[9; 64],
+    b"\xf6",
+];
+
+/// The text of the transaction that mints 5 of a policy, and leaves it with 800 lovelace to the same key, for a fee of
+/// 400, with that signature and the policy's script.
+pub const MINTING: &[&[u8]] = &[
+    b"\x83\xa4",
+    FRONT,
+    b"\x82\x19\x03\x20\xa1\x58\x20",
+    &POLICY,
+    b"\xa1\x40\x05\x02\x19\x01\x90\x09\xa1\x58\x20",
+    &POLICY,
+    b"\xa1\x40\x05\xa2\x00\x81\x82\x58\x20",
+    &[1; 32],
+    b"\x58\x40",
+    &[9; 64],
+    b"\x01\x81\x82\x01\x80\xf6",
+];
+
+/// The transaction that a text in parts is.
+fn read(alloc: Global, parts: &[&[u8]]) -> Result<Tx, CborFault> {
+    let text = joined(alloc, parts)?;
+    Tx::decode(alloc, &text)
 }
 
-/// The body that mints 5 of a policy, and leaves it with 800 lovelace to the same key.
-pub fn minting_body(alloc: Global) -> Result<Vec<u8>, AllocError> {
-    let input = input(alloc)?;
-    let to_key = b"\x01\x81\x82\x58\x21\x60".as_slice();
-    let front = joined(alloc, &[b"\xa4\x00", &input, to_key, &KEY_HASH])?;
-    let held = joined(
-        alloc,
-        &[b"\x82\x19\x03\x20\xa1\x58\x20", &POLICY, b"\xa1\x40\x05"],
-    )?;
-    let minted = joined(alloc, &[b"\x09\xa1\x58\x20", &POLICY, b"\xa1\x40\x05"])?;
-    joined(alloc, &[&front, &held, b"\x02\x19\x01\x90", &minted])
+/// Its size, or why the text is none's.
+fn read_size(alloc: Global, parts: &[&[u8]]) -> Result<u64, CborFault> {
+    Ok(read(alloc, parts)?.size())
 }
 
-/// The text of an array of one signature by the key of 32 bytes 01.
-pub fn signature(alloc: Global) -> Result<Vec<u8>, AllocError> {
-    joined(
-        alloc,
-        &[b"\x81\x82\x58\x20", &[1; 32], b"\x58\x40", &[9; 64]],
-    )
-}
-
-/// Reads a transaction with a byte after it, and writes it and its copy again.
-fn goes_round(rt: &impl Abort, alloc: Global, text: &[u8]) -> Result<Tx, Fail> {
+/// The transaction that is read of a text, behind which a byte stands.
+fn read_followed(alloc: Global, text: &[u8]) -> Result<Tx, CborFault> {
     let followed = joined(alloc, &[text, b"\xff"])?;
     let (tx, rest) = Tx::read(alloc, &followed)?;
-    assert_eq!(rt; rest, b"\xff".as_slice());
-    let copy = tx.try_clone()?;
-    assert_eq!(rt; copy.encode()?.as_slice(), text);
-    assert_eq!(rt; copy.id(), tx.id());
-    assert_eq!(rt; tx.size(), text.len() as u64);
-    assert_eq!(rt;
-        Tx::decode(alloc, &followed).err(),
-        Some(CborFault::Malformed)
-    );
+    if rest != b"\xff".as_slice() {
+        return Err(CborFault::Malformed);
+    }
     Ok(tx)
+}
+
+/// What is written of the copy of a transaction.
+fn written_copy(rt: &impl Abort, tx: &Tx) -> Result<Vec<u8>, AllocError> {
+    let copy = tx.try_clone()?;
+    assert!(rt; copy.id() == tx.id());
+    copy.encode()
+}
+
+/// Reads a transaction with a byte after it, and writes its copy again.
+fn goes_round(rt: &impl Abort, alloc: Global, parts: &[&[u8]]) -> Result<(), CborFault> {
+    let text = joined(alloc, parts)?;
+    let tx = read_followed(alloc, &text)?;
+    let again = written_copy(rt, &tx)?;
+    same_bytes(rt, &again, &text);
+    same(rt, "size", tx.size(), text.len() as u64);
+    gives(rt, parts, read_size(alloc, &[&text, b"\xff"]), MALFORMED);
+    Ok(())
+}
+
+#[test]
+fn read_and_written_again(rt: HostRuntime) -> Result<(), Fail> {
+    goes_round(&rt, rt.alloc(), PAYING)?;
+    Ok(goes_round(&rt, rt.alloc(), MINTING)?)
+}
+
+/// The identifier of a transaction, as text for people, is this.
+pub fn is_named(rt: &impl Abort, alloc: Global, tx: &Tx, want: &str) -> Result<(), Fail> {
+    let id = format!(in alloc; "{}", tx.id())?;
+    same_text(rt, &id, want);
+    Ok(())
 }
 
 #[test]
 fn a_payment(rt: HostRuntime) -> Result<(), Fail> {
-    let alloc = rt.alloc();
-    let body = paying_body(alloc)?;
-    assert_eq!(rt; body.len(), 84);
-    let signatures = signature(alloc)?;
-    let witnesses = joined(alloc, &[b"\xa1\x00", &signatures])?;
-    assert_eq!(rt; witnesses.len(), 104);
-    let text = joined(alloc, &[b"\x83", &body, &witnesses, b"\xf6"])?;
-    let tx = goes_round(&rt, alloc, &text)?;
-    assert_eq!(rt; tx.size(), 190);
-    assert_eq!(rt; tx.nesting(), 5);
-    let id = format!(in alloc; "{}", tx.id())?;
-    assert_eq!(rt;
-        id.as_str(),
-        "afd9fff1a7c82f9259b208652b718624b06a4648eaca7288e41ea8f5646e34e1"
-    );
-    assert_eq!(rt; tx.inputs().len(), 1);
-    assert_eq!(rt; tx.outputs().len(), 1);
-    assert_eq!(rt; tx.fee(), 290);
-    let open = Interval {
-        start: None,
-        end: None,
-    };
-    assert_eq!(rt; tx.interval(), open);
-    assert!(rt; tx.mint().policies().is_empty());
-    assert_eq!(rt; tx.signatures().len(), 1);
-    assert!(rt; tx.scripts().is_empty());
+    let tx = read(rt.alloc(), PAYING)?;
+    same(&rt, "size", tx.size(), 1 + 84 + 104 + 1);
+    same(&rt, "nesting", tx.nesting() as u64, 5);
+    is_named(
+        &rt,
+        rt.alloc(),
+        &tx,
+        "afd9fff1a7c82f9259b208652b718624b06a4648eaca7288e41ea8f5646e34e1",
+    )
+}
+
+#[test]
+fn parts_of_a_payment(rt: HostRuntime) -> Result<(), Fail> {
+    let tx = read(rt.alloc(), PAYING)?;
+    same(&rt, "inputs", tx.inputs().len() as u64, 1);
+    same(&rt, "outputs", tx.outputs().len() as u64, 1);
+    same(&rt, "fee", tx.fee(), 290);
+    same(&rt, "minted", tx.mint().policies().len() as u64, 0);
+    same(&rt, "signatures", tx.signatures().len() as u64, 1);
+    same(&rt, "scripts", tx.scripts().len() as u64, 0);
+    Ok(())
+}
+
+/// The slots of a transaction are these.
+pub fn is_inside(rt: &impl Abort, tx: &Tx, start: Option<u64>, end: Option<u64>) {
+    assert_eq!(rt; tx.interval(), Interval { start, end });
+}
+
+#[test]
+fn a_payment_in_any_slot(rt: HostRuntime) -> Result<(), Fail> {
+    let tx = read(rt.alloc(), PAYING)?;
+    is_inside(&rt, &tx, None, None);
     Ok(())
 }
 
 #[test]
 fn a_minting(rt: HostRuntime) -> Result<(), Fail> {
-    let alloc = rt.alloc();
-    let body = minting_body(alloc)?;
-    let signatures = signature(alloc)?;
-    let witnesses = joined(alloc, &[b"\xa2\x00", &signatures, b"\x01\x81\x82\x01\x80"])?;
-    let text = joined(alloc, &[b"\x83", &body, &witnesses, b"\xf6"])?;
-    let tx = goes_round(&rt, alloc, &text)?;
-    assert_eq!(rt; tx.size(), 273);
-    assert_eq!(rt; tx.nesting(), 8);
-    let id = format!(in alloc; "{}", tx.id())?;
-    assert_eq!(rt;
-        id.as_str(),
-        "f143dbd2fb9e4515b656d1eb3f8d5e31895568564f31644e0520ba08ef31907f"
-    );
-    assert_eq!(rt; tx.mint().policies().len(), 1);
-    assert_eq!(rt; tx.scripts().len(), 1);
-    Ok(())
+    let tx = read(rt.alloc(), MINTING)?;
+    same(&rt, "size", tx.size(), 273);
+    same(&rt, "nesting", tx.nesting() as u64, 8);
+    same(&rt, "minted", tx.mint().policies().len() as u64, 1);
+    same(&rt, "scripts", tx.scripts().len() as u64, 1);
+    is_named(
+        &rt,
+        rt.alloc(),
+        &tx,
+        "f143dbd2fb9e4515b656d1eb3f8d5e31895568564f31644e0520ba08ef31907f",
+    )
 }
 
-/// What reading the paying body gives with these witnesses and this end.
-fn with_witnesses(alloc: Global, witnesses: &[u8], end: &[u8]) -> Result<u64, CborFault> {
-    let body = paying_body(alloc)?;
-    let text = joined(alloc, &[b"\x83", &body, witnesses, end])?;
-    Ok(Tx::decode(alloc, &text)?.size())
-}
+/// Texts of transactions, and their sizes.
+const SIZES: &[Row] = &[
+    (&[b"\x83", &PAYING_BODY, b"\xa0", b"\xf6"], Ok(87)),
+    (
+        &[b"\x83", &PAYING_BODY, b"\xa1\x01\x81\x82\x01\x80", b"\xf6"],
+        Ok(92),
+    ),
+    // scripts that rise and that fall, and one twice
+    (
+        &[
+            b"\x83",
+            &PAYING_BODY,
+            b"\xa1\x01\x82\x82\x01\x80\x82\x02\x80",
+            b"\xf6",
+        ],
+        Ok(95),
+    ),
+    (
+        &[
+            b"\x83",
+            &PAYING_BODY,
+            b"\xa1\x01\x82\x82\x02\x80\x82\x01\x80",
+            b"\xf6",
+        ],
+        MALFORMED,
+    ),
+    (
+        &[
+            b"\x83",
+            &PAYING_BODY,
+            b"\xa1\x01\x82\x82\x01\x80\x82\x01\x80",
+            b"\xf6",
+        ],
+        MALFORMED,
+    ),
+    // entries of no signature and of no script
+    (
+        &[b"\x83", &PAYING_BODY, b"\xa1\x00\x80", b"\xf6"],
+        MALFORMED,
+    ),
+    (
+        &[b"\x83", &PAYING_BODY, b"\xa1\x01\x80", b"\xf6"],
+        MALFORMED,
+    ),
+    // an unknown key, and a head that claims too many entries
+    (
+        &[b"\x83", &PAYING_BODY, b"\xa1\x02\x81\x82\x01\x80", b"\xf6"],
+        MALFORMED,
+    ),
+    (
+        &[b"\x83", &PAYING_BODY, b"\xa2\x01\x81\x82\x01\x80", b"\xf6"],
+        MALFORMED,
+    ),
+    // other ends
+    (&[b"\x83", &PAYING_BODY, b"\xa0", b""], MALFORMED),
+    (&[b"\x83", &PAYING_BODY, b"\xa0", b"\xf7"], MALFORMED),
+    (&[b"\x83", &PAYING_BODY, b"\xa0", b"\x00"], MALFORMED),
+    (&[b"\x83", &PAYING_BODY, b"\xa0", b"\xf6\xf6"], MALFORMED),
+    (&[b"\x82", &PAYING_BODY, b"\xa0"], MALFORMED),
+];
 
 #[test]
-fn scripts_in_order(rt: HostRuntime) -> Result<(), Fail> {
-    let alloc = rt.alloc();
-    let rising = with_witnesses(alloc, b"\xa1\x01\x82\x82\x01\x80\x82\x02\x80", b"\xf6");
-    assert_eq!(rt; rising, Ok(95));
-    let falling = with_witnesses(alloc, b"\xa1\x01\x82\x82\x02\x80\x82\x01\x80", b"\xf6");
-    assert_eq!(rt; falling, Err(CborFault::Malformed));
-    let twice = with_witnesses(alloc, b"\xa1\x01\x82\x82\x01\x80\x82\x01\x80", b"\xf6");
-    assert_eq!(rt; twice, Err(CborFault::Malformed));
-    Ok(())
+fn witness_sets(rt: HostRuntime) {
+    for (parts, want) in SIZES {
+        gives(&rt, *parts, read_size(rt.alloc(), *parts), *want);
+    }
 }
 
-#[test]
-fn witness_sets(rt: HostRuntime) -> Result<(), Fail> {
-    let alloc = rt.alloc();
-    assert_eq!(rt; with_witnesses(alloc, b"\xa0", b"\xf6"), Ok(87));
-    assert_eq!(rt;
-        with_witnesses(alloc, b"\xa1\x01\x81\x82\x01\x80", b"\xf6"),
-        Ok(92)
-    );
-    let malformed = Err(CborFault::Malformed);
-    assert_eq!(rt; with_witnesses(alloc, b"\xa1\x00\x80", b"\xf6"), malformed);
-    assert_eq!(rt; with_witnesses(alloc, b"\xa1\x01\x80", b"\xf6"), malformed);
-    assert_eq!(rt;
-        with_witnesses(alloc, b"\xa1\x02\x81\x82\x01\x80", b"\xf6"),
-        malformed
-    );
-    assert_eq!(rt;
-        with_witnesses(alloc, b"\xa2\x01\x81\x82\x01\x80", b"\xf6"),
-        malformed
-    );
-    Ok(())
-}
-
-#[test]
-fn other_ends(rt: HostRuntime) -> Result<(), Fail> {
-    let alloc = rt.alloc();
-    let malformed = Err(CborFault::Malformed);
-    assert_eq!(rt; with_witnesses(alloc, b"\xa0", b""), malformed);
-    assert_eq!(rt; with_witnesses(alloc, b"\xa0", b"\xf7"), malformed);
-    assert_eq!(rt; with_witnesses(alloc, b"\xa0", b"\x00"), malformed);
-    assert_eq!(rt; with_witnesses(alloc, b"\xa0", b"\xf6\xf6"), malformed);
-    let body = paying_body(alloc)?;
-    let two = joined(alloc, &[b"\x82", &body, b"\xa0"])?;
-    assert_eq!(rt; Tx::decode(alloc, &two).err(), Some(CborFault::Malformed));
-    Ok(())
-}
-
-/// A witness set of one script: so many that ask for all of one, inside one another.
-fn nested(alloc: Global, count: usize) -> Result<Vec<u8>, AllocError> {
-    let mut text = joined(alloc, &[b"\xa1\x01\x81"])?;
+/// The text of that body with a witness set of one script: so many that ask for all of one, inside one another.
+fn nested_text(alloc: Global, count: usize) -> Result<Vec<u8>, AllocError> {
+    let mut text = joined(alloc, &[b"\x83", &PAYING_BODY, b"\xa1\x01\x81"])?;
     for _ in 1..count {
         text.extend_from_slice(b"\x82\x01\x81")?;
     }
-    text.extend_from_slice(b"\x82\x01\x80")?;
+    text.extend_from_slice(b"\x82\x01\x80\xf6")?;
     Ok(text)
+}
+
+/// The size of that transaction where it may nest so deep, or why there is none.
+fn nested_size(alloc: Global, depth: usize, count: usize) -> Result<u64, CborFault> {
+    let text = nested_text(alloc, count)?;
+    let (tx, _) = <Tx as Decode>::decode(alloc, depth, &text)?;
+    Ok(tx.size())
+}
+
+// Two deeper, as in a block.
+#[test]
+fn scripts_inside_a_block(rt: HostRuntime) {
+    gives(&rt, &[], nested_size(rt.alloc(), 62, 30), MALFORMED);
+    gives(&rt, &[], nested_size(rt.alloc(), 62, 29), Ok(176));
+}
+
+/// The transaction of so many scripts inside one another.
+fn nested(alloc: Global, count: usize) -> Result<Tx, CborFault> {
+    let text = nested_text(alloc, count)?;
+    Tx::decode(alloc, &text)
 }
 
 #[test]
 fn nested_scripts(rt: HostRuntime) -> Result<(), Fail> {
-    let alloc = rt.alloc();
-    let body = paying_body(alloc)?;
-    let witnesses = nested(alloc, 30)?;
-    let deepest = joined(alloc, &[b"\x83", &body, &witnesses, b"\xf6"])?;
-    let whole = Tx::decode(alloc, &deepest)?;
-    assert_eq!(rt; whole.size(), 179);
-    assert_eq!(rt; whole.nesting(), 63);
-    let witnesses = nested(alloc, 31)?;
-    let deeper = joined(alloc, &[b"\x83", &body, &witnesses, b"\xf6"])?;
-    assert_eq!(rt;
-        Tx::decode(alloc, &deeper).err(),
-        Some(CborFault::Malformed)
-    );
-    // two deeper, as in a block
-    let inside = <Tx as Decode>::decode(alloc, 62, &deepest).err();
-    assert_eq!(rt; inside, Some(CborFault::Malformed));
-    let witnesses = nested(alloc, 29)?;
-    let less = joined(alloc, &[b"\x83", &body, &witnesses, b"\xf6"])?;
-    let (tx, _) = <Tx as Decode>::decode(alloc, 62, &less)?;
-    assert_eq!(rt; tx.size(), 176);
+    let tx = nested(rt.alloc(), 30)?;
+    same(&rt, "size", tx.size(), 179);
+    same(&rt, "nesting", tx.nesting() as u64, 63);
     Ok(())
+}
+
+/// Why it is refused, if it is.
+fn nested_fault(alloc: Global, count: usize) -> Option<CborFault> {
+    nested(alloc, count).err()
+}
+
+#[test]
+fn scripts_too_deep(rt: HostRuntime) {
+    assert!(rt; nested_fault(rt.alloc(), 31) == Some(CborFault::Malformed));
 }

@@ -14,6 +14,11 @@ pub struct Made {
     pub hash: BlockHash,
 }
 
+/// The hash of the block of a text.
+fn hash_of(alloc: Global, text: &[u8]) -> Result<BlockHash, Fail> {
+    Ok(read(alloc, text)?.hash())
+}
+
 /// The block without transactions that goes on from the parent, or the first one, in this slot.
 pub fn make(alloc: Global, parent: Option<&Made>, slot: u64) -> Result<Made, Fail> {
     let (number, previous) = match parent {
@@ -27,7 +32,7 @@ pub fn make(alloc: Global, parent: Option<&Made>, slot: u64) -> Result<Made, Fai
         body_hash: empty_body_hash(),
     };
     let text = write_empty(alloc, &header)?;
-    let hash = read(alloc, &text)?.hash();
+    let hash = hash_of(alloc, &text)?;
     Ok(Made { text, number, hash })
 }
 

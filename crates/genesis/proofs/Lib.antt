@@ -1,0 +1,8 @@
+mod Gathering
+mod KnownKeys
+mod CoinSums
+mod Steps
+mod Ranges
+mod Places
+mod Coins
+mod Faults

@@ -1,0 +1,117 @@
+-- The nine numbers and their ranges.
+use Rattle.std.proofs.Common.{◌≡◌, ℕ, ℤ, pos, negsuc, ◌≤◌, Some, None, refl, sym, ap, ◌∙◌, arith}
+use Rattle.std.proofs.lemmas.Option.{same_Some, none-some}
+use Rattle.std.proofs.lemmas.Bool.Decides.{nat_tests}
+use Rattle.std.proofs.lemmas.Int.{ints}
+use Rattle.model.specs.Genesis.{IsWithin, IsParams}
+use Rattle.genesis.specs.Document.{Numbers}
+use Rattle.genesis.specs.Judgement.{within, Settings, settings_of}
+use Rattle.genesis.specs.Meaning.{IsInRange, AreInRange}
+use Rattle.genesis.proofs.Steps.{on_the_way}
+
+-- what a number in its range is
+pub record IsFound (least most : ℕ) (number : ℤ) (n : ℕ) : Type 0 where
+  pub same : number ≡ pos n
+  pub within : IsWithin least most n
+
+pub found_within : (least most : ℕ) (number : ℤ) (n : ℕ) → within least most number ≡ Some n → IsFound least most number n
+found_within least most (pos m) n is =
+    let same : m ≡ n = grind (arith, nat_tests) in
+    let low : least ≤ m = grind (arith, nat_tests) in
+    let high : m ≤ most = grind (arith, nat_tests) in
+    record { same = ap pos same; within = record { not_below = omega arith; not_above = omega arith } }
+found_within least most (negsuc m) n is = absurd (none-some n is)
+
+-- a number in its range is found
+pub in_range : (least most : ℕ) (number : ℤ) → IsInRange least most number → (n : ℕ) × (within least most number ≡ Some n)
+in_range least most (pos m) is =
+    let low : least ≤ m = omega (arith, ints, is.not_below) in
+    let high : m ≤ most = omega (arith, ints, is.not_above) in
+    (m, grind (arith, nat_tests))
+in_range least most (negsuc m) is = absurd (omega (arith, ints, is.not_below))
+
+-- and a number that is found is in its range
+pub range_of : (least most : ℕ) (number : ℤ) (n : ℕ) → IsFound least most number n → IsInRange least most number
+range_of least most number n found =
+    rw found.same (record { not_below = omega (arith, ints, found.within.not_below); not_above = omega (arith, ints, found.within.not_above) })
+
+-- the nine numbers, each found in its range
+pub record AreFound (numbers : Numbers) (settings : Settings) : Type 0 where
+  pub network : IsFound 0 15 numbers.network settings.params.network
+  pub k : IsFound 1 10000 numbers.k settings.k
+  pub min_fee_a : IsFound 0 1000000 numbers.min_fee_a settings.params.min_fee_a
+  pub min_fee_b : IsFound 0 1000000000000 numbers.min_fee_b settings.params.min_fee_b
+  pub min_utxo : IsFound 0 1000000000000 numbers.min_utxo settings.params.min_utxo
+  pub max_tx_size : IsFound 1 65536 numbers.max_tx_size settings.params.max_tx_size
+  pub max_body_size : IsFound 1 1048000 numbers.max_body_size settings.params.max_body_size
+  pub max_volatile : IsFound 1 100000 numbers.max_volatile settings.max_volatile
+  pub max_mempool : IsFound 1 100000 numbers.max_mempool settings.max_mempool
+
+pub settings_found : (numbers : Numbers) (settings : Settings) → settings_of numbers ≡ Some settings → AreFound numbers settings
+unfolding settings_of
+settings_found numbers settings is =
+    let network = on_the_way (within 0 15 numbers.network) _ settings is in
+    let k = on_the_way (within 1 10000 numbers.k) _ settings network.2 in
+    let fee_a = on_the_way (within 0 1000000 numbers.min_fee_a) _ settings k.2 in
+    let fee_b = on_the_way (within 0 1000000000000 numbers.min_fee_b) _ settings fee_a.2 in
+    let utxo = on_the_way (within 0 1000000000000 numbers.min_utxo) _ settings fee_b.2 in
+    let tx_size = on_the_way (within 1 65536 numbers.max_tx_size) _ settings utxo.2 in
+    let body_size = on_the_way (within 1 1048000 numbers.max_body_size) _ settings tx_size.2 in
+    let volatile = on_the_way (within 1 100000 numbers.max_volatile) _ settings body_size.2 in
+    let mempool = on_the_way (within 1 100000 numbers.max_mempool) _ settings volatile.2 in
+    rw (← same_Some _ _ mempool.2) (record {
+      network = found_within 0 15 _ _ network.1;
+      k = found_within 1 10000 _ _ k.1;
+      min_fee_a = found_within 0 1000000 _ _ fee_a.1;
+      min_fee_b = found_within 0 1000000000000 _ _ fee_b.1;
+      min_utxo = found_within 0 1000000000000 _ _ utxo.1;
+      max_tx_size = found_within 1 65536 _ _ tx_size.1;
+      max_body_size = found_within 1 1048000 _ _ body_size.1;
+      max_volatile = found_within 1 100000 _ _ volatile.1;
+      max_mempool = found_within 1 100000 _ _ mempool.1;
+    })
+
+pub found_in_range : (numbers : Numbers) (settings : Settings) → AreFound numbers settings → AreInRange numbers
+found_in_range numbers settings found = record {
+  network = range_of _ _ _ _ found.network;
+  k = range_of _ _ _ _ found.k;
+  min_fee_a = range_of _ _ _ _ found.min_fee_a;
+  min_fee_b = range_of _ _ _ _ found.min_fee_b;
+  min_utxo = range_of _ _ _ _ found.min_utxo;
+  max_tx_size = range_of _ _ _ _ found.max_tx_size;
+  max_body_size = range_of _ _ _ _ found.max_body_size;
+  max_volatile = range_of _ _ _ _ found.max_volatile;
+  max_mempool = range_of _ _ _ _ found.max_mempool;
+}
+
+pub found_params : (numbers : Numbers) (settings : Settings) → AreFound numbers settings → IsParams settings.params
+found_params numbers settings found = record {
+  network = found.network.within;
+  min_fee_a = found.min_fee_a.within;
+  min_fee_b = found.min_fee_b.within;
+  min_utxo = found.min_utxo.within;
+  max_tx_size = found.max_tx_size.within;
+  max_body_size = found.max_body_size.within;
+}
+
+-- numbers in their ranges are found
+pub settings_there : (numbers : Numbers) → AreInRange numbers → settings_of numbers ≡ None → ⊥
+unfolding settings_of
+settings_there numbers ranges none =
+    let (network, a) = in_range 0 15 numbers.network ranges.network in
+    let (k, b) = in_range 1 10000 numbers.k ranges.k in
+    let (fee_a, c) = in_range 0 1000000 numbers.min_fee_a ranges.min_fee_a in
+    let (fee_b, d) = in_range 0 1000000000000 numbers.min_fee_b ranges.min_fee_b in
+    let (utxo, e) = in_range 0 1000000000000 numbers.min_utxo ranges.min_utxo in
+    let (tx_size, f) = in_range 1 65536 numbers.max_tx_size ranges.max_tx_size in
+    let (body_size, g) = in_range 1 1048000 numbers.max_body_size ranges.max_body_size in
+    let (volatile, h) = in_range 1 100000 numbers.max_volatile ranges.max_volatile in
+    let (mempool, i) = in_range 1 100000 numbers.max_mempool ranges.max_mempool in
+    let settings : Settings = record {
+      params = record { network = network; min_fee_a = fee_a; min_fee_b = fee_b; min_utxo = utxo; max_tx_size = tx_size; max_body_size = body_size };
+      k = k;
+      max_volatile = volatile;
+      max_mempool = mempool;
+    } in
+    let some : settings_of numbers ≡ Some settings = rw (a, b, c, d, e, f, g, h, i) refl in
+    none-some settings (sym none ∙ some)

@@ -1,0 +1,129 @@
+-- What a genesis document writes, in any range: TOML (v1.0.0) with just the keys of a genesis, which are this project's
+-- own.
+use Rattle.std.specs.Prelude.{ℕ, ℤ, Bool, true, ◌&&◌, List, [], ◌∷◌, Option, Some, None, option_map, codes, bytes_eq}
+use Rattle.std.specs.List.{list_any}
+use Rattle.toml.specs.Data.{Data, Items, no_items, item, Members, no_members, member}
+use Rattle.toml.specs.Data.{get_member, as_integer, as_str, as_array, as_table}
+use Rattle.genesis.specs.Steps.{◌>>=◌, guard, each}
+
+-- the nine numbers
+pub record Numbers : Type 0 where
+  pub network : ℤ
+  pub k : ℤ
+  pub min_fee_a : ℤ
+  pub min_fee_b : ℤ
+  pub min_utxo : ℤ
+  pub max_tx_size : ℤ
+  pub max_body_size : ℤ
+  pub max_volatile : ℤ
+  pub max_mempool : ℤ
+
+-- what unlocks an output: an address, or a key, each as its hexadecimal text
+pub data Lock : Type 0 where
+  ByAddress : List ℕ → Lock
+  ByKey : List ℕ → Lock
+
+-- an output: what unlocks it, and how much lovelace it holds
+pub record Entry : Type 0 where
+  pub lock : Lock
+  pub coin : ℤ
+
+pub record Written : Type 0 where
+  pub numbers : Numbers
+  pub outputs : List Entry
+
+-- ---- keys
+
+-- the key is one of these
+abbrev pub is_known : List (List ℕ) → List ℕ → Bool
+is_known known key = list_any (λ name. bytes_eq name key) known
+
+-- the table has no other keys
+abbrev pub has_only : List (List ℕ) → Members → Bool
+has_only known no_members = true
+has_only known (member key value rest) = is_known known key && has_only known rest
+
+-- the keys of a genesis
+abbrev pub genesis_keys : List (List ℕ)
+genesis_keys =
+    codes "network" ∷ codes "k" ∷ codes "min_fee_a" ∷ codes "min_fee_b" ∷ codes "min_utxo" ∷ codes "max_tx_size"
+    ∷ codes "max_body_size" ∷ codes "max_volatile" ∷ codes "max_mempool" ∷ codes "output" ∷ []
+
+-- the keys of an output
+abbrev pub entry_keys : List (List ℕ)
+entry_keys = codes "address" ∷ codes "key" ∷ codes "coin" ∷ []
+
+-- the whole number at a key
+abbrev pub number_at : List ℕ → Members → Option ℤ
+number_at key document = get_member key document >>= as_integer
+
+-- ---- the nine numbers
+
+unfoldable pub numbers_in : Members → Option Numbers
+numbers_in document = do
+  network ← number_at (codes "network") document
+  k ← number_at (codes "k") document
+  min_fee_a ← number_at (codes "min_fee_a") document
+  min_fee_b ← number_at (codes "min_fee_b") document
+  min_utxo ← number_at (codes "min_utxo") document
+  max_tx_size ← number_at (codes "max_tx_size") document
+  max_body_size ← number_at (codes "max_body_size") document
+  max_volatile ← number_at (codes "max_volatile") document
+  max_mempool ← number_at (codes "max_mempool") document
+  Some (record {
+    network = network;
+    k = k;
+    min_fee_a = min_fee_a;
+    min_fee_b = min_fee_b;
+    min_utxo = min_utxo;
+    max_tx_size = max_tx_size;
+    max_body_size = max_body_size;
+    max_volatile = max_volatile;
+    max_mempool = max_mempool;
+  })
+
+-- ---- the outputs
+
+-- just one of an address and a key, which is text
+abbrev pub one_lock : Option Data → Option Data → Option Lock
+one_lock (Some address) None = option_map ByAddress (as_str address)
+one_lock None (Some key) = option_map ByKey (as_str key)
+one_lock (Some address) (Some key) = None
+one_lock None None = None
+
+-- what unlocks the output of a table
+unfoldable pub lock_in : Members → Option Lock
+lock_in entry = one_lock (get_member (codes "address") entry) (get_member (codes "key") entry)
+
+-- the output of a table, which has no other keys
+unfoldable pub entry_in : Members → Option Entry
+entry_in entry = do
+  known ← guard (has_only entry_keys entry)
+  lock ← lock_in entry
+  coin ← number_at (codes "coin") entry
+  Some (record { lock = lock; coin = coin })
+
+-- an output, which is a table
+abbrev pub entry_of : Data → Option Entry
+entry_of value = as_table value >>= entry_in
+
+-- the values of an array
+abbrev pub values_of : Items → List Data
+values_of no_items = []
+values_of (item value rest) = value ∷ values_of rest
+
+-- the outputs, which are an array of tables
+unfoldable pub outputs_in : Members → Option (List Entry)
+outputs_in document = do
+  output ← get_member (codes "output") document
+  tables ← as_array output
+  each entry_of (values_of tables)
+
+-- WHAT A DOCUMENT WRITES
+-- The nine numbers and the outputs, where it has their keys and no others, each with a value of its type.
+unfoldable pub written_in : Members → Option Written
+written_in document = do
+  known ← guard (has_only genesis_keys document)
+  numbers ← numbers_in document
+  outputs ← outputs_in document
+  Some (record { numbers = numbers; outputs = outputs })

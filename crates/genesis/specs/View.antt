@@ -1,0 +1,73 @@
+-- What the values of the code stand for.
+use Rattle.std.specs.Prelude.{ℕ, List, map, Vec}
+use Rattle.std.specs.declared.alloc.Global.{Global}
+use Rattle.std.specs.Borrow.{Bor}
+use Rattle.model.specs.Genesis.{Grant}
+use Rattle.tx.specs.View.{address_of}
+use Rattle.genesis.specs.Document.{Numbers, Lock, ByAddress, ByKey, Entry, Written}
+use Rattle.genesis.specs.Judgement.{Settings, Placed}
+use Rattle.genesis.specs.declared.document.Numbers.{Numbers as CodeNumbers}
+use Rattle.genesis.specs.declared.document.Lock.{Lock as CodeLock}
+use Rattle.genesis.specs.declared.document.Lock.TheVariants.{Address, Key}
+use Rattle.genesis.specs.declared.document.Entry.{Entry as CodeEntry}
+use Rattle.genesis.specs.declared.document.Written.{Written as CodeWritten}
+use Rattle.genesis.specs.declared.settings.Settings.{Settings as CodeSettings}
+use Rattle.genesis.specs.declared.placing.Placed.{Placed as CodePlaced}
+use Rattle.genesis.specs.declared.grants.Grant.{Grant as CodeGrant}
+
+-- some texts
+abbrev pub texts_of : List (Bor (List ℕ)) → List (List ℕ)
+texts_of texts = map (λ text. text.now) texts
+
+-- ---- what is written
+
+abbrev pub numbers_view : CodeNumbers → Numbers
+numbers_view n =
+    record {
+      network = n.network;
+      k = n.k;
+      min_fee_a = n.min_fee_a;
+      min_fee_b = n.min_fee_b;
+      min_utxo = n.min_utxo;
+      max_tx_size = n.max_tx_size;
+      max_body_size = n.max_body_size;
+      max_volatile = n.max_volatile;
+      max_mempool = n.max_mempool;
+    }
+
+abbrev pub lock_view : CodeLock → Lock
+lock_view (Address text) = ByAddress text.now
+lock_view (Key text) = ByKey text.now
+
+abbrev pub entry_view : CodeEntry → Entry
+entry_view e = record { lock = lock_view e.lock; coin = e.coin }
+
+abbrev pub entries_view : Vec CodeEntry Global → List Entry
+entries_view entries = map entry_view entries.items
+
+abbrev pub written_view : CodeWritten → Written
+written_view w = record { numbers = numbers_view w.numbers; outputs = entries_view w.outputs }
+
+-- ---- what is judged
+
+abbrev pub settings_view : CodeSettings → Settings
+settings_view s =
+    record {
+      params = record {
+        network = s.network;
+        min_fee_a = s.min_fee_a;
+        min_fee_b = s.min_fee_b;
+        min_utxo = s.min_utxo;
+        max_tx_size = s.max_tx_size;
+        max_body_size = s.max_body_size;
+      };
+      k = s.k;
+      max_volatile = s.max_volatile;
+      max_mempool = s.max_mempool;
+    }
+
+abbrev pub placed_view : CodePlaced → Placed
+placed_view p = record { address = address_of p.address; coin = p.coin }
+
+abbrev pub grant_view : CodeGrant → Grant
+grant_view g = record { address = address_of g.address; coin = g.coin }

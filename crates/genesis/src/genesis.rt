@@ -1,0 +1,186 @@
+//! The genesis of a network.
+
+ghost use Rattle.std.specs.Prelude.{◌≡◌, map, IfOk, option_map, ok_or};
+ghost use Rattle.toml.specs.Parse.{parse_document};
+ghost use Rattle.toml.specs.View.{table_view};
+ghost use Rattle.model.specs.Genesis as model;
+ghost use Rattle.model.specs.Genesis.{supply_of, IsGenesis};
+ghost use Rattle.genesis.specs.declared.genesis_fault.GenesisFault.TheVariants.{NotToml};
+ghost use Rattle.genesis.specs.Steps.{Gives};
+ghost use Rattle.genesis.specs.Judgement.{judged, genesis_of};
+ghost use Rattle.genesis.specs.Meaning.{IsAnswer};
+ghost use Rattle.genesis.specs.View.{grant_view, written_view};
+
+use crate::document::Written;
+use crate::genesis_fault::GenesisFault;
+use crate::grants::{self, Grant};
+use crate::placing;
+use crate::settings::Settings;
+use std::alloc::{AllocError, Global};
+use std::marker::Model;
+use toml::Table;
+
+/// The most outputs of a genesis.
+const MAX_OUTPUTS: usize = 10_000;
+
+/// What a network agrees on before its first block. Each number is in its range, each output on the genesis network,
+/// and the coins sum up to less than 2^63: `Genesis::from_toml` is the only way to one.
+#[derive(Debug, Drop)]
+pub struct Genesis {
+    alloc: Global,
+    settings: Settings,
+    grants: Vec<Grant>,
+    supply: u64,
+}
+
+impl Model for Genesis {
+    ghost use Rattle.model.specs.Genesis.{Genesis};
+    ghost use Rattle.model.specs.Codes.{coded_configuration};
+
+    ghost Value = { Genesis };
+
+    ghost coded = { coded_configuration };
+
+    ghost use Rattle.genesis.specs.Held.{genesis_view, IsHeldGenesis};
+
+    ghost view = { genesis_view };
+
+    ghost invariant = { IsHeldGenesis };
+}
+
+/// The table of a document.
+fn read_table(alloc: Global, text: &str) -> Result<Table, GenesisFault>
+    ensures { Gives table_view result (ok_or (parse_document text.now) NotToml) }
+{
+    match toml::table_from_str(alloc, text) {
+        Ok(table) => Ok(table),
+        Err(error) if error.is_memory() => Err(GenesisFault::OutOfMemory),
+        Err(_) => Err(GenesisFault::NotToml),
+    }
+}
+
+impl Genesis {
+    /// The genesis of what is written.
+    #[tactic(auto, unfolding(crate::specs::Judgement::judged))]
+    fn of_written(alloc: Global, written: &Written<'_>) -> Result<Genesis, GenesisFault>
+        ensures { Gives (λ genesis. genesis) result (judged (written_view written.now)) }
+    {
+        let settings = Settings::of_numbers(&written.numbers).ok_or(GenesisFault::OutOfRange)?;
+        let placed = placing::place(alloc, settings.network, &written.outputs)?;
+        let (grants, supply) = grants::grant_all(alloc, &placed)?;
+        if grants.is_empty() || grants.len() > MAX_OUTPUTS {
+            return Err(GenesisFault::BadOutputs);
+        }
+        Ok(Genesis {
+            alloc,
+            settings,
+            grants,
+            supply,
+        })
+    }
+
+    /// The genesis that a TOML document says: `network` (0 to 15), `k` (1 to 10,000), `min_fee_a` (at most
+    /// 1,000,000), `min_fee_b` and `min_utxo` (at most 1,000,000,000,000), `max_tx_size` (1 to 65,536), `max_body_size`
+    /// (1 to 1,048,000), `max_volatile` and `max_mempool` (1 to 100,000), and `output`, an array of tables, each with
+    /// `coin` and just one of `address` (66 hexadecimal digits) and `key` (64 of them). Err is the first of the faults
+    /// that applies to the whole text, or OutOfMemory. Takes time and memory in proportion to the text.
+    pub fn from_toml(alloc: Global, text: &str) -> Result<Genesis, GenesisFault>
+        ensures exact { Gives (λ genesis. genesis) result (genesis_of text.now) }
+        ensures least { IsAnswer text.now result }
+    {
+        let table = read_table(alloc, text)?;
+        let written = Written::of_table(alloc, &table)?;
+        Genesis::of_written(alloc, &written)
+    }
+
+    /// The network, 0 to 15.
+    pub fn network(&self) -> u8
+        ensures { result ≡ self.now.params.network }
+    {
+        self.settings.network
+    }
+
+    /// How many blocks of the selected chain may be rolled back, 1 to 10,000.
+    pub fn k(&self) -> u64
+        ensures { result ≡ self.now.k }
+    {
+        self.settings.k
+    }
+
+    /// The least fee for each byte of a transaction, in lovelace, at most 1,000,000.
+    pub fn min_fee_a(&self) -> u64
+        ensures { result ≡ self.now.params.min_fee_a }
+    {
+        self.settings.min_fee_a
+    }
+
+    /// The least fee of a transaction, whatever its size, in lovelace, at most 1,000,000,000,000.
+    pub fn min_fee_b(&self) -> u64
+        ensures { result ≡ self.now.params.min_fee_b }
+    {
+        self.settings.min_fee_b
+    }
+
+    /// How much lovelace an output holds at least, at most 1,000,000,000,000. Those of the genesis need not.
+    pub fn min_utxo(&self) -> u64
+        ensures { result ≡ self.now.params.min_utxo }
+    {
+        self.settings.min_utxo
+    }
+
+    /// How many bytes a transaction has at most, 1 to 65,536.
+    pub fn max_tx_size(&self) -> u64
+        ensures { result ≡ self.now.params.max_tx_size }
+    {
+        self.settings.max_tx_size
+    }
+
+    /// How many bytes the body of a block has at most, 1 to 1,048,000.
+    pub fn max_body_size(&self) -> u64
+        ensures { result ≡ self.now.params.max_body_size }
+    {
+        self.settings.max_body_size
+    }
+
+    /// How many live blocks are kept at most, 1 to 100,000.
+    pub fn max_volatile(&self) -> u64
+        ensures { result ≡ self.now.max_volatile }
+    {
+        self.settings.max_volatile
+    }
+
+    /// How many transactions wait at most, 1 to 100,000.
+    pub fn max_mempool(&self) -> u64
+        ensures { result ≡ self.now.max_mempool }
+    {
+        self.settings.max_mempool
+    }
+
+    /// The outputs that the chain opens with, in the order of the file: 1 to 10,000.
+    pub fn outputs(&self) -> &[Grant]
+        ensures outputs { map grant_view result.now ≡ self.now.grants }
+        ensures ranges { IsGenesis self.now }
+    {
+        &self.grants
+    }
+
+    /// The lovelace that there is from the start, below 2^63.
+    pub fn supply(&self) -> u64
+        ensures supply { result ≡ supply_of self.now }
+        ensures ranges { IsGenesis self.now }
+    {
+        self.supply
+    }
+
+    /// The same genesis once more, in one allocation. Takes time in proportion to the outputs.
+    pub fn try_clone(&self) -> Result<Genesis, AllocError>
+        ensures { IfOk result (λ copy. copy ≡ self.now) }
+    {
+        Ok(Genesis {
+            alloc: self.alloc,
+            settings: self.settings,
+            grants: Vec::from_slice(self.alloc, &self.grants)?,
+            supply: self.supply,
+        })
+    }
+}

@@ -1,0 +1,26 @@
+//! The genesis: what a network agrees on before its first block, read from a TOML document.
+//!
+//! ```text
+//! let genesis = Genesis::from_toml(alloc, &text)?;
+//! println!("{} lovelace at {} addresses", genesis.supply(), genesis.outputs().len());
+//! ```
+#![tactic(auto)]
+
+mod document;
+mod genesis;
+mod genesis_fault;
+mod grants;
+mod placing;
+mod settings;
+mod table;
+
+pub use genesis::Genesis;
+pub use genesis_fault::GenesisFault;
+pub use grants::Grant;
+
+#[cfg(test)]
+mod fault_tests;
+#[cfg(test)]
+mod sample;
+#[cfg(test)]
+mod tests;

@@ -1,0 +1,53 @@
+//! The nine numbers of a genesis, in their ranges.
+
+ghost use Rattle.std.specs.Prelude.{◌≡◌, ◌≤◌, ◌<◌, IfSome, option_map};
+ghost use Rattle.genesis.specs.Judgement.{within, settings_of};
+ghost use Rattle.genesis.specs.View.{numbers_view, settings_view};
+
+use crate::document::Numbers;
+
+/// The nine numbers, in their ranges.
+#[derive(Clone, Copy, Debug)]
+pub struct Settings {
+    pub network: u8,
+    pub k: u64,
+    pub min_fee_a: u64,
+    pub min_fee_b: u64,
+    pub min_utxo: u64,
+    pub max_tx_size: u64,
+    pub max_body_size: u64,
+    pub max_volatile: u64,
+    pub max_mempool: u64,
+}
+
+/// The number, where it is at least the first and at most the second.
+pub fn within(least: u64, most: u64, number: i64) -> Option<u64>
+    ensures exact { result ≡ within least most number }
+    ensures range { IfSome result (λ n. n ≤ most) }
+{
+    let number = u64::try_from(number).ok()?;
+    if number < least || number > most {
+        return None;
+    }
+    Some(number)
+}
+
+impl Settings {
+    /// The numbers that are written, where each is in its range.
+    #[tactic(auto, unfolding(crate::specs::Judgement::settings_of))]
+    pub fn of_numbers(numbers: &Numbers) -> Option<Settings>
+        ensures { option_map settings_view result ≡ settings_of (numbers_view numbers.now) }
+    {
+        Some(Settings {
+            network: within(0, 15, numbers.network)? as u8,
+            k: within(1, 10_000, numbers.k)?,
+            min_fee_a: within(0, 1_000_000, numbers.min_fee_a)?,
+            min_fee_b: within(0, 1_000_000_000_000, numbers.min_fee_b)?,
+            min_utxo: within(0, 1_000_000_000_000, numbers.min_utxo)?,
+            max_tx_size: within(1, 65_536, numbers.max_tx_size)?,
+            max_body_size: within(1, 1_048_000, numbers.max_body_size)?,
+            max_volatile: within(1, 100_000, numbers.max_volatile)?,
+            max_mempool: within(1, 100_000, numbers.max_mempool)?,
+        })
+    }
+}

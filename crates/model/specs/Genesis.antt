@@ -1,0 +1,74 @@
+-- What a network agrees on before its first block, and the unspent outputs that its chain opens with. The limits are
+-- this project's own.
+use Rattle.std.specs.Prelude.{◌≡◌, ℕ, ◌≤◌, ◌<◌, List, [], length, map, replicate, sum_by}
+use Rattle.std.specs.List.{AllByRecursion}
+use Rattle.std.specs.FinMap as finite
+use Rattle.model.specs.Limits.{hash_size, number_limit}
+use Rattle.model.specs.Transaction.{Address, Input, Output, IsAddress}
+use Rattle.model.specs.Utxo.{Utxo, pairs_from, with_pairs}
+use Rattle.model.specs.Rules.{Params}
+
+-- so much lovelace, which stands at an address from the start
+pub record Grant : Type 0 where
+  pub address : Address
+  pub coin : ℕ
+
+pub record Genesis : Type 0 where
+  pub params : Params  -- what it asks of each transaction and each block's body
+  pub k : ℕ  -- how many blocks of the selected chain may be rolled back
+  pub max_volatile : ℕ  -- how many live blocks are kept at most
+  pub max_mempool : ℕ  -- how many transactions wait at most
+  pub grants : List Grant
+
+-- the lovelace that there is from the start, and ever after
+abbrev pub supply_of : Genesis → ℕ
+supply_of genesis = sum_by (λ g. g.coin) genesis.grants
+
+-- ---- ranges
+
+-- at least the first and at most the second
+pub record IsWithin (least most number : ℕ) : Type 0 where
+  pub not_below : least ≤ number
+  pub not_above : number ≤ most
+
+pub record IsParams (params : Params) : Type 0 where
+  pub network : IsWithin 0 15 params.network
+  pub min_fee_a : IsWithin 0 1000000 params.min_fee_a
+  pub min_fee_b : IsWithin 0 1000000000000 params.min_fee_b
+  pub min_utxo : IsWithin 0 1000000000000 params.min_utxo
+  pub max_tx_size : IsWithin 1 65536 params.max_tx_size
+  pub max_body_size : IsWithin 1 1048000 params.max_body_size
+
+-- it grants something, at an address of this network
+pub record IsGrant (network : ℕ) (grant : Grant) : Type 0 where
+  pub address : IsAddress grant.address
+  pub on_network : grant.address.network ≡ network
+  pub something : 1 ≤ grant.coin
+
+pub record IsGenesis (genesis : Genesis) : Type 0 where
+  pub ranges : IsParams genesis.params
+  pub k : IsWithin 1 10000 genesis.k
+  pub max_volatile : IsWithin 1 100000 genesis.max_volatile
+  pub max_mempool : IsWithin 1 100000 genesis.max_mempool
+  pub each_grant : AllByRecursion (IsGrant genesis.params.network) genesis.grants
+  pub supply : supply_of genesis < number_limit
+  pub count : IsWithin 1 10000 (length genesis.grants)
+
+-- ---- the opening of the chain
+
+-- the identifier that stands for the transaction which no block has: 32 zero bytes
+unfoldable pub opening_id : List ℕ
+opening_id = replicate hash_size 0
+
+-- what is granted, as an output: lovelace alone
+abbrev pub output_of_grant : Grant → Output
+output_of_grant grant = record { address = grant.address; value = record { coin = grant.coin; assets = [] } }
+
+-- the grants, each with the input that would spend it: they are counted from 0 on
+abbrev pub opening_pairs : Genesis → List (Input × Output)
+opening_pairs genesis = pairs_from opening_id 0 (map output_of_grant genesis.grants)
+
+-- UNSPENT OUTPUTS BEFORE THE FIRST BLOCK
+-- Each grant, and nothing else.
+unfoldable pub opening_utxo : Genesis → Utxo
+opening_utxo genesis = with_pairs (opening_pairs genesis) finite.empty

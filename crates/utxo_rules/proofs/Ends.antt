@@ -1,0 +1,128 @@
+-- How the parts of a check make its whole.
+use Rattle.std.proofs.Common.{◌≡◌, ℕ, ◌+◌, ◌<◌, ◌≤◌, Bool, true, false, List, [], ◌∷◌, ◌++◌, length, map, Option, Some, None, Result, Ok, Err, IfErr, OnOk, refl, sym, ap, subst, ◌∙◌, arith}
+use Rattle.std.specs.Prelude.{if◌then◌else◌, option_to_list}
+use Rattle.std.specs.List.{AllByRecursion}
+use Rattle.std.specs.Result.{IsErrAnd}
+use Rattle.std.proofs.lemmas.List.{length-append, length-map}
+use Rattle.model.specs.Signature.{Verifies}
+use Rattle.model.specs.Transaction.{Transaction, Input, Output, size_of}
+use Rattle.model.specs.Utxo.{Utxo, output_at, outputs_at, spent_outputs}
+use Rattle.model.specs.Balance.{is_balanced}
+use Rattle.model.specs.Rules.{Params, Reason, reason_number, passes, first_failing, reason_against, has_free_places, keys_needed, scripts_needed}
+use Rattle.model.specs.Rules.{OutsideInterval, NoInputs, TooBig, FeeTooSmall, MissingInput, OutputTooSmall, WrongNetwork, NotBalanced, OutputExists, BadSignature, MissingKeyWitness, MissingScript, ExtraScript, ScriptFails}
+use Rattle.model.proofs.TransactionSizes.{inputs_fit, outputs_fit}
+use Rattle.tx.specs.View.{input_of}
+use Rattle.tx.specs.declared.input.Input.{Input as CodeInput}
+use Rattle.utxo_rules.specs.declared.reason.Reason.{Reason as CodeReason}
+use Rattle.utxo_rules.specs.declared.check_fault.CheckFault.{CheckFault}
+use Rattle.utxo_rules.specs.declared.check_fault.CheckFault.TheVariants.{Refused, OutOfMemory}
+use Rattle.utxo_rules.specs.declared.spent.Spent.{Spent}
+use Rattle.utxo_rules.specs.Spent.{IsSpent}
+use Rattle.utxo_rules.specs.View.{reason_of}
+use Rattle.utxo_rules.specs.Check.{early_reasons, first_of_witnesses, first_of_spending, IsTold, IsCheckFault}
+
+pub if_err : {X E : Type 0} (result : Result X E) (is : E) (P : E → Type 0) → IsErrAnd result (λ e. e ≡ is) → P is → IfErr result P
+if_err (Ok x) is P same p = tt
+if_err (Err e) is P same p = subst P (sym same) p
+
+-- ---- what is spent
+
+pub few_inputs : (inputs : List CodeInput) (t u : Transaction) → map input_of inputs ≡ u.inputs → u ≡ t → size_of t ≤ 4294967296 → length inputs ≤ 4294967296
+few_inputs inputs t u are same small =
+    let fits = inputs_fit t in
+    let count : length inputs ≡ length t.inputs = sym (length-map inputs input_of) ∙ ap length are ∙ ap (λ (x : Transaction). length x.inputs) same in
+    omega (arith, fits, count, small)
+
+at_most_one : (found : Option Output) (rest : List Output) → length (option_to_list found ++ rest) ≤ 1 + length rest
+at_most_one None rest = omega arith
+at_most_one (Some o) rest = omega arith
+
+-- no more are spent than there are inputs
+few_spent : (utxo : Utxo) (inputs : List Input) → length (outputs_at utxo inputs) ≤ length inputs
+few_spent utxo [] = omega arith
+few_spent utxo (i ∷ is) = let rest = few_spent utxo is in let here = at_most_one (output_at utxo i) (outputs_at utxo is) in omega (arith, rest, here)
+
+pub spent_by : (spent : Spent) (utxo : Utxo) (t u : Transaction) (inputs : List CodeInput) → map input_of inputs ≡ u.inputs → u ≡ t → IsSpent spent (outputs_at utxo (map input_of inputs)) → IsSpent spent (spent_outputs utxo t)
+spent_by spent utxo t u inputs are same is = subst (λ (is : List Input). IsSpent spent (outputs_at utxo is)) (are ∙ ap (λ (x : Transaction). x.inputs) same) is
+
+pub few_values : (spent : Spent) (utxo : Utxo) (t : Transaction) → size_of t ≤ 4294967296 → IsSpent spent (spent_outputs utxo t) → spent.totals.values + length t.outputs ≤ 2305843009213693952
+few_values spent utxo t small is =
+    let fits = inputs_fit t in let out = outputs_fit t in let few = few_spent utxo t.inputs in let count = is.counted in
+    omega (arith, fits, out, few, count, small)
+
+-- ---- the reasons 8 to 14
+
+module _ (verifies : Verifies) (utxo : Utxo) (t : Transaction) where
+  pub not_balanced : is_balanced utxo t ≡ false → first_of_spending verifies utxo t ≡ Some NotBalanced
+  unfolding first_of_spending
+  not_balanced h = rw h refl
+
+  pub not_free : is_balanced utxo t ≡ true → has_free_places utxo t ≡ false → first_of_spending verifies utxo t ≡ Some OutputExists
+  unfolding first_of_spending
+  not_free h f = rw (h, f) refl
+
+  pub to_witnesses : is_balanced utxo t ≡ true → has_free_places utxo t ≡ true → first_of_spending verifies utxo t ≡ first_of_witnesses verifies (keys_needed utxo t) (scripts_needed utxo t) t
+  unfolding first_of_spending
+  to_witnesses h f = rw (h, f) refl
+
+-- ---- all reasons
+
+-- what is told of a list is told of a longer one
+pub early_fails : (test : Reason → Bool) (rs ss : List Reason) (r : Reason) → first_failing test rs ≡ Some r → first_failing test (rs ++ ss) ≡ Some r
+early_fails test [] ss r is = absurd cc
+early_fails test (x ∷ rs) ss r is = at_first (test x) x (first_failing test rs) (first_failing test (rs ++ ss)) is (early_fails test rs ss r)
+  where
+    at_first : (b : Bool) (x : Reason) (short long : Option Reason) → (if b then short else Some x) ≡ Some r → (short ≡ Some r → long ≡ Some r) → (if b then long else Some x) ≡ Some r
+    at_first true x short long is more = more is
+    at_first false x short long is more = is
+
+passed : (b : Bool) (x : Reason) (rest : Option Reason) → (if b then rest else Some x) ≡ None → (b ≡ true) × (rest ≡ None)
+passed true x rest is = (refl, is)
+passed false x rest is = absurd cc
+
+pub each_passes : (test : Reason → Bool) (rs : List Reason) → first_failing test rs ≡ None → AllByRecursion (λ r. test r ≡ true) rs
+each_passes test [] none = tt
+each_passes test (x ∷ rs) none = let parts = passed (test x) x (first_failing test rs) none in (parts.0, each_passes test rs parts.1)
+
+pub early_passes : (test : Reason → Bool) (rs ss : List Reason) → first_failing test rs ≡ None → first_failing test (rs ++ ss) ≡ first_failing test ss
+early_passes test [] ss none = refl
+early_passes test (x ∷ rs) ss none =
+    let parts = passed (test x) x (first_failing test rs) none in
+    ap (λ (b : Bool). if b then first_failing test (rs ++ ss) else Some x) parts.0 ∙ early_passes test rs ss parts.1
+
+module _ (verifies : Verifies) (params : Params) (utxo : Utxo) (slot : ℕ) (t : Transaction) where
+  abbrev late_reasons : List Reason
+  late_reasons = NotBalanced ∷ OutputExists ∷ BadSignature ∷ MissingKeyWitness ∷ MissingScript ∷ ExtraScript ∷ ScriptFails ∷ []
+
+  pub told_early : (r : Reason) → first_failing (passes verifies params utxo slot t) early_reasons ≡ Some r → reason_against verifies params utxo slot t ≡ Some r
+  unfolding reason_against
+  told_early r is = early_fails (passes verifies params utxo slot t) early_reasons late_reasons r is
+
+  pub told_late : first_failing (passes verifies params utxo slot t) early_reasons ≡ None → reason_against verifies params utxo slot t ≡ first_of_spending verifies utxo t
+  unfolding reason_against first_of_spending first_of_witnesses
+  told_late none = early_passes (passes verifies params utxo slot t) early_reasons late_reasons none
+
+  early_pass : first_failing (passes verifies params utxo slot t) early_reasons ≡ None → (r : Reason) → reason_number r < 8 → passes verifies params utxo slot t r ≡ true
+  early_pass none OutsideInterval lt = (each_passes (passes verifies params utxo slot t) early_reasons none).0
+  early_pass none NoInputs lt = (each_passes (passes verifies params utxo slot t) early_reasons none).1.0
+  early_pass none TooBig lt = (each_passes (passes verifies params utxo slot t) early_reasons none).1.1.0
+  early_pass none FeeTooSmall lt = (each_passes (passes verifies params utxo slot t) early_reasons none).1.1.1.0
+  early_pass none MissingInput lt = (each_passes (passes verifies params utxo slot t) early_reasons none).1.1.1.1.0
+  early_pass none OutputTooSmall lt = (each_passes (passes verifies params utxo slot t) early_reasons none).1.1.1.1.1.0
+  early_pass none WrongNetwork lt = (each_passes (passes verifies params utxo slot t) early_reasons none).1.1.1.1.1.1.0
+  early_pass none NotBalanced lt = absurd (omega (arith, lt))
+  early_pass none OutputExists lt = absurd (omega (arith, lt))
+  early_pass none BadSignature lt = absurd (omega (arith, lt))
+  early_pass none MissingKeyWitness lt = absurd (omega (arith, lt))
+  early_pass none MissingScript lt = absurd (omega (arith, lt))
+  early_pass none ExtraScript lt = absurd (omega (arith, lt))
+  early_pass none ScriptFails lt = absurd (omega (arith, lt))
+
+  pub accepts : (r : Result (Unit {0}) CheckFault) → first_failing (passes verifies params utxo slot t) early_reasons ≡ None → IsTold (first_of_spending verifies utxo t) r → OnOk r (reason_against verifies params utxo slot t ≡ None)
+  accepts (Ok unit) none is = told_late none ∙ is
+  accepts (Err e) none is = tt
+
+  pub refuses : (r : Result (Unit {0}) CheckFault) → first_failing (passes verifies params utxo slot t) early_reasons ≡ None → IsTold (first_of_spending verifies utxo t) r → IfErr r (IsCheckFault verifies params utxo slot t)
+  refuses (Ok unit) none is = tt
+  refuses (Err (Refused reason)) none is = told_late none ∙ is
+  refuses (Err OutOfMemory) none is = early_pass none

@@ -1,0 +1,61 @@
+-- How a check ends.
+use Rattle.std.specs.Prelude.{◌≡◌, ℕ, ◌<◌, true, List, [], ◌∷◌, Option, Some, None, Result, Ok, Err, if◌then◌else◌}
+use Rattle.model.specs.Signature.{Verifies}
+use Rattle.model.specs.Transaction.{Transaction}
+use Rattle.model.specs.Utxo.{Utxo}
+use Rattle.model.specs.Rules.{Params, Reason, OutsideInterval, NoInputs, TooBig, FeeTooSmall, MissingInput}
+use Rattle.model.specs.Balance.{is_balanced}
+use Rattle.model.specs.Rules.{OutputTooSmall, WrongNetwork, NotBalanced, OutputExists, BadSignature}
+use Rattle.model.specs.Rules.{MissingKeyWitness, MissingScript, ExtraScript, ScriptFails, reason_number, passes}
+use Rattle.model.specs.Rules.{reason_against, has_free_places, has_good_signatures, are_among, keys_of, scripts_of}
+use Rattle.model.specs.Rules.{keys_needed, scripts_needed, scripts_hold}
+use Rattle.utxo_rules.specs.declared.reason.Reason.{Reason as CodeReason}
+use Rattle.utxo_rules.specs.declared.check_fault.CheckFault.{CheckFault}
+use Rattle.utxo_rules.specs.declared.check_fault.CheckFault.TheVariants.{Refused, OutOfMemory}
+use Rattle.utxo_rules.specs.View.{reason_of}
+
+-- a fault of a check: the first reason, or want of memory, which is told only where none of the reasons 1 to 7 applies
+abbrev pub IsCheckFault : Verifies → Params → Utxo → (slot : ℕ) → Transaction → CheckFault → Type 0
+IsCheckFault verifies params utxo slot t (Refused reason) =
+    reason_against verifies params utxo slot t ≡ Some (reason_of reason)
+IsCheckFault verifies params utxo slot t OutOfMemory =
+    (r : Reason) → reason_number r < 8 → passes verifies params utxo slot t r ≡ true
+
+-- ---- the parts of a check
+
+-- the reasons that are looked for before the balance
+abbrev pub early_reasons : List Reason
+early_reasons =
+    OutsideInterval ∷ NoInputs ∷ TooBig ∷ FeeTooSmall ∷ MissingInput ∷ OutputTooSmall ∷ WrongNetwork ∷ []
+
+-- the reason that is told, if one is
+abbrev pub told : Result (Unit {0}) CodeReason → Option Reason
+told (Ok unit) = None
+told (Err reason) = Some (reason_of reason)
+
+-- the first of the reasons 10 to 14, where these keys and these scripts are needed
+unfoldable pub first_of_witnesses : Verifies → (keys scripts : List (List ℕ)) → Transaction → Option Reason
+first_of_witnesses verifies keys scripts t =
+    if has_good_signatures verifies t then
+    (if are_among keys (keys_of t) then
+    (if are_among scripts (scripts_of t) then
+    (if are_among (scripts_of t) scripts then
+    (if scripts_hold t then None else Some ScriptFails)
+    else Some ExtraScript)
+    else Some MissingScript)
+    else Some MissingKeyWitness)
+    else Some BadSignature
+
+-- the first of the reasons 8 to 14
+unfoldable pub first_of_spending : Verifies → Utxo → Transaction → Option Reason
+first_of_spending verifies utxo t =
+    if is_balanced utxo t then
+    (if has_free_places utxo t then first_of_witnesses verifies (keys_needed utxo t) (scripts_needed utxo t) t
+    else Some OutputExists)
+    else Some NotBalanced
+
+-- this reason, or none, is what is told; want of memory tells nothing
+abbrev pub IsTold : Option Reason → Result (Unit {0}) CheckFault → Type 0
+IsTold first (Ok unit) = first ≡ None
+IsTold first (Err (Refused reason)) = first ≡ Some (reason_of reason)
+IsTold first (Err OutOfMemory) = Unit {0}

@@ -1,0 +1,132 @@
+//! The rules of a transaction.
+
+ghost use Rattle.std.specs.Prelude.{◌≡◌, ◌≤◌, ◌^◌, None, OnOk, IfErr};
+ghost use Rattle.model.specs.Signature.{Verifies};
+ghost use Rattle.model.specs.Transaction.{size_of};
+ghost use Rattle.model.specs.Rules.{passes, first_failing, reason_against};
+ghost use Rattle.utxo_rules.specs.View.{params_of};
+ghost use Rattle.utxo_rules.specs.Check.{told, early_reasons, first_of_witnesses, first_of_spending};
+ghost use Rattle.utxo_rules.specs.Check.{IsTold, IsCheckFault};
+
+use crate::balance::is_balanced;
+use crate::check_fault::CheckFault;
+use crate::conditions::{
+    are_on_network, are_unspent, has_free_places, hold_at_least, is_in_interval, pays_fee,
+};
+use crate::params::Params;
+use crate::reason::Reason;
+use crate::spent::Spent;
+use crate::utxo::Utxo;
+use crate::witnesses::{are_needed, are_supplied, have_signed, with_policies};
+use std::alloc::Global;
+use tx::Tx;
+use witness_pool::{CheckedTx, SigScheme};
+
+/// The first of the reasons 1 to 7 that there is. Takes no memory.
+#[tactic(auto, unfolding(model::specs::Rules::first_failing))]
+fn check_parts(params: &Params, utxo: &Utxo, slot: u64, tx: &Tx) -> Result<(), Reason>
+    ensures first { (verifies : Verifies) → told result ≡
+        first_failing (passes verifies (params_of params.now) utxo.now slot tx.now) early_reasons }
+    ensures small { OnOk result (size_of tx.now ≤ 2 ^ 32) }
+{
+    if !is_in_interval(slot, tx.interval()) {
+        return Err(Reason::OutsideInterval);
+    }
+    if tx.inputs().is_empty() {
+        return Err(Reason::NoInputs);
+    }
+    if tx.size() > u64::from(params.max_tx_size) {
+        return Err(Reason::TooBig);
+    }
+    if !pays_fee(params, tx) {
+        return Err(Reason::FeeTooSmall);
+    }
+    if !are_unspent(utxo, tx.inputs()) {
+        return Err(Reason::MissingInput);
+    }
+    if !hold_at_least(params.min_utxo, tx.outputs()) {
+        return Err(Reason::OutputTooSmall);
+    }
+    if !are_on_network(params.network, tx.outputs()) {
+        return Err(Reason::WrongNetwork);
+    }
+    Ok(())
+}
+
+/// The first of the reasons 10 to 14 that there is, where these keys and scripts are needed.
+#[tactic(auto, unfolding(crate::specs::Check::first_of_witnesses))]
+fn check_witnesses<S: SigScheme>(
+    alloc: Global,
+    keys: &[[u8; 32]],
+    scripts: Vec<[u8; 32]>,
+    checked: &CheckedTx<S>,
+) -> Result<(), CheckFault>
+    ensures { IsTold (first_of_witnesses S.verifies keys.now scripts.items checked.now) result }
+{
+    let tx = checked.tx();
+    if !checked.is_signed() {
+        return Err(CheckFault::Refused(Reason::BadSignature));
+    }
+    if !have_signed(alloc, keys, checked.keys())? {
+        return Err(CheckFault::Refused(Reason::MissingKeyWitness));
+    }
+    if !are_supplied(alloc, &scripts, tx.scripts())? {
+        return Err(CheckFault::Refused(Reason::MissingScript));
+    }
+    if !are_needed(scripts, tx.scripts()) {
+        return Err(CheckFault::Refused(Reason::ExtraScript));
+    }
+    if !checked.scripts_hold() {
+        return Err(CheckFault::Refused(Reason::ScriptFails));
+    }
+    Ok(())
+}
+
+/// The first of the reasons 8 to 14 that there is.
+fn check_spending<S: SigScheme>(
+    alloc: Global,
+    utxo: &Utxo,
+    checked: &CheckedTx<S>,
+) -> Result<(), CheckFault>
+    requires { size_of checked.now ≤ 2 ^ 32 }
+    ensures { IsTold (first_of_spending S.verifies utxo.now checked.now) result }
+{
+    let tx = checked.tx();
+    let spent = Spent::by(alloc, utxo, tx.inputs())?;
+    let balanced = is_balanced(alloc, spent.totals, tx)?;
+    if !balanced {
+        return Err(CheckFault::Refused(Reason::NotBalanced));
+    }
+    if !has_free_places(utxo, tx) {
+        return Err(CheckFault::Refused(Reason::OutputExists));
+    }
+    let scripts = with_policies(spent.scripts, tx.mint())?;
+    check_witnesses(alloc, &spent.keys, scripts, checked)
+}
+
+/// Judges a transaction at a slot and on a UTXO (Shelley and Shelley-MA, UTXO and UTXOW; the order of the reasons is
+/// this project's own). Ok where there is no reason against it, and else the first. OutOfMemory where memory ran out
+/// before that was known, which it does only where none of the reasons 1 to 7 applies. Takes two look-ups in the UTXO
+/// for each input and one for each output; its own memory is linear in the assets and the hashes that it adds up and
+/// looks up, and none of them is copied more than once.
+///
+/// ```text
+/// match check(alloc, &params, &utxo, slot, &tx) {
+///     Ok(()) => apply(&mut utxo, tx.tx())?,
+///     Err(fault) => println!("{fault}"),
+/// }
+/// ```
+pub fn check<S: SigScheme>(
+    alloc: Global,
+    params: &Params,
+    utxo: &Utxo,
+    slot: u64,
+    checked: &CheckedTx<S>,
+) -> Result<(), CheckFault>
+    ensures accepted { OnOk result (
+        reason_against S.verifies (params_of params.now) utxo.now slot checked.now ≡ None) }
+    ensures refused { IfErr result (IsCheckFault S.verifies (params_of params.now) utxo.now slot checked.now) }
+{
+    check_parts(params, utxo, slot, checked.tx())?;
+    check_spending(alloc, utxo, checked)
+}
