@@ -4,6 +4,7 @@
 
 mod blocks;
 mod keys;
+mod ledger_states;
 mod maps;
 mod telling;
 
@@ -16,9 +17,10 @@ fn main(rt: HostRuntime) -> io::Result<()> {
         match word.as_str() {
             "persistent_map" => return maps::measure(&rt),
             "blocks" => return blocks::measure(&rt, Telling::Times),
+            "ledger" => return ledger_states::measure(&rt),
             _ => {}
         }
     }
     blocks::measure(&rt, Telling::Names)?;
-    println!(rt; "to measure: bench persistent_map, bench blocks")
+    println!(rt; "to measure: bench persistent_map, bench blocks, bench ledger")
 }

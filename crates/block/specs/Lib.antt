@@ -4,5 +4,6 @@ pub mod Read
 pub mod PartsView
 pub mod Held
 pub mod HeldRef
+pub mod HeldChecked
 pub mod Written
 pub mod Same

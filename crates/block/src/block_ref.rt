@@ -5,6 +5,7 @@ ghost use Rattle.model.specs.Block.{block_text, block_hash_of};
 ghost use Rattle.block.specs.Read.{IsRead, IsNoBlock};
 
 use crate::block::Block;
+use crate::checked_block::CheckedBlock;
 use crate::fault::NoBlock;
 use crate::header::Header;
 use crate::reading;
@@ -13,6 +14,7 @@ use ident::{BlockHash, BodyHash};
 use std::alloc::{AllocError, Global};
 use std::marker::Model;
 use tx::Tx;
+use witness_pool::SigScheme;
 
 /// The largest size of a block, in bytes.
 pub const MAX_BLOCK_SIZE: usize = 1_048_576;
@@ -76,6 +78,24 @@ impl<'a> BlockRef<'a> {
         ensures { IfOk result (λ b. b ≡ self.entry) }
     {
         Block::of_parts(
+            alloc,
+            self.bytes,
+            self.hash,
+            self.header,
+            self.body_size,
+            self.transactions,
+        )
+    }
+
+    /// The block with a copy of the bytes and with the verdicts on its transactions, which are moved. One call of the
+    /// scheme and one digest for each signature.
+    pub fn into_checked_block<S: SigScheme>(
+        self,
+        alloc: Global,
+    ) -> Result<CheckedBlock<S>, AllocError>
+        ensures { IfOk result (λ b. b ≡ self.entry) }
+    {
+        CheckedBlock::of_parts(
             alloc,
             self.bytes,
             self.hash,

@@ -3,6 +3,7 @@
 
 mod block;
 mod block_ref;
+mod checked_block;
 mod fault;
 mod full;
 mod header;
@@ -12,13 +13,9 @@ mod writing;
 
 pub use block::{Block, read};
 pub use block_ref::{BlockRef, MAX_BLOCK_SIZE, look};
+pub use checked_block::CheckedBlock;
 pub use fault::{NoBlock, NoText, ReadFault, WriteFault};
 pub use full::write;
 pub use header::Header;
 pub use laws::one_answer;
 pub use writing::{empty_body_hash, write_empty};
-
-#[cfg(test)]
-mod full_tests;
-#[cfg(test)]
-mod tests;

@@ -29,12 +29,3 @@ pub use tree_writer::encode;
 pub use writer::{
     write_array, write_byte_string, write_map, write_negative, write_null, write_unsigned,
 };
-
-#[cfg(test)]
-mod fields_tests;
-#[cfg(test)]
-mod shapes_tests;
-#[cfg(test)]
-mod tests;
-#[cfg(test)]
-mod tree_tests;

@@ -4,7 +4,7 @@ ghost use Rattle.std.specs.Prelude.{◌≡◌, map, IfOk, option_map, ok_or};
 ghost use Rattle.toml.specs.Parse.{parse_document};
 ghost use Rattle.toml.specs.View.{table_view};
 ghost use Rattle.model.specs.Genesis as model;
-ghost use Rattle.model.specs.Genesis.{supply_of, IsGenesis};
+ghost use Rattle.model.specs.Genesis.{supply_of, IsGenesis, IsWithin};
 ghost use Rattle.genesis.specs.declared.genesis_fault.GenesisFault.TheVariants.{NotToml};
 ghost use Rattle.genesis.specs.Steps.{Gives};
 ghost use Rattle.genesis.specs.Judgement.{judged, genesis_of};
@@ -130,14 +130,16 @@ impl Genesis {
 
     /// How many bytes a transaction has at most, 1 to 65,536.
     pub fn max_tx_size(&self) -> u64
-        ensures { result ≡ self.now.params.max_tx_size }
+        ensures size { result ≡ self.now.params.max_tx_size }
+        ensures range { IsWithin 1 65536 result }
     {
         self.settings.max_tx_size
     }
 
     /// How many bytes the body of a block has at most, 1 to 1,048,000.
     pub fn max_body_size(&self) -> u64
-        ensures { result ≡ self.now.params.max_body_size }
+        ensures size { result ≡ self.now.params.max_body_size }
+        ensures range { IsWithin 1 1048000 result }
     {
         self.settings.max_body_size
     }

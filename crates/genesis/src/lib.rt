@@ -17,10 +17,3 @@ mod table;
 pub use genesis::Genesis;
 pub use genesis_fault::GenesisFault;
 pub use grants::Grant;
-
-#[cfg(test)]
-mod fault_tests;
-#[cfg(test)]
-mod sample;
-#[cfg(test)]
-mod tests;

@@ -22,6 +22,3 @@ pub use key_hash::KeyHash;
 pub use point::Point;
 pub use script_hash::ScriptHash;
 pub use tx_id::TxId;
-
-#[cfg(test)]
-mod tests;

@@ -19,6 +19,8 @@ pub mod UtxoSums
 pub mod OpeningOutputs
 pub mod Balances
 pub mod Conserved
+pub mod LedgerSteps
+pub mod AppliedBlocks
 pub mod TextLengths
 pub mod TransactionSizes
 pub mod ExampleSizes

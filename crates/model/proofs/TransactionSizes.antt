@@ -1,7 +1,7 @@
 -- A transaction has at least as many bytes as it has inputs, and as it has outputs.
-use Rattle.std.proofs.Common.{◌≡◌, ℕ, suc, ◌+◌, ◌≤◌, List, [], ◌∷◌, length, map, refl, sym, subst, arith}
-use Rattle.model.specs.Cbor.{Item, items_of, array_of, text_of, head}
-use Rattle.model.specs.Transaction.{Input, Output, Transaction, item_of_input, item_of_output, item_of_body, item_of_witnesses, item_of_transaction, size_of}
+use Rattle.std.proofs.Common.{◌≡◌, ℕ, ◌≤◌, List, [], ◌∷◌, length, map, refl, sym, subst, arith}
+use Rattle.model.specs.Cbor.{items_of, head}
+use Rattle.model.specs.Transaction.{Input, Output, Transaction, item_of_input, item_of_output, item_of_transaction, size_of}
 use Rattle.model.proofs.TextLengths.{item_length, items_length, length_of_text}
 
 -- the head of an input's text, or of an output's, is one byte

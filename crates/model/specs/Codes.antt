@@ -5,6 +5,7 @@ use Rattle.std.specs.Prelude.{◌≡◌, ◌⊎◌, ℕ, zero, suc, List, [], �
 use mathlib.Core.Path.{refl, sym, ap, ◌∙◌}
 use mathlib.Core.Logic.{inl, inr}
 use base.Stored.{Gv, gnil, gnum, gcons, num}
+use Rattle.std.specs.FinMap as finite
 use Rattle.std.specs.Coded.{Coded, coded_ℕ, coded_ℤ, coded_list, coded×, coded⊎, coded_option, code_by}
 use Rattle.model.specs.Cbor.{Item, Items, Pairs, Unsigned, Negative, Bytes, Array, Map, Null, NoItems, NextItem}
 use Rattle.model.specs.Cbor.{NoPairs, NextPair}
@@ -13,9 +14,11 @@ use Rattle.model.specs.Script.{Script, Scripts, RequireSignature, RequireAllOf, 
 use Rattle.model.specs.Script.{RequireTimeStart, RequireTimeExpire, NoScripts, NextScript}
 use Rattle.model.specs.Transaction.{Credential, KeyHash, ScriptHash, Address, Input, Output, KeyWitness, Transaction}
 use Rattle.model.specs.Block.{Header, Block}
+use Rattle.model.specs.Utxo.{Utxo}
 use Rattle.model.specs.Rules.{Params}
 use Rattle.model.specs.Genesis.{Grant, Genesis as Configuration}
 use Rattle.model.specs.Chain.{Genesis, Ledger, Tip}
+use Rattle.model.specs.Applying.{LedgerState}
 use Rattle.model.specs.Follower.{Followers}
 use Rattle.model.specs.History.{State, Refusal, TooLarge, Malformed, BodyHashMismatch, TooOld, Known, Clash}
 use Rattle.model.specs.History.{VolatileFull, refusal_number}
@@ -348,6 +351,15 @@ coded_tip =
     code_by (ℕ × (ℕ × Option (List ℕ))) (coded× coded_ℕ (coded× coded_ℕ (coded_option coded_bytes)))
     (λ t. (t.number, (t.slot, t.hash)))
     (λ p. record { number = p.0; slot = p.1.0; hash = p.1.1 })
+    (λ _. refl)
+
+-- what blocks are applied to
+abbrev pub coded_ledger_state : Coded LedgerState
+coded_ledger_state =
+    code_by (Params × (Utxo × (ℕ × Tip)))
+    (coded× coded_params (coded× (finite.code coded_input coded_output) (coded× coded_ℕ coded_tip)))
+    (λ s. (s.params, (s.ledger.utxo, (s.ledger.fees, s.tip))))
+    (λ p. record { params = p.0; ledger = record { utxo = p.1.0; fees = p.1.1.0 }; tip = p.1.1.1 })
     (λ _. refl)
 
 -- what is kept, the selected chain, and the followers

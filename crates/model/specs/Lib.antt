@@ -9,7 +9,9 @@ pub mod Balance
 pub mod Rules
 pub mod Genesis
 pub mod Block
+pub mod Ledger
 pub mod Chain
+pub mod Applying
 pub mod Follower
 pub mod History
 pub mod Codes

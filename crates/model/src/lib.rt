@@ -6,6 +6,7 @@
 
 mod examples;
 mod histories;
+mod ledgers;
 mod opening;
 mod rule_examples;
 mod rules;
@@ -19,6 +20,7 @@ pub use histories::{
     chain_theorem, change_counts, immutable_part_grows, kept_blocks, live_hashes_differ,
     one_selection, one_state, selected_chain, told_chains,
 };
+pub use ledgers::{one_answer_to_a_block, states_of_chains, supply_conserved};
 pub use opening::{opening_outputs, opening_supply};
 pub use rule_examples::{asset_sum_past_64_bits, mint_and_burn, slots_of_intervals, spend_and_fee};
 pub use rules::{

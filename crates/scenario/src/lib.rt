@@ -19,6 +19,3 @@ mod words;
 
 pub use fault::{LineFault, ScenarioFault};
 pub use runner::{MAX_SCRIPT_SIZE, run};
-
-#[cfg(test)]
-mod tests;

@@ -17,6 +17,3 @@ pub use fault::ScriptFault;
 pub use interval::Interval;
 pub use script::Script;
 pub use timelock::{Timelock, Timelocks};
-
-#[cfg(test)]
-mod tests;

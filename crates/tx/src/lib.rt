@@ -27,12 +27,3 @@ pub use output::Output;
 pub use parts::TxParts;
 pub use tx::Tx;
 pub use tx_fault::TxFault;
-
-#[cfg(test)]
-mod body_tests;
-#[cfg(test)]
-mod making_tests;
-#[cfg(test)]
-mod tests;
-#[cfg(test)]
-mod tx_tests;

@@ -2,8 +2,7 @@
 use Rattle.std.proofs.Common.{◌≡◌, ℕ, ◌+◌, ◌<◌, ◌≤◌, Bool, true, false, List, [], ◌∷◌, ◌++◌, length, map, Option, Some, None, Result, Ok, Err, IfErr, OnOk, refl, sym, ap, subst, ◌∙◌, arith}
 use Rattle.std.specs.Prelude.{if◌then◌else◌, option_to_list}
 use Rattle.std.specs.List.{AllByRecursion}
-use Rattle.std.specs.Result.{IsErrAnd}
-use Rattle.std.proofs.lemmas.List.{length-append, length-map}
+use Rattle.std.proofs.lemmas.List.{length-map}
 use Rattle.model.specs.Signature.{Verifies}
 use Rattle.model.specs.Transaction.{Transaction, Input, Output, size_of}
 use Rattle.model.specs.Utxo.{Utxo, output_at, outputs_at, spent_outputs}
@@ -13,17 +12,11 @@ use Rattle.model.specs.Rules.{OutsideInterval, NoInputs, TooBig, FeeTooSmall, Mi
 use Rattle.model.proofs.TransactionSizes.{inputs_fit, outputs_fit}
 use Rattle.tx.specs.View.{input_of}
 use Rattle.tx.specs.declared.input.Input.{Input as CodeInput}
-use Rattle.utxo_rules.specs.declared.reason.Reason.{Reason as CodeReason}
 use Rattle.utxo_rules.specs.declared.check_fault.CheckFault.{CheckFault}
 use Rattle.utxo_rules.specs.declared.check_fault.CheckFault.TheVariants.{Refused, OutOfMemory}
 use Rattle.utxo_rules.specs.declared.spent.Spent.{Spent}
 use Rattle.utxo_rules.specs.Spent.{IsSpent}
-use Rattle.utxo_rules.specs.View.{reason_of}
 use Rattle.utxo_rules.specs.Check.{early_reasons, first_of_witnesses, first_of_spending, IsTold, IsCheckFault}
-
-pub if_err : {X E : Type 0} (result : Result X E) (is : E) (P : E → Type 0) → IsErrAnd result (λ e. e ≡ is) → P is → IfErr result P
-if_err (Ok x) is P same p = tt
-if_err (Err e) is P same p = subst P (sym same) p
 
 -- ---- what is spent
 

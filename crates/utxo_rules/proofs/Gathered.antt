@@ -1,11 +1,11 @@
 -- How a loop gathers what each of a list stands for, and what outputs bring that are spent.
-use Rattle.std.proofs.Common.{◌≡◌, ℕ, ◌+◌, ◌<◌, ◌≤◌, ℤ, ◌+ℤ◌, List, [], ◌∷◌, ◌++◌, length, drop, get_or, map, refl, sym, ap, ◌∙◌, append-nil, append_assoc, arith}
+use Rattle.std.proofs.Common.{◌≡◌, ℕ, ◌+◌, ◌<◌, ◌≤◌, ◌+ℤ◌, List, [], ◌∷◌, ◌++◌, length, drop, get_or, map, sym, ap, ◌∙◌, append-nil, append_assoc, arith}
 use Rattle.std.specs.Prelude.{Option, Some, None, option_to_list, flat_map}
 use Rattle.std.proofs.lemmas.List.{drop_all}
 use Rattle.std.proofs.lemmas.Int.{ints}
 use Rattle.cbor.proofs.ForCallers.{drop_here}
-use Rattle.model.specs.Value.{Asset, amount_of}
-use Rattle.model.specs.Transaction.{Input, Output}
+use Rattle.model.specs.Value.{Asset}
+use Rattle.model.specs.Transaction.{Output}
 use Rattle.model.specs.Utxo.{Utxo, output_at, outputs_at, sum_of}
 use Rattle.model.specs.Rules.{key_hashes_in, script_hashes_in}
 use Rattle.tx.specs.View.{input_of}

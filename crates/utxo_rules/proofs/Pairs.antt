@@ -7,6 +7,7 @@ use Rattle.cbor.proofs.ForCallers.{drop_here}
 use Rattle.model.specs.Transaction.{Input, Output, Transaction, transaction_id_of}
 use Rattle.model.specs.Utxo.{Utxo, without, place, pairs_from, with_pairs, utxo_after}
 use Rattle.model.proofs.Unspent.{without_next, without_none}
+use Rattle.utxo_rules.proofs.ForCallers.{pairs_left, pair_here, no_pairs}
 use Rattle.tx.specs.View.{input_of, output_of}
 use Rattle.tx.specs.declared.input.Input.{Input as CodeInput}
 use Rattle.tx.specs.declared.output.Output.{Output as CodeOutput}
@@ -27,52 +28,28 @@ pub all_without : (old now : Utxo) (inputs : List CodeInput) (i : ℕ) → lengt
 all_without old now inputs i le part =
     sym (without_none now) ∙ ap (λ (xs : List CodeInput). without (map input_of xs) now) (sym (drop_all i inputs le)) ∙ part
 
--- ---- pairs
+-- ---- a test of the places
 
 module _ (id : List ℕ) where
-  -- the pairs of the outputs from this one on
-  abbrev pub pairs_left : List CodeOutput → ℕ → List (Input × Output)
-  pairs_left outputs i = pairs_from id i (map output_of (drop i outputs))
-
-  pub pair_here : (outputs : List CodeOutput) (i : ℕ) (x : CodeOutput) → i < length outputs → x ≡ get_or outputs i x → pairs_left outputs i ≡ (place id i, output_of x) ∷ pairs_left outputs (i + 1)
-  pair_here outputs i x lt is =
-      let next : suc i ≡ i + 1 = omega arith in
-      ap (λ (xs : List CodeOutput). pairs_from id i (map output_of xs)) (drop_here outputs i x lt is)
-      ∙ ap (λ (n : ℕ). (place id i, output_of x) ∷ pairs_from id n (map output_of (drop (i + 1) outputs))) next
-
-  pub no_pairs : (outputs : List CodeOutput) (i : ℕ) → length outputs ≤ i → pairs_left outputs i ≡ []
-  no_pairs outputs i le = ap (λ (xs : List CodeOutput). pairs_from id i (map output_of xs)) (drop_all i outputs le)
-
-  -- with what is still to be put in it is what is asked for
-  abbrev pub IsPartPlaced : (old now : Utxo) → List CodeOutput → ℕ → Type 0
-  IsPartPlaced old now outputs i = with_pairs (pairs_left outputs i) now ≡ with_pairs (pairs_left outputs 0) old
-
-  pub one_placed : (old now new : Utxo) (outputs : List CodeOutput) (i : ℕ) (x : CodeOutput) (o : Output) → i < length outputs → x ≡ get_or outputs i x → o ≡ output_of x → new ≡ finite.insert now (place id i) o → IsPartPlaced old now outputs i → IsPartPlaced old new outputs (i + 1)
-  one_placed old now new outputs i x o lt is same inserted part =
-      ap (with_pairs (pairs_left outputs (i + 1))) (inserted ∙ ap (finite.insert now (place id i)) same)
-      ∙ ap (λ (ps : List (Input × Output)). with_pairs ps now) (sym (pair_here outputs i x lt is)) ∙ part
-
-  pub all_placed : (old now : Utxo) (outputs : List CodeOutput) (i : ℕ) → length outputs ≤ i → IsPartPlaced old now outputs i → now ≡ with_pairs (pairs_left outputs 0) old
-  all_placed old now outputs i le part = ap (λ (ps : List (Input × Output)). with_pairs ps now) (sym (no_pairs outputs i le)) ∙ part
-
-  -- ---- a test of the places
+  abbrev pub pairs_from_here : List CodeOutput → ℕ → List (Input × Output)
+  pairs_from_here outputs i = pairs_left output_of id outputs i
 
   module _ (test : Input → Bool) where
     -- the places that are left decide for all
     abbrev pub DecideForPlaces : List CodeOutput → ℕ → Type 0
-    DecideForPlaces outputs i = list_all (λ p. test p.0) (pairs_left outputs i) ≡ list_all (λ p. test p.0) (pairs_left outputs 0)
+    DecideForPlaces outputs i = list_all (λ p. test p.0) (pairs_from_here outputs i) ≡ list_all (λ p. test p.0) (pairs_from_here outputs 0)
 
-    place_here : (outputs : List CodeOutput) (i : ℕ) (x : CodeOutput) → i < length outputs → x ≡ get_or outputs i x → list_all (λ p. test p.0) (pairs_left outputs i) ≡ (test (place id i) && list_all (λ p. test p.0) (pairs_left outputs (i + 1)))
-    place_here outputs i x lt is = ap (list_all (λ (p : Input × Output). test p.0)) (pair_here outputs i x lt is)
+    place_here : (outputs : List CodeOutput) (i : ℕ) (x : CodeOutput) → i < length outputs → x ≡ get_or outputs i x → list_all (λ p. test p.0) (pairs_from_here outputs i) ≡ (test (place id i) && list_all (λ p. test p.0) (pairs_from_here outputs (i + 1)))
+    place_here outputs i x lt is = ap (list_all (λ (p : Input × Output). test p.0)) (pair_here output_of id outputs i x lt is)
 
     pub place_passes : (outputs : List CodeOutput) (i : ℕ) (x : CodeOutput) → i < length outputs → x ≡ get_or outputs i x → test (place id i) ≡ true → DecideForPlaces outputs i → DecideForPlaces outputs (i + 1)
     place_passes outputs i x lt is good left = sym (place_here outputs i x lt is ∙ rw good refl) ∙ left
 
-    pub place_fails : (outputs : List CodeOutput) (i : ℕ) (x : CodeOutput) → i < length outputs → x ≡ get_or outputs i x → test (place id i) ≡ false → DecideForPlaces outputs i → false ≡ list_all (λ p. test p.0) (pairs_left outputs 0)
+    pub place_fails : (outputs : List CodeOutput) (i : ℕ) (x : CodeOutput) → i < length outputs → x ≡ get_or outputs i x → test (place id i) ≡ false → DecideForPlaces outputs i → false ≡ list_all (λ p. test p.0) (pairs_from_here outputs 0)
     place_fails outputs i x lt is bad left = sym (place_here outputs i x lt is ∙ rw bad refl) ∙ left
 
-    pub places_pass : (outputs : List CodeOutput) (i : ℕ) → length outputs ≤ i → DecideForPlaces outputs i → true ≡ list_all (λ p. test p.0) (pairs_left outputs 0)
-    places_pass outputs i le left = ap (list_all (λ (p : Input × Output). test p.0)) (sym (no_pairs outputs i le)) ∙ left
+    pub places_pass : (outputs : List CodeOutput) (i : ℕ) → length outputs ≤ i → DecideForPlaces outputs i → true ≡ list_all (λ p. test p.0) (pairs_from_here outputs 0)
+    places_pass outputs i le left = ap (list_all (λ (p : Input × Output). test p.0)) (sym (no_pairs output_of id outputs i le)) ∙ left
 
 -- ---- a whole transaction
 

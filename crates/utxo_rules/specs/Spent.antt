@@ -1,5 +1,5 @@
 -- What outputs that are spent bring, and what they ask for.
-use Rattle.std.specs.Prelude.{◌≡◌, ℕ, ◌+◌, ◌+ℤ◌, List, ◌++◌, length, flat_map}
+use Rattle.std.specs.Prelude.{◌≡◌, ◌+◌, ◌+ℤ◌, List, ◌++◌, length, flat_map}
 use Rattle.model.specs.Value.{Asset, amount_of}
 use Rattle.model.specs.Transaction.{Output}
 use Rattle.model.specs.Utxo.{sum_of}

@@ -3,6 +3,7 @@
 ghost use Rattle.std.specs.Prelude.{◌≡◌};
 ghost use Rattle.tx.specs.View.{input_of, output_of};
 
+use ident::TxId;
 use std::marker::Model;
 use tx::{Input, Output};
 
@@ -14,6 +15,7 @@ pub struct Place {
 }
 
 impl Model for Place {
+    ghost use Rattle.std.specs.Prelude.{◌≤◌};
     ghost use Rattle.model.specs.Transaction.{Input};
     ghost use Rattle.model.specs.Codes.{coded_input};
 
@@ -22,6 +24,8 @@ impl Model for Place {
     ghost coded = { coded_input };
 
     ghost view = { λ p. record { transaction = p.transaction; index = p.index } };
+
+    ghost invariant = { λ p. p.index ≤ 65535 };
 
     ghost inverse = { λ i. record { transaction = i.transaction; index = i.index } };
 }
@@ -34,6 +38,16 @@ impl Place {
         Place {
             transaction: *input.transaction.as_bytes(),
             index: input.index,
+        }
+    }
+
+    /// The input that would spend the output there.
+    pub fn input(&self) -> Input
+        ensures { input_of result ≡ self.now }
+    {
+        Input {
+            transaction: TxId::from_bytes(self.transaction),
+            index: self.index,
         }
     }
 }

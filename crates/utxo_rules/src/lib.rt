@@ -10,6 +10,7 @@ mod applied;
 mod balance;
 mod check_fault;
 mod conditions;
+mod entries;
 mod entry;
 mod hashes;
 mod params;
@@ -21,14 +22,8 @@ mod witnesses;
 
 pub use applied::apply;
 pub use check_fault::CheckFault;
+pub use entries::Entries;
 pub use params::Params;
 pub use reason::Reason;
 pub use rules::check;
 pub use utxo::Utxo;
-
-#[cfg(test)]
-mod payments;
-#[cfg(test)]
-mod rules_tests;
-#[cfg(test)]
-mod tests;

@@ -3,8 +3,10 @@
 ghost use Rattle.std.specs.Prelude.{◌≡◌, ◌↔◌, IsTrue, IfOk, OnOk, OnErr};
 ghost use Rattle.std.specs.Option.{option_copied, option_map};
 ghost use Rattle.std.specs.FinMap as finite;
+ghost use Rattle.model.specs.Utxo.{outputs_of, coin_of};
 ghost use Rattle.tx.specs.View.{input_of, output_of};
 
+use crate::entries::Entries;
 use crate::entry::{Place, Unspent};
 use persistent_map::PersistentMap;
 use std::alloc::{AllocError, Global};
@@ -64,6 +66,33 @@ impl Utxo {
     {
         let unspent = self.map.get(&Place::of(input))?;
         Some(unspent.output())
+    }
+
+    /// All unspent outputs, each with the input that would spend it, in the order of the inputs. Takes no memory; each
+    /// step may.
+    pub fn iter(&self) -> Entries<'_>
+        ensures { result ≡ finite.entries self.now }
+    {
+        Entries {
+            rest: self.map.iter(),
+        }
+    }
+
+    /// How much lovelace all of them hold together. Linear in their number. Err where memory runs out for the walk,
+    /// which takes some in proportion to the logarithm of that.
+    pub fn coin(&self) -> Result<u128, AllocError>
+        ensures { IfOk result (λ coin. coin ≡ coin_of (outputs_of self.now)) }
+    {
+        let count = self.len();
+        let mut entries = self.iter();
+        let mut coin: u128 = 0;
+        // Each step adds less than 2^64, and there are fewer than 2^64, so that the sum fits.
+        for _ in 0..count {
+            if let Some((_, output)) = entries.next()? {
+                coin += u128::from(output.value.coin());
+            }
+        }
+        Ok(coin)
     }
 
     /// The same unspent outputs again, in constant time and with no memory. Err where 2^63 copies share them already.

@@ -24,10 +24,3 @@ pub use laws::{one_mint_of_parts, one_value_of_parts};
 pub use mint::Mint;
 pub use totals::Totals;
 pub use value::Value;
-
-#[cfg(test)]
-mod making_tests;
-#[cfg(test)]
-mod tests;
-#[cfg(test)]
-mod totals_tests;

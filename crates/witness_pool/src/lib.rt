@@ -10,6 +10,3 @@ mod verdicts;
 pub use checked_tx::{CheckedTx, plain};
 pub use scheme::SigScheme;
 pub use test_scheme::TestScheme;
-
-#[cfg(test)]
-mod tests;

@@ -20,12 +20,33 @@ fn point(made: &Made) -> Point {
     }
 }
 
+/// The core answers these bytes so.
+fn answers(
+    rt: &impl Abort,
+    core: &mut Core,
+    bytes: &[u8],
+    want: ArriveReply,
+) -> Result<(), AllocError> {
+    let reply = core.arrive(bytes)?;
+    assert_eq!(rt; reply, want);
+    Ok(())
+}
+
 /// The blocks arrive in this order, with these answers.
-fn arrives(rt: &impl Abort, core: &mut Core, rows: &[(&Made, ArriveReply)]) -> Result<(), Fail> {
+fn arrives(
+    rt: &impl Abort,
+    core: &mut Core,
+    rows: &[(&Made, ArriveReply)],
+) -> Result<(), AllocError> {
     for (made, want) in rows {
-        assert_eq!(rt; core.arrive(&made.text)?, *want);
+        answers(rt, core, &made.text, *want)?;
     }
     Ok(())
+}
+
+/// The chain ends in this point.
+fn ends_in(rt: &impl Abort, core: &Core, want: Point) {
+    assert_eq!(rt; core.tip(), want);
 }
 
 // The largest number of bytes that are read, and one more.
@@ -38,9 +59,9 @@ fn cut_and_extended_bytes(rt: HostRuntime) -> Result<(), Fail> {
         (1_048_577, Refusal::TooLarge),
     ] {
         let zeros = vec![in alloc; 0; bytes]?;
-        assert_eq!(rt; core.arrive(&zeros)?, ArriveReply::Refused(refusal));
+        answers(&rt, &mut core, &zeros, ArriveReply::Refused(refusal))?;
     }
-    assert_eq!(rt; core.tip(), Point::genesis());
+    ends_in(&rt, &core, Point::genesis());
     Ok(())
 }
 
@@ -61,7 +82,7 @@ fn full_store(rt: HostRuntime) -> Result<(), Fail> {
         &mut core,
         &[(&a1, kept(0, 1)), (&b1, full), (&b1, full)],
     )?;
-    assert_eq!(rt; core.tip(), point(&a1));
+    ends_in(&rt, &core, point(&a1));
     Ok(())
 }
 
@@ -75,16 +96,38 @@ fn flipped(alloc: Global, text: &[u8], bit: usize) -> Result<Vec<u8>, AllocError
     Ok(other)
 }
 
+/// What a new core answers to the text with one bit flipped.
+fn answer_to_flipped(alloc: Global, text: &[u8], bit: usize) -> Result<ArriveReply, AllocError> {
+    let other = flipped(alloc, text, bit)?;
+    new_core(alloc).arrive(&other)
+}
+
+/// Puts what new cores answer to the text with each of its first so many bits flipped behind other answers.
+fn put_answers(
+    alloc: Global,
+    replies: &mut Vec<ArriveReply>,
+    text: &[u8],
+    bits: usize,
+) -> Result<(), AllocError> {
+    for bit in 0..bits {
+        replies.push(answer_to_flipped(alloc, text, bit)?)?;
+    }
+    Ok(())
+}
+
+/// So many of the answers are this one.
+fn count_is(rt: &impl Abort, replies: &[ArriveReply], want: ArriveReply, count: usize) {
+    let found = replies.iter().filter(|reply| **reply == want).count();
+    assert_eq!(rt; found, count, "{want:?}");
+}
+
 // Each of the 320 bits of a first block's text is flipped in turn, and what comes out arrives at a new core.
 #[test]
 fn every_bit_flipped(rt: HostRuntime) -> Result<(), Fail> {
-    let alloc = rt.alloc();
-    let text = make(alloc, None, 1)?.text;
-    assert_eq!(rt; text.len(), 40);
-    let mut answers: Vec<ArriveReply> = Vec::new(alloc);
-    for bit in 0..320 {
-        answers.push(new_core(alloc).arrive(&flipped(alloc, &text, bit)?)?)?;
-    }
+    let text = make(rt.alloc(), None, 1)?.text;
+    assert!(rt; text.len() == 40);
+    let mut replies = Vec::new(rt.alloc());
+    put_answers(rt.alloc(), &mut replies, &text, 320)?;
     let wants = [
         (54, ArriveReply::Refused(Refusal::Malformed)),
         (256, ArriveReply::Refused(Refusal::BodyHashMismatch)),
@@ -93,41 +136,44 @@ fn every_bit_flipped(rt: HostRuntime) -> Result<(), Fail> {
         (4, kept(0, 1)),
     ];
     for (count, want) in wants {
-        assert_eq!(rt;
-            answers.iter().filter(|answer| **answer == want).count(),
-            count,
-            "{want:?}"
-        );
+        count_is(&rt, &replies, want, count);
     }
     Ok(())
+}
+
+/// The arrivals of a first block, of the second of another chain, and of the first of that one; and its end.
+fn three_arrivals(alloc: Global) -> Result<(Vec<RawEvent>, Point), Fail> {
+    let a1 = make(alloc, None, 1)?;
+    let b1 = make(alloc, None, 2)?;
+    let b2 = make(alloc, Some(&b1), 3)?;
+    let tip = point(&b2);
+    let events = [
+        RawEvent::Arrive(a1.text),
+        RawEvent::Arrive(b2.text),
+        RawEvent::Arrive(b1.text),
+    ];
+    Ok((Vec::from_array(alloc, events)?, tip))
+}
+
+/// The reply is this answer to an arrival.
+fn is_answer(rt: &impl Abort, reply: &Reply, want: ArriveReply) {
+    match reply {
+        Reply::Arrive(Ok(reply)) => assert_eq!(rt; *reply, want),
+        other => panic!(rt; "{other:?}"),
+    }
 }
 
 // Events in a list are answered as one by one.
 #[test]
 fn run_of_arrivals(rt: HostRuntime) -> Result<(), Fail> {
-    let alloc = rt.alloc();
-    let a1 = make(alloc, None, 1)?;
-    let b1 = make(alloc, None, 2)?;
-    let b2 = make(alloc, Some(&b1), 3)?;
-    let tip = point(&b2);
-    let events = Vec::from_array(
-        alloc,
-        [
-            RawEvent::Arrive(a1.text),
-            RawEvent::Arrive(b2.text),
-            RawEvent::Arrive(b1.text),
-        ],
-    )?;
-    let mut core = new_core(alloc);
+    let (events, tip) = three_arrivals(rt.alloc())?;
+    let mut core = new_core(rt.alloc());
     let replies = core.run(&events)?;
     let wants = [kept(0, 1), KEPT_ASIDE, kept(1, 2)];
-    assert_eq!(rt; replies.len(), wants.len());
+    assert!(rt; replies.len() == wants.len());
     for (reply, want) in replies.iter().zip(wants) {
-        match reply {
-            Reply::Arrive(Ok(reply)) => assert_eq!(rt; *reply, want),
-            other => assert!(rt; false, "{other:?}"),
-        }
+        is_answer(&rt, reply, want);
     }
-    assert_eq!(rt; core.tip(), tip);
+    ends_in(&rt, &core, tip);
     Ok(())
 }

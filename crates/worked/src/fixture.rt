@@ -19,21 +19,30 @@ fn hash_of(alloc: Global, text: &[u8]) -> Result<BlockHash, Fail> {
     Ok(read(alloc, text)?.hash())
 }
 
-/// The block without transactions that goes on from the parent, or the first one, in this slot.
-pub fn make(alloc: Global, parent: Option<&Made>, slot: u64) -> Result<Made, Fail> {
+/// The header of the block without transactions that goes on from the parent, or of the first one, in this slot.
+fn header_of(parent: Option<&Made>, slot: u64) -> Header {
     let (number, previous) = match parent {
         Some(made) => (made.number.saturating_add(1), Some(made.hash)),
         None => (1, None),
     };
-    let header = Header {
+    Header {
         number,
         slot,
         previous,
         body_hash: empty_body_hash(),
-    };
+    }
+}
+
+/// That block.
+pub fn make(alloc: Global, parent: Option<&Made>, slot: u64) -> Result<Made, Fail> {
+    let header = header_of(parent, slot);
     let text = write_empty(alloc, &header)?;
     let hash = hash_of(alloc, &text)?;
-    Ok(Made { text, number, hash })
+    Ok(Made {
+        text,
+        number: header.number,
+        hash,
+    })
 }
 
 /// A core that nothing has come to, with k 2.

@@ -1,9 +1,8 @@
 //! What followers are told.
 
-use super::fixture::{Made, make, new_core};
-use chain_core::{
-    ArriveReply, Core, FollowerId, Instruction, NextFault, OpenFault, RawEvent, Reply,
-};
+use super::fixture::{make, new_core};
+use chain_core::{ArriveReply, FollowerId, Instruction, NextFault, OpenFault, RawEvent, Reply};
+use std::alloc::Global;
 use std::process::Abort;
 use std::test::Fail;
 
@@ -23,25 +22,24 @@ fn follower_ids(rt: HostRuntime) -> Result<(), Fail> {
     Ok(())
 }
 
-// Events in a list are answered as one by one.
-#[test]
-fn run_with_a_follower(rt: HostRuntime) -> Result<(), Fail> {
-    let alloc = rt.alloc();
+/// A question of a follower that is not open, its opening, an arrival, and two questions.
+fn events_of(alloc: Global, text: Vec<u8>) -> Result<Vec<RawEvent>, Fail> {
     let id = FollowerId { number: 0 };
-    let a1 = make(alloc, None, 1)?;
-    let again = make(alloc, None, 1)?;
-    let events = Vec::from_array(
+    Ok(Vec::from_array(
         alloc,
         [
             RawEvent::Next(id),
             RawEvent::Open,
-            RawEvent::Arrive(a1.text),
+            RawEvent::Arrive(text),
             RawEvent::Next(id),
             RawEvent::Next(id),
         ],
-    )?;
-    let replies = new_core(alloc).run(&events)?;
-    match replies.as_slice() {
+    )?)
+}
+
+/// The answers to those are that the follower is told the block of this text.
+fn is_told(rt: &impl Abort, replies: &[Reply], text: &[u8]) {
+    match replies {
         [
             Reply::Next(Err(NextFault::UnknownFollower)),
             Reply::Open(Ok(opened)),
@@ -49,10 +47,25 @@ fn run_with_a_follower(rt: HostRuntime) -> Result<(), Fail> {
             Reply::Next(Ok(Some(Instruction::AddBlock(told)))),
             Reply::Next(Ok(None)),
         ] => {
-            assert_eq!(rt; *opened, id);
-            assert_eq!(rt; told.bytes(), again.text.as_slice());
+            assert!(rt; *opened == (FollowerId { number: 0 }));
+            assert!(rt; told.bytes() == text);
         }
-        other => assert!(rt; false, "{other:?}"),
+        other => panic!(rt; "{other:?}"),
     }
+}
+
+/// What a new core answers to those.
+fn replies_to(alloc: Global, text: Vec<u8>) -> Result<Vec<Reply>, Fail> {
+    let events = events_of(alloc, text)?;
+    Ok(new_core(alloc).run(&events)?)
+}
+
+// Events in a list are answered as one by one.
+#[test]
+fn run_with_a_follower(rt: HostRuntime) -> Result<(), Fail> {
+    let again = make(rt.alloc(), None, 1)?.text;
+    let text = make(rt.alloc(), None, 1)?.text;
+    let replies = replies_to(rt.alloc(), text)?;
+    is_told(&rt, &replies, &again);
     Ok(())
 }

@@ -6,8 +6,22 @@ mod chain_tests;
 #[cfg(test)]
 mod fixture;
 #[cfg(test)]
+mod flooded;
+#[cfg(test)]
 mod follower_tests;
 #[cfg(test)]
 mod library_tests;
+#[cfg(test)]
+mod long_chain;
+#[cfg(test)]
+mod script_fault_tests;
+#[cfg(test)]
+mod script_follower_tests;
+#[cfg(test)]
+mod script_io_tests;
+#[cfg(test)]
+mod script_tests;
+#[cfg(test)]
+mod scripts;
 #[cfg(test)]
 mod text_tests;

@@ -1,4 +1,4 @@
-use Rattle.std.proofs.Common.{◌≡◌, ◌+◌, ap, ◌∙◌}
+use Rattle.std.proofs.Common.{◌+◌, ap, ◌∙◌}
 use Rattle.model.specs.Utxo.{Utxo, outputs_of, coin_of}
 use Rattle.model.proofs.Conserved.{accepted_conserves}
 use Rattle.utxo_rules.proofs.Pairs.{applied}

@@ -1,4 +1,4 @@
-use Rattle.std.proofs.Common.{◌≡◌, ℕ, Bool, true, false, not, is_some, List, map, refl, sym, ap, ◌∙◌, rules}
+use Rattle.std.proofs.Common.{ℕ, Bool, not, is_some, List, map, refl, sym, ap, ◌∙◌}
 use Rattle.std.specs.List.{list_all}
 use Rattle.model.specs.Transaction.{Input, Output, transaction_id_of}
 use Rattle.model.specs.Utxo.{output_at, pairs_from}

@@ -4,7 +4,8 @@ use Rattle.model.specs.Rules.{passes, first_failing}
 use Rattle.utxo_rules.specs.View.{params_of, reason_of}
 use Rattle.utxo_rules.specs.declared.check_fault.CheckFault.TheVariants.{Refused}
 use Rattle.utxo_rules.specs.Check.{early_reasons, IsCheckFault}
-use Rattle.utxo_rules.proofs.Ends.{if_err, told_early, accepts, refuses}
+use Rattle.utxo_rules.proofs.ForCallers.{if_err}
+use Rattle.utxo_rules.proofs.Ends.{told_early, accepts, refuses}
 use Rattle.utxo_rules.proofs.rules.check.Goals as goal
 
 pub returns-in_err-check_parts-clause-refused : goal.returns-in_err-check_parts-clause-refused

@@ -1,9 +1,8 @@
-use Rattle.std.proofs.Common.{◌≡◌, ℕ, List, true, false, map, refl, sym, ap, ◌∙◌, ◌++◌, rules}
+use Rattle.std.proofs.Common.{◌≡◌, ℕ, List, map, refl, sym, ap, ◌∙◌, ◌++◌}
 use Rattle.model.specs.Value.{Mint}
 use Rattle.model.specs.Transaction.{Transaction}
 use Rattle.model.specs.Balance.{is_balanced}
 use Rattle.model.specs.Rules.{has_free_places, keys_needed, scripts_needed}
-use Rattle.utxo_rules.specs.Check.{IsTold, first_of_witnesses}
 use Rattle.utxo_rules.proofs.Ends.{few_inputs, spent_by, few_values, not_balanced, not_free, to_witnesses}
 use Rattle.utxo_rules.proofs.rules.check_spending.Goals as goal
 

@@ -1,4 +1,4 @@
-use Rattle.std.proofs.Common.{◌≡◌, ℕ, List, true, false, map, refl, rules, ◌∙◌}
+use Rattle.std.proofs.Common.{◌≡◌, true, false, map, refl, rules, ◌∙◌}
 use Rattle.model.specs.Script.{script_hash_of}
 use Rattle.model.specs.Rules.{is_among}
 use Rattle.utxo_rules.proofs.Asks.{next_passes, next_fails, all_pass}

@@ -1,4 +1,4 @@
-use Rattle.std.proofs.Common.{◌≡◌, ℕ, ℤ, List, ◌++◌, map, sym, ap, ◌∙◌}
+use Rattle.std.proofs.Common.{ℕ, ℤ, List, ◌++◌, map, sym, ap, ◌∙◌}
 use Rattle.cbor.proofs.ForCallers.{map_twice}
 use Rattle.model.specs.Value.{Policy}
 use Rattle.value.specs.declared.assets.Policy.{Policy as CodePolicy}

@@ -1,5 +1,5 @@
 -- What is gathered and what is still to be gathered are the whole.
-use Rattle.std.specs.Prelude.{ℤ, map}
+use Rattle.std.specs.Prelude.{ℤ}
 use Rattle.value.specs.declared.assets.Policy.{Policy}
 use Rattle.utxo_rules.proofs.Gathered.{IsGathered}
 use Rattle.utxo_rules.proofs.witnesses.with_policies.Given as goal

@@ -1,4 +1,4 @@
-use Rattle.std.proofs.Common.{◌≡◌, Some, option_map, ap, ◌∙◌}
+use Rattle.std.proofs.Common.{Some, option_map, ap, ◌∙◌}
 use Rattle.std.specs.Option.{option_copied}
 use Rattle.std.specs.FinMap as finite
 use Rattle.model.specs.Transaction.{Input, input_cmp}

@@ -1,0 +1,206 @@
+//! Blocks with the verdicts on their transactions.
+
+ghost use Rattle.std.specs.Prelude.{◌≡◌, option_map, IfOk, IfErr};
+ghost use Rattle.std.specs.List.{AllByRecursion};
+ghost use Rattle.model.specs.Transaction.{IsTransaction};
+ghost use Rattle.model.specs.Block.{block_text, block_hash_of, body_size_of};
+ghost use Rattle.block.specs.Reading.{block_with};
+ghost use Rattle.block.specs.View.{bytes_of, header_of};
+ghost use Rattle.block.specs.Read.{IsRead, IsReadFault};
+
+use crate::block_ref::{BlockRef, look};
+use crate::fault::{NoBlock, ReadFault};
+use crate::header::Header;
+use ident::{BlockHash, Point};
+use std::alloc::{AllocError, Global};
+use std::fmt;
+use std::marker::Model;
+use std::sync::Arc;
+use tx::Tx;
+use witness_pool::{CheckedTx, SigScheme, plain};
+
+/// What the owners of a checked block share.
+#[derive(Drop)]
+struct CheckedInner<S: SigScheme> {
+    bytes: Vec<u8>,
+    hash: BlockHash,
+    header: Header,
+    body_size: usize,
+    transactions: Vec<CheckedTx<S>>,
+}
+
+/// A block that was read, with the verdicts on each of its transactions: whether its signatures are good, which keys
+/// signed, and whether its scripts hold. They are computed once. The owners of a block share one allocation.
+#[derive(Drop)]
+pub struct CheckedBlock<S: SigScheme> {
+    inner: Arc<CheckedInner<S>>,
+}
+
+impl<S: SigScheme> Model for CheckedBlock<S> {
+    ghost use Rattle.model.specs.Block as model;
+    ghost use Rattle.model.specs.Codes.{coded_block};
+
+    ghost Value = { model.Block };
+
+    ghost coded = { coded_block };
+
+    ghost use Rattle.block.specs.HeldChecked.{checked_block, IsHeldChecked};
+
+    ghost view = { checked_block };
+
+    ghost invariant = { IsHeldChecked };
+}
+
+impl<S: SigScheme> CheckedBlock<S> {
+    /// The text of the block (RFC 8949, section 4.2.1), at most 1,048,576 bytes. Copies nothing.
+    pub fn bytes(&self) -> &[u8]
+        ensures { IsRead self.now result.now }
+    {
+        &self.inner.bytes
+    }
+
+    /// The hash of the block: the SHA-256 digest (FIPS 180-4) of its header's text. It was computed when
+    /// the block was read.
+    pub fn hash(&self) -> BlockHash
+        ensures { result.bytes ≡ block_hash_of self.now }
+    {
+        self.inner.hash
+    }
+
+    /// The header of the block.
+    pub fn header(&self) -> &Header
+        ensures { header_of result.now ≡ self.now.header }
+    {
+        &self.inner.header
+    }
+
+    /// How many blocks the chain has up to this one, below 2^63.
+    pub fn number(&self) -> u64
+        ensures { result ≡ self.now.header.number }
+    {
+        self.inner.header.number
+    }
+
+    /// The slot of time in which the block was made, below 2^63.
+    pub fn slot(&self) -> u64
+        ensures { result ≡ self.now.header.slot }
+    {
+        self.inner.header.slot
+    }
+
+    /// The hash of the block before, None for the first block of a chain.
+    pub fn previous(&self) -> Option<BlockHash>
+        ensures { option_map bytes_of result ≡ self.now.header.previous }
+    {
+        self.inner.header.previous
+    }
+
+    /// The size of the body's text, in bytes.
+    pub fn body_size(&self) -> usize
+        ensures { result ≡ body_size_of self.now }
+    {
+        self.inner.body_size
+    }
+
+    /// The transactions of the block with their verdicts, in order. Copies nothing.
+    pub fn transactions(&self) -> &[CheckedTx<S>]
+        ensures transactions { result.now ≡ self.now.transactions }
+        // Each of them has a text.
+        ensures shapes { AllByRecursion IsTransaction self.now.transactions }
+    {
+        &self.inner.transactions
+    }
+
+    /// The place of the block on its chain: its number and its hash.
+    pub fn point(&self) -> Point
+        ensures number { result.number ≡ self.now.header.number }
+        ensures hash { result.hash.bytes ≡ block_hash_of self.now }
+    {
+        Point {
+            number: self.number(),
+            hash: self.inner.hash,
+        }
+    }
+
+    /// One more owner of the block, in constant time and with no allocation. Err where 2^63 - 1 owners
+    /// are reached.
+    pub fn try_clone(&self) -> Result<CheckedBlock<S>, AllocError>
+        ensures { IfOk result (λ b. b ≡ self.now) }
+    {
+        let inner = Arc::try_clone(&self.inner)?;
+        Ok(CheckedBlock { inner })
+    }
+
+    /// The block that the bytes spell, with the verdicts on its transactions: [`crate::read`] and then the verdicts. One
+    /// call of the scheme and one digest for each signature.
+    ///
+    /// ```text
+    /// let block = CheckedBlock::<TestScheme>::read(alloc, &bytes)?;
+    /// let good = block.transactions().iter().all(|tx| tx.is_signed());
+    /// ```
+    pub fn read(alloc: Global, bytes: &[u8]) -> Result<CheckedBlock<S>, ReadFault>
+        ensures ok { IfOk result (λ b. IsRead b bytes.now) }
+        ensures fault { IfErr result (λ e. IsReadFault bytes.now e) }
+    {
+        let found = match look(alloc, bytes) {
+            Ok(found) => found,
+            Err(NoBlock::TooLarge) => return Err(ReadFault::TooLarge),
+            Err(NoBlock::Malformed) => return Err(ReadFault::Malformed),
+            Err(NoBlock::BodyHashMismatch) => return Err(ReadFault::BodyHashMismatch),
+            Err(NoBlock::OutOfMemory) => return Err(ReadFault::OutOfMemory),
+        };
+        match found.into_checked_block(alloc) {
+            Ok(block) => Ok(block),
+            Err(AllocError) => Err(ReadFault::OutOfMemory),
+        }
+    }
+}
+
+impl<S: SigScheme> fmt::Debug for CheckedBlock<S> {
+    fn fmt<W: fmt::Write>(&self, f: &mut fmt::Formatter<W>) -> fmt::Result {
+        let header = self.header();
+        write!(f, "CheckedBlock({header:?})")
+    }
+}
+
+/// The transactions with their verdicts, in order.
+fn check_all<S: SigScheme>(
+    alloc: Global,
+    transactions: Vec<Tx>,
+) -> Result<Vec<CheckedTx<S>>, AllocError>
+    ensures { IfOk result (λ checked. checked.items ≡ transactions.items) }
+{
+    let mut checked = Vec::with_capacity(alloc, transactions.len())?;
+    for tx in transactions {
+        checked.push(plain::<S>(alloc, tx)?)?;
+    }
+    Ok(checked)
+}
+
+impl<S: SigScheme> CheckedBlock<S> {
+    /// A block of its own with these parts, and with a copy of the bytes.
+    pub(crate) fn of_parts(
+        alloc: Global,
+        bytes: &[u8],
+        hash: BlockHash,
+        header: Header,
+        body_size: usize,
+        transactions: Vec<Tx>,
+    ) -> Result<CheckedBlock<S>, AllocError>
+        requires read { IsRead (block_with (header_of header, transactions.items)) bytes.now }
+        requires hash { hash.bytes ≡ block_hash_of (block_with (header_of header, transactions.items)) }
+        requires body_size { body_size ≡ body_size_of (block_with (header_of header, transactions.items)) }
+        ensures { IfOk result (λ b. b ≡ block_with (header_of header, transactions.items)) }
+    {
+        let inner = CheckedInner {
+            bytes: Vec::from_slice(alloc, bytes)?,
+            hash,
+            header,
+            body_size,
+            transactions: check_all::<S>(alloc, transactions)?,
+        };
+        Ok(CheckedBlock {
+            inner: Arc::new(alloc, inner)?,
+        })
+    }
+}

@@ -1,0 +1,36 @@
+-- How blocks and their transactions are judged.
+use Rattle.std.specs.Prelude.{◌≡◌, ℕ, ◌<◌, ◌≤◌, Option, Some}
+use Rattle.model.specs.Signature.{Verifies}
+use Rattle.model.specs.Rules.{Reason}
+use Rattle.model.specs.Block.{Block, body_size_of}
+use Rattle.model.specs.Chain.{Follows}
+use Rattle.model.specs.Applying.{LedgerState, BlockFault, fault_number, HasFault, IsFirstFault}
+use Rattle.utxo_rules.specs.View.{reason_of}
+use Rattle.ledger.specs.View.{fault_of}
+use Rattle.ledger.specs.declared.block_fault.ApplyFault.{ApplyFault}
+use Rattle.ledger.specs.declared.block_fault.ApplyFault.TheVariants.{Refused, OutOfMemory}
+use Rattle.ledger.specs.declared.block_fault.BlockFault.TheVariants.{WrongNumber, WrongPrev, SlotNotRising, BodyTooBig, TxFault}
+
+-- the block follows the tip, and its body fits
+pub record Fits (s : LedgerState) (b : Block) : Type 0 where
+  pub follows : Follows s.tip b
+  pub size : body_size_of b ≤ s.params.max_body_size
+
+-- the two have the same parameters and the same tip
+pub record HasSameEnds (s t : LedgerState) : Type 0 where
+  pub params : t.params ≡ s.params
+  pub tip : t.tip ≡ s.tip
+
+-- why transactions are not applied: one of them, with the reason, or want of memory
+abbrev pub IsBodyFault : Option (ℕ × Reason) → ApplyFault → Type 0
+IsBodyFault first (Refused (TxFault index reason)) = first ≡ Some (index, reason_of reason)
+IsBodyFault first (Refused WrongNumber) = ⊥
+IsBodyFault first (Refused WrongPrev) = ⊥
+IsBodyFault first (Refused SlotNotRising) = ⊥
+IsBodyFault first (Refused BodyTooBig) = ⊥
+IsBodyFault first OutOfMemory = Unit {0}
+
+-- why a block is not applied: its first fault, or want of memory, which is told only where none of the faults 1 to 4 is
+abbrev pub IsApplyFault : Verifies → LedgerState → Block → ApplyFault → Type 0
+IsApplyFault verifies s b (Refused fault) = IsFirstFault verifies s b (fault_of fault)
+IsApplyFault verifies s b OutOfMemory = (fault : BlockFault) → fault_number fault < 5 → HasFault verifies s b fault → ⊥

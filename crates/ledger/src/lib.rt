@@ -1,0 +1,21 @@
+//! The ledger of a chain: what blocks make of the outputs that it opens with, one after the other.
+//!
+//! ```text
+//! let mut state = LedgerState::new(alloc, &genesis)?;
+//! for block in &blocks {
+//!     state = apply_block(&state, block)?; // or why not: WrongNumber, .., TxFault(index, reason)
+//! }
+//! println!("{} lovelace of fees after slot {}", state.fees(), state.slot());
+//! ```
+#![tactic(auto)]
+
+mod applying;
+mod block_fault;
+mod ledger_state;
+mod opening;
+mod tip;
+mod transactions;
+
+pub use applying::apply_block;
+pub use block_fault::{ApplyFault, BlockFault};
+pub use ledger_state::LedgerState;

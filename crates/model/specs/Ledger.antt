@@ -1,0 +1,75 @@
+-- The ledger of a chain: the unspent outputs and the fees that its transactions leave. Each is judged by the rules of a
+-- transaction at its block's slot, on what those before it leave (Shelley, LEDGERS; the Consensus and Storage Layer
+-- report, ledger state).
+use Rattle.std.specs.Prelude.{ℕ, suc, ◌+◌, List, [], ◌∷◌, Option, Some, None, is_some, if◌then◌else◌, option_and_then}
+use Rattle.model.specs.Transaction.{Transaction}
+use Rattle.model.specs.Signature.{Verifies}
+use Rattle.model.specs.Utxo.{Utxo, utxo_after}
+use Rattle.model.specs.Rules.{Params, Reason, reason_against}
+use Rattle.model.specs.Genesis.{Genesis, opening_utxo}
+use Rattle.model.specs.Block.{Block}
+
+-- what a network agrees on: its genesis, and which signatures are good
+pub record Network : Type 0 where
+  pub genesis : Genesis
+  pub verifies : Verifies
+
+-- the network of a genesis under a scheme of signatures
+abbrev pub network_of : Genesis → Verifies → Network
+network_of genesis verifies = record { genesis = genesis; verifies = verifies }
+
+-- the unspent outputs, and the fees so far
+pub record Ledger : Type 0 where
+  pub utxo : Utxo
+  pub fees : ℕ
+
+-- before the first block
+abbrev pub opening_ledger : Genesis → Ledger
+opening_ledger genesis = record { utxo = opening_utxo genesis; fees = 0 }
+
+-- after a transaction
+abbrev pub ledger_with : Ledger → Transaction → Ledger
+ledger_with ledger t = record { utxo = utxo_after ledger.utxo t; fees = ledger.fees + t.fee }
+
+-- ---- the transactions of a body
+
+-- one place and its reason, if there is one, and else what is told of the places after it
+abbrev pub told_first : ℕ → Option Reason → Option (ℕ × Reason) → Option (ℕ × Reason)
+told_first index (Some reason) later = Some (index, reason)
+told_first index None later = later
+
+module _ (verifies : Verifies) (params : Params) (slot : ℕ) where
+  -- the reason against a transaction
+  abbrev pub reason_in : Ledger → Transaction → Option Reason
+  reason_in ledger t = reason_against verifies params ledger.utxo slot t
+
+  -- the ledger after transactions, where there is no reason against any of them
+  abbrev pub ledger_after : Ledger → List Transaction → Option Ledger
+  ledger_after ledger [] = Some ledger
+  ledger_after ledger (t ∷ ts) =
+      if is_some (reason_in ledger t) then None else ledger_after (ledger_with ledger t) ts
+
+  -- the first transaction against which there is a reason, and the reason; they are counted from `index` on
+  abbrev pub first_refused : Ledger → (index : ℕ) → List Transaction → Option (ℕ × Reason)
+  first_refused ledger index [] = None
+  first_refused ledger index (t ∷ ts) =
+      told_first index (reason_in ledger t) (first_refused (ledger_with ledger t) (suc index) ts)
+
+-- ---- the blocks of a chain
+
+module _ (network : Network) where
+  -- after a block's transactions, each judged at the block's slot
+  abbrev pub ledger_after_block : Ledger → Block → Option Ledger
+  ledger_after_block ledger b =
+      ledger_after network.verifies network.genesis.params b.header.slot ledger b.transactions
+
+  -- after all blocks
+  abbrev pub ledger_from : Ledger → List Block → Option Ledger
+  ledger_from ledger [] = Some ledger
+  ledger_from ledger (b ∷ bs) = option_and_then (λ after. ledger_from after bs) (ledger_after_block ledger b)
+
+  -- LEDGER OF A CHAIN (Shelley, LEDGERS)
+  -- The fold over all transactions of its blocks from the genesis outputs, and none where there is a reason against one
+  -- of them.
+  abbrev pub ledger_of : List Block → Option Ledger
+  ledger_of chain = ledger_from (opening_ledger network.genesis) chain

@@ -1,0 +1,144 @@
+//! Scripts with followers.
+
+use super::script_tests::{ends, prints, run_script};
+use super::scripts;
+use scenario::{LineFault, ScenarioFault};
+use std::alloc::Global;
+use std::test::Fail;
+
+/// Scripts that run to their end, and what they print.
+const RUNS: &[(&str, &str)] = &[
+    (
+        scripts::FOLLOWER_IS_TOLD_A_BLOCK,
+        scripts::FOLLOWER_IS_TOLD_A_BLOCK_PRINTS,
+    ),
+    (
+        scripts::FOLLOWER_LEFT_BEHIND,
+        scripts::FOLLOWER_LEFT_BEHIND_PRINTS,
+    ),
+    // Each follower has a chain of its own, and a follower may be named as a block is.
+    (
+        "block A genesis 1\nblock B A 2\nopen A\narrive A\nnext A\nopen G\narrive B\nnext G\nnext A\nnext G\nnext A\n",
+        "open A: ok\narrive A: kept back 0 added 1\nnext A: add A\nopen G: ok\narrive B: kept back 0 added 1\nnext G: add A\nnext A: add B\nnext G: add B\nnext A: none\n",
+    ),
+    (
+        "open ABCDEFGHIJKLMNOP\nblock ABCDEFGHIJKLMNOP genesis 1\narrive ABCDEFGHIJKLMNOP\nnext ABCDEFGHIJKLMNOP\n",
+        "open ABCDEFGHIJKLMNOP: ok\narrive ABCDEFGHIJKLMNOP: kept back 0 added 1\nnext ABCDEFGHIJKLMNOP: add ABCDEFGHIJKLMNOP\n",
+    ),
+    // A block is told by its first name, and where only a raw line brought it by none.
+    (
+        "block A genesis 1\nblock B genesis 1\nopen F\narrive B\nnext F\n",
+        "open F: ok\narrive B: kept back 0 added 1\nnext F: add A\n",
+    ),
+    (
+        "raw Z 82840101f6582076be8b528d0075f7aae98d6fa57a6d3c83ae480a8469e668d7b0af968995ac7180\nopen F\narrive Z\nnext F\n",
+        "open F: ok\narrive Z: kept back 0 added 1\nnext F: add ?\n",
+    ),
+];
+
+#[test]
+fn scripts_of_followers(rt: HostRuntime) {
+    for (script, printed) in RUNS {
+        prints(&rt, rt.alloc(), *script, *printed);
+    }
+}
+
+/// Puts the opening of 1,024 followers behind a text, each line with this end.
+fn put_openings(alloc: Global, text: &mut Vec<u8>, end: &str) -> Result<(), Fail> {
+    for number in 0..1024u64 {
+        let line = format!(in alloc; "open F{number}{end}\n")?;
+        text.extend_from_slice(line.as_bytes())?;
+    }
+    Ok(())
+}
+
+/// The lines of 1,024 openings, with this end, and then others.
+fn openings(alloc: Global, end: &str, others: &[u8]) -> Result<Vec<u8>, Fail> {
+    let mut text = Vec::new(alloc);
+    put_openings(alloc, &mut text, end)?;
+    text.extend_from_slice(others)?;
+    Ok(text)
+}
+
+/// What comes behind them.
+const ONE_MORE: &[u8] =
+    b"open G\nopen G\nnext F1023\nblock G genesis 1\narrive G\nnext F0\nnext G\n";
+
+/// What that prints.
+const ONE_MORE_PRINTS: &[u8] =
+    b"open G: refused TooManyFollowers\nopen G: refused TooManyFollowers\nnext F1023: none\narrive G: kept back 0 added 1\nnext F0: add G\n";
+
+// There is room for 1,024 followers. One more is refused, and its name stays free.
+#[test]
+fn one_follower_too_many(rt: HostRuntime) -> Result<(), Fail> {
+    let script = openings(rt.alloc(), "", ONE_MORE)?;
+    let printed = openings(rt.alloc(), ": ok", ONE_MORE_PRINTS)?;
+    let want = Err(ScenarioFault::Line {
+        number: 1031,
+        fault: LineFault::UnknownName,
+    });
+    ends(&rt, rt.alloc(), "one more", &script, want, &printed);
+    Ok(())
+}
+
+/// How a run may end, and what was printed then.
+type End = (Result<(), ScenarioFault>, &'static [u8]);
+
+/// A name that no follower has in the fourth line.
+const UNKNOWN: ScenarioFault = ScenarioFault::Line {
+    number: 4,
+    fault: LineFault::UnknownName,
+};
+
+/// The ends that a script of one follower may have, whichever of its allocations is refused.
+const ENDS: &[End] = &[
+    (
+        Ok(()),
+        b"arrive A: kept back 0 added 1\nopen F: ok\nnext F: add A\nnext F: none\n",
+    ),
+    // In an event: it is told, the event changed nothing, and the run goes on.
+    (
+        Ok(()),
+        b"arrive A: out of memory\nopen F: ok\nnext F: none\nnext F: none\n",
+    ),
+    (
+        Err(UNKNOWN),
+        b"arrive A: kept back 0 added 1\nopen F: out of memory\n",
+    ),
+    (
+        Ok(()),
+        b"arrive A: kept back 0 added 1\nopen F: ok\nnext F: out of memory\nnext F: add A\n",
+    ),
+    // Beside the events: the run ends before one.
+    (Err(ScenarioFault::OutOfMemory), b""),
+    (
+        Err(ScenarioFault::OutOfMemory),
+        b"arrive A: kept back 0 added 1\n",
+    ),
+    (
+        Err(ScenarioFault::OutOfMemory),
+        b"arrive A: kept back 0 added 1\nopen F: ok\n",
+    ),
+    (
+        Err(ScenarioFault::OutOfMemory),
+        b"arrive A: kept back 0 added 1\nopen F: ok\nnext F: add A\n",
+    ),
+    (
+        Err(ScenarioFault::OutOfMemory),
+        b"arrive A: kept back 0 added 1\nopen F: ok\nnext F: add A\nnext F: none\n",
+    ),
+];
+
+/// Whether a run may end so, with this printed.
+fn may_end(ended: Result<(), ScenarioFault>, out: &[u8]) -> bool {
+    ENDS.iter().any(|end| end.0 == ended && end.1 == out)
+}
+
+#[test]
+fn want_of_memory_with_a_follower(rt: HostRuntime) -> Result<(), Fail> {
+    let mut out = Vec::with_capacity(rt.alloc(), 256)?;
+    let mut reader = b"block A genesis 1\narrive A\nopen F\nnext F\nnext F\n".as_slice();
+    let result = run_script(rt.alloc(), &mut reader, &mut out);
+    assert!(rt; may_end(result, &out), "{result:?}");
+    Ok(())
+}

@@ -1,0 +1,40 @@
+//! Worked texts of all that has one, and what is read of them, written, made of parts and refused: each is a test,
+//! with what is to come out written by hand or computed by another program.
+#![tactic(auto)]
+
+#[cfg(test)]
+mod blocks;
+#[cfg(test)]
+mod fixture;
+#[cfg(test)]
+mod full_blocks;
+#[cfg(test)]
+mod identifiers;
+#[cfg(test)]
+mod item_fields;
+#[cfg(test)]
+mod item_shapes;
+#[cfg(test)]
+mod item_trees;
+#[cfg(test)]
+mod items;
+#[cfg(test)]
+mod minting;
+#[cfg(test)]
+mod scripts;
+#[cfg(test)]
+mod sums;
+#[cfg(test)]
+mod transaction_bodies;
+#[cfg(test)]
+mod transaction_making;
+#[cfg(test)]
+mod transaction_parts;
+#[cfg(test)]
+mod transactions;
+#[cfg(test)]
+mod value_making;
+#[cfg(test)]
+mod values;
+#[cfg(test)]
+mod verdicts;
