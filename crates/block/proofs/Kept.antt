@@ -10,12 +10,10 @@ use Rattle.model.specs.Limits.{block_size_limit}
 use Rattle.model.specs.Block.{Header, Block, item_of_header, item_of_transactions, block_text, block_hash_of, body_hash_of, body_size_of}
 use Rattle.model.proofs.BlockTexts.{one_block, block_text_is}
 use Rattle.cbor.proofs.ForCallers.{IsBytes}
-use Rattle.block.specs.declared.block.Block.TheInside.{Inside}
 use Rattle.block.specs.View.{header_of}
 use Rattle.block.specs.Reading.{block_at}
 use Rattle.block.specs.Read.{IsRead, IsMalformed, IsMismatched, IsUnread, IsReadable}
 use Rattle.block.specs.declared.block_ref.BlockRef.TheInside as ref
-use Rattle.block.specs.Held.{block_of, IsHeld}
 use Rattle.block.specs.HeldRef.{borrowed_block, IsHeldRef}
 use Rattle.block.proofs.Blocks.{block_takes, block_again, no_block}
 
@@ -58,8 +56,8 @@ unfolding block_hash_of body_size_of
 is_held b header_text body_text read hash size header_spelled body_spelled = record { read = read; hash = hash ∙ ap sha256 header_spelled; body_size = size ∙ ap length body_spelled }
 
 -- so what was read is the block that its text spells
-pub read_text : (b : Inside) → IsHeld b → IsRead (block_of b) (block_text (block_of b))
-read_text b held = subst (IsRead (block_of b)) (sym (block_text_is (block_of b) b.inner.value.bytes.items held.read.read)) held.read
+pub read_text : (b : Block) (bytes : List ℕ) → IsRead b bytes → IsRead b (block_text b)
+read_text b bytes read = subst (IsRead b) (sym (block_text_is b bytes read.read)) read
 
 -- ---- the size of an empty body
 

@@ -67,7 +67,7 @@ impl<'a> BlockRef<'a> {
     }
 
     /// Whether the block has the same text as another.
-    pub fn has_text_of(&self, other: &Block) -> bool
+    pub fn has_text_of<S: SigScheme>(&self, other: &CheckedBlock<S>) -> bool
         ensures { IsTrue result ↔ (block_text other.now ≡ block_text self.now) }
     {
         same_bytes(other.bytes(), self.bytes)

@@ -1,6 +1,6 @@
 //! Blocks with the verdicts on their transactions.
 
-ghost use Rattle.std.specs.Prelude.{◌≡◌, option_map, IfOk, IfErr};
+ghost use Rattle.std.specs.Prelude.{◌≡◌, ◌↔◌, IsTrue, option_map, IfOk, IfErr};
 ghost use Rattle.std.specs.List.{AllByRecursion};
 ghost use Rattle.model.specs.Transaction.{IsTransaction};
 ghost use Rattle.model.specs.Block.{block_text, block_hash_of, body_size_of};
@@ -125,14 +125,16 @@ impl<S: SigScheme> CheckedBlock<S> {
     /// One more owner of the block, in constant time and with no allocation. Err where 2^63 - 1 owners
     /// are reached.
     pub fn try_clone(&self) -> Result<CheckedBlock<S>, AllocError>
-        ensures { IfOk result (λ b. b ≡ self.now) }
+        ensures same { IfOk result (λ b. b ≡ self.now) }
+        // What is shared is what was read.
+        ensures read { IsRead self.now (block_text self.now) }
     {
         let inner = Arc::try_clone(&self.inner)?;
         Ok(CheckedBlock { inner })
     }
 
-    /// The block that the bytes spell, with the verdicts on its transactions: [`crate::read`] and then the verdicts. One
-    /// call of the scheme and one digest for each signature.
+    /// The block that the bytes spell, with the verdicts on its transactions: [`crate::read`] and then the verdicts.
+    /// One call of the scheme and one digest for each signature.
     ///
     /// ```text
     /// let block = CheckedBlock::<TestScheme>::read(alloc, &bytes)?;
@@ -153,6 +155,23 @@ impl<S: SigScheme> CheckedBlock<S> {
             Ok(block) => Ok(block),
             Err(AllocError) => Err(ReadFault::OutOfMemory),
         }
+    }
+}
+
+impl<S: SigScheme> PartialEq for CheckedBlock<S> {
+    ghost use Rattle.std.specs.Prelude.{bytes_eq};
+    ghost use Rattle.block.specs.Same.{same_texts_laws};
+
+    ghost eq = { λ a b. bytes_eq (block_text a) (block_text b) };
+
+    ghost laws = { same_texts_laws };
+
+    /// Whether the two are the same block, which is so just where their texts are the same. Linear in the bytes.
+    fn eq(&self, other: &CheckedBlock<S>) -> bool
+        ensures exact { result ≡ bytes_eq (block_text self.now) (block_text other.now) }
+        ensures same { IsTrue result ↔ (self.now ≡ other.now) }
+    {
+        self.bytes() == other.bytes()
     }
 }
 

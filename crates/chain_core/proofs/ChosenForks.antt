@@ -8,57 +8,70 @@ use Rattle.std.specs.Cmp.Lexicographic.{slice_cmp}
 use Rattle.std.proofs.lemmas.Bool.{cases_lt}
 use Rattle.std.proofs.lemmas.List.{length-append, length-drop, take-append-drop, append_cancel_left, append_assoc, drop_at}
 use Rattle.model.specs.Block.{Block, block_hash_of}
-use Rattle.model.specs.Chain.{Genesis, Tip, genesis_tip, tip_hash, IsValidChain, IsCandidate, IsSelection, Stays, Changes, immutable_length, immutable_part, live_blocks}
+use Rattle.model.specs.Genesis.{Genesis}
+use Rattle.model.specs.Chain.{Tip, genesis_tip, tip_hash, IsCandidate, IsSelection, Stays, Changes, immutable_length, immutable_part, live_blocks}
 use Rattle.model.specs.History.{IsCommonLength, IsChange}
 use Rattle.model.proofs.Lists.{all_of_member}
 use Rattle.model.proofs.Chains.{length_immutable, tip_after-append, begins_with_itself, one_with_hash}
 use Rattle.model.proofs.Selections.{live_rest}
+use Rattle.model.specs.Ledger.{Network}
+use Rattle.model.specs.Applying.{LedgerState, IsStateOf}
 use Rattle.chain_core.specs.Held.{IsSound}
-use Rattle.chain_core.specs.Forks.{IsFork, AreLongest, IsLeast, IsChosenFork, immutable_tip}
-use Rattle.chain_core.proofs.Candidates.{candidate_splits, candidate_of_fork}
+use Rattle.chain_core.specs.Forks.{Fork, IsFork, AreLongest, IsLeast, IsChosenFork}
+use Rattle.chain_core.proofs.Candidates.{candidate_front, candidate_goes_on, candidate_of_fork}
 
 -- ---- the selection
 
-candidate_length : (genesis : Genesis) (kept chain c : List Block) (n : ℕ) (forks : List (List Block)) → AreLongest genesis kept (immutable_tip genesis chain) n forks
-    → IsCandidate genesis kept chain c → length c ≤ immutable_length genesis chain + n
-candidate_length genesis kept chain c n forks longest candidate =
-    let splits = candidate_splits genesis kept chain c candidate in
-    let rest = drop (immutable_length genesis chain) c in
-    omega (arith, longest.none_longer rest splits.1, ap length splits.0, length-append (immutable_part genesis chain) rest, length_immutable genesis chain)
+module _ (network : Network) (kept chain : List Block) (from : LedgerState) (at_immutable : IsStateOf network (immutable_part network.genesis chain) from) where
+  abbrev imm : List Block
+  imm = immutable_part network.genesis chain
 
--- where the longest forks are not longer than the chain, it stays
-pub chain_stays : (genesis : Genesis) (kept chain : List Block) (n : ℕ) (forks : List (List Block)) → AreLongest genesis kept (immutable_tip genesis chain) n forks
-    → immutable_length genesis chain + n ≤ length chain → IsSelection genesis kept chain chain
-chain_stays genesis kept chain n forks longest not_longer = Stays (λ c candidate. let le = candidate_length genesis kept chain c n forks longest candidate in omega arith)
+  abbrev m : ℕ
+  m = immutable_length network.genesis chain
 
--- the end of a chain is the end of the blocks put on
-tip_hash_behind : (front fork : List Block) → 0 < length fork → tip_hash (front ++ fork) ≡ tip_hash fork
-tip_hash_behind front [] some = absurd (omega arith)
-tip_hash_behind front (x ∷ xs) some = ap (λ (t : Tip). unwrap_or t.hash []) (tip_after-append genesis_tip front (x ∷ xs))
+  candidate_length : (c : List Block) (n : ℕ) (forks : List Fork) → AreLongest network.verifies kept from n forks → IsCandidate network kept chain c → length c ≤ m + n
+  candidate_length c n forks longest candidate =
+      let front = candidate_front network kept chain c candidate in
+      let on = candidate_goes_on network kept chain c from at_immutable candidate in
+      let short = longest.none_longer on.fork on.is_fork in
+      let blocks = ap length on.blocks_are in
+      omega (arith, short, blocks, ap length front, length-append imm (drop m c), length_immutable network.genesis chain)
 
--- else it becomes the immutable part with the fork of the least hash behind it
-pub chain_changes : (genesis : Genesis) (kept chain : List Block) (n : ℕ) (forks : List (List Block)) (fork : List Block) → IsValidChain genesis chain → AllByRecursion (Contains kept) chain
-    → AreLongest genesis kept (immutable_tip genesis chain) n forks → Contains forks fork → IsLeast forks fork → length chain < immutable_length genesis chain + n
-    → IsSelection genesis kept chain (immutable_part genesis chain ++ fork)
-chain_changes genesis kept chain n forks fork valid members longest chosen least longer =
-    let imm = immutable_part genesis chain in
-    let m = immutable_length genesis chain in
-    let is = all_of_member (λ f. IsFork genesis kept (immutable_tip genesis chain) f × (length f ≡ n)) forks fork longest.all.sound chosen in
-    let long : length (imm ++ fork) ≡ m + n = omega (arith, length-append imm fork, length_immutable genesis chain, is.1) in
-    Changes (imm ++ fork) (record {
-      candidate = candidate_of_fork genesis kept chain fork valid members is.0;
-      longer = omega arith;
-      longest = λ c candidate. let le = candidate_length genesis kept chain c n forks longest candidate in omega arith;
-      least = λ c candidate same.
-          let splits = candidate_splits genesis kept chain c candidate in
-          let rest = drop m c in
-          let rest_long : length rest ≡ n = omega (arith, length-drop m c) in
-          let not_greater = all_of_member (λ other. slice_cmp nat_cmp (tip_hash fork) (tip_hash other) ≢ Greater) forks rest least (longest.all.complete rest splits.1 rest_long) in
-          let chosen_end : tip_hash (imm ++ fork) ≡ tip_hash fork = tip_hash_behind imm fork (omega (arith, is.1)) in
-          let other_end : tip_hash c ≡ tip_hash rest = ap tip_hash splits.0 ∙ tip_hash_behind imm rest (omega arith) in
-          subst (λ (h : List ℕ). slice_cmp nat_cmp h (tip_hash c) ≢ Greater) (sym chosen_end)
-          (subst (λ (h : List ℕ). slice_cmp nat_cmp (tip_hash fork) h ≢ Greater) (sym other_end) not_greater);
-    })
+  -- where the longest forks are not longer than the chain, it stays
+  pub chain_stays : (n : ℕ) (forks : List Fork) → AreLongest network.verifies kept from n forks → m + n ≤ length chain → IsSelection network kept chain chain
+  chain_stays n forks longest not_longer = Stays (λ c candidate. let le = candidate_length c n forks longest candidate in omega (arith, le, not_longer))
+
+  -- the end of a chain is the end of the blocks put on
+  tip_hash_after : (front blocks : List Block) → 0 < length blocks → tip_hash (front ++ blocks) ≡ tip_hash blocks
+  tip_hash_after front [] some = absurd (omega arith)
+  tip_hash_after front (x ∷ xs) some = ap (λ (t : Tip). unwrap_or t.hash []) (tip_after-append genesis_tip front (x ∷ xs))
+
+  -- else it becomes the immutable part with the fork of the least hash after it
+  pub chain_changes : (n : ℕ) (forks : List Fork) (fork : Fork) → AllByRecursion (Contains kept) chain
+      → AreLongest network.verifies kept from n forks → Contains forks fork → IsLeast forks fork → length chain < m + n
+      → IsSelection network kept chain (imm ++ fork.blocks)
+  chain_changes n forks fork members longest chosen least longer =
+      let is = all_of_member (λ (f : Fork). IsFork network.verifies kept from f × (length f.blocks ≡ n)) forks fork longest.all.sound chosen in
+      let at_most : m ≤ length chain = omega arith in
+      let long : length (imm ++ fork.blocks) ≡ m + n = omega (arith, length-append imm fork.blocks, length_immutable network.genesis chain, is.1) in
+      Changes (imm ++ fork.blocks) (record {
+        candidate = candidate_of_fork network kept chain from fork at_immutable members is.0;
+        longer = omega (arith, long, longer);
+        longest = λ c candidate. let le = candidate_length c n forks longest candidate in omega (arith, le, long);
+        least = λ c candidate same.
+            let front = candidate_front network kept chain c candidate in
+            let on = candidate_goes_on network kept chain c from at_immutable candidate in
+            let rest = drop m c in
+            let rest_long : length rest ≡ n = omega (arith, length-drop m c, same, long) in
+            let fork_long : length on.fork.blocks ≡ n = ap length on.blocks_are ∙ rest_long in
+            let not_greater = all_of_member (λ (other : Fork). slice_cmp nat_cmp (tip_hash fork.blocks) (tip_hash other.blocks) ≢ Greater) forks on.fork least (longest.all.complete on.fork on.is_fork fork_long) in
+            let not_greater_rest : slice_cmp nat_cmp (tip_hash fork.blocks) (tip_hash rest) ≢ Greater =
+            subst (λ (bs : List Block). slice_cmp nat_cmp (tip_hash fork.blocks) (tip_hash bs) ≢ Greater) on.blocks_are not_greater in
+            let chosen_end : tip_hash (imm ++ fork.blocks) ≡ tip_hash fork.blocks = tip_hash_after imm fork.blocks (omega (arith, is.1, longer, at_most)) in
+            let other_end : tip_hash c ≡ tip_hash rest = ap tip_hash front ∙ tip_hash_after imm rest (omega (arith, rest_long, longer, at_most)) in
+            subst (λ (h : List ℕ). slice_cmp nat_cmp h (tip_hash c) ≢ Greater) (sym chosen_end)
+            (subst (λ (h : List ℕ). slice_cmp nat_cmp (tip_hash fork.blocks) h ≢ Greater) (sym other_end) not_greater_rest);
+      })
 
 -- ---- the change
 
@@ -124,30 +137,32 @@ chain_rebuilt genesis chain fork n common =
 -- ---- live blocks
 
 -- the blocks of a sound chain past the immutable part are live
-pub chain_is_live : (genesis : Genesis) (kept chain : List Block) → IsSound genesis kept chain → AllByRecursion (Contains (live_blocks genesis kept chain)) (drop (immutable_length genesis chain) chain)
-chain_is_live genesis kept chain sound =
-    live_rest genesis kept chain chain (record { valid = sound.valid; members = sound.members; begins = begins_with_itself genesis chain }) (omega arith)
+pub chain_is_live : (network : Network) (kept chain : List Block) → IsSound network kept chain → AllByRecursion (Contains (live_blocks network.genesis kept chain)) (drop (immutable_length network.genesis chain) chain)
+chain_is_live network kept chain sound =
+    live_rest network kept chain chain (record { valid = sound.valid; members = sound.members; begins = begins_with_itself network.genesis chain }) (omega arith)
 
 -- so are those of a fork that makes a candidate
-fork_is_live : (genesis : Genesis) (kept chain fork : List Block) → IsCandidate genesis kept chain (immutable_part genesis chain ++ fork) → AllByRecursion (Contains (live_blocks genesis kept chain)) fork
-fork_is_live genesis kept chain fork candidate =
+fork_is_live : (network : Network) (kept chain blocks : List Block) → IsCandidate network kept chain (immutable_part network.genesis chain ++ blocks) → AllByRecursion (Contains (live_blocks network.genesis kept chain)) blocks
+fork_is_live network kept chain blocks candidate =
+    let genesis = network.genesis in
     let imm = immutable_part genesis chain in
-    let rest : drop (immutable_length genesis chain) (imm ++ fork) ≡ fork = drop_at imm fork (immutable_length genesis chain) (length_immutable genesis chain) in
+    let rest : drop (immutable_length genesis chain) (imm ++ blocks) ≡ blocks = drop_at imm blocks (immutable_length genesis chain) (length_immutable genesis chain) in
     subst (AllByRecursion (Contains (live_blocks genesis kept chain))) rest
-    (live_rest genesis kept chain (imm ++ fork) candidate (omega (arith, length-append imm fork, length_immutable genesis chain)))
+    (live_rest network kept chain (imm ++ blocks) candidate (omega (arith, length-append imm blocks, length_immutable genesis chain)))
 
--- the least of the longest forks, where these are longer than what the chain has behind its immutable part
-pub fork_is_chosen : (genesis : Genesis) (kept chain : List Block) (n : ℕ) (forks : List (List Block)) (fork : List Block) → IsSound genesis kept chain
-    → AreLongest genesis kept (immutable_tip genesis chain) n forks → Contains forks fork → IsLeast forks fork → length chain - immutable_length genesis chain < n → IsChosenFork genesis kept chain fork
-fork_is_chosen genesis kept chain n forks fork sound longest chosen least longer =
-    let is = all_of_member (λ f. IsFork genesis kept (immutable_tip genesis chain) f × (length f ≡ n)) forks fork longest.all.sound chosen in
+-- the least of the longest forks, where these are longer than what the chain has after its immutable part
+pub fork_is_chosen : (network : Network) (kept chain : List Block) (from : LedgerState) (n : ℕ) (forks : List Fork) (fork : Fork) → IsStateOf network (immutable_part network.genesis chain) from → AllByRecursion (Contains kept) chain
+    → AreLongest network.verifies kept from n forks → Contains forks fork → IsLeast forks fork → length chain - immutable_length network.genesis chain < n → IsChosenFork network kept chain from fork
+fork_is_chosen network kept chain from n forks fork at_immutable members longest chosen least longer =
+    let is = all_of_member (λ (f : Fork). IsFork network.verifies kept from f × (length f.blocks ≡ n)) forks fork longest.all.sound chosen in
     record {
-      selection = chain_changes genesis kept chain n forks fork sound.valid sound.members longest chosen least (omega arith);
-      live = fork_is_live genesis kept chain fork (candidate_of_fork genesis kept chain fork sound.valid sound.members is.0);
+      selection = chain_changes network kept chain from at_immutable n forks fork members longest chosen least (omega arith);
+      states = is.0.states;
+      live = fork_is_live network kept chain fork.blocks (candidate_of_fork network kept chain from fork at_immutable members is.0);
     }
 
 -- live blocks with one hash are one
-pub live_apart : (genesis : Genesis) (kept chain xs ys : List Block) → IsSound genesis kept chain → AllByRecursion (Contains (live_blocks genesis kept chain)) xs → AllByRecursion (Contains (live_blocks genesis kept chain)) ys
+pub live_apart : (network : Network) (kept chain xs ys : List Block) → IsSound network kept chain → AllByRecursion (Contains (live_blocks network.genesis kept chain)) xs → AllByRecursion (Contains (live_blocks network.genesis kept chain)) ys
     → (b c : Block) → Contains xs b → Contains ys c → block_hash_of b ≡ block_hash_of c → b ≡ c
-live_apart genesis kept chain xs ys sound live live_too b c in_xs in_ys same =
-    one_with_hash (live_blocks genesis kept chain) b c sound.distinct (all_of_member (Contains (live_blocks genesis kept chain)) xs b live in_xs) (all_of_member (Contains (live_blocks genesis kept chain)) ys c live_too in_ys) same
+live_apart network kept chain xs ys sound live live_too b c in_xs in_ys same =
+    one_with_hash (live_blocks network.genesis kept chain) b c sound.distinct (all_of_member (Contains (live_blocks network.genesis kept chain)) xs b live in_xs) (all_of_member (Contains (live_blocks network.genesis kept chain)) ys c live_too in_ys) same

@@ -4,149 +4,177 @@ use Rattle.std.specs.List.{AllByRecursion}
 use Rattle.std.proofs.lemmas.List.{length_push, take_more, length-take}
 use Rattle.std.proofs.lemmas.Bool.{cases_lt}
 use Rattle.std.proofs.lemmas.List.Elements.{Contains-append_left, Contains-append_right, Contains-push, Contains-push_cases}
+use Rattle.model.specs.Signature.{Verifies}
 use Rattle.model.specs.Block.{Block}
-use Rattle.model.specs.Chain.{Genesis, Tip, tip_at, tip_after}
-use Rattle.model.proofs.Lists.{all_of_member, all_weaker, all_push, all_append, contains_first, nothing_contained}
-use Rattle.chain_core.specs.Forks.{GoesOn, IsFork, AreForks, IsOneLonger, AreOneLonger, AreGrown, AreLongest}
+use Rattle.model.specs.Chain.{Tip}
+use Rattle.model.specs.Applying.{LedgerState, IsApplied, AreStates}
+use Rattle.model.proofs.Lists.{all_of_member, all_weaker, all_push, all_append, all_take, contains_first, nothing_contained}
+use Rattle.model.proofs.AppliedBlocks.{one_after}
+use Rattle.model.proofs.StatesAlong.{states_push, states_take}
+use Rattle.chain_core.specs.Forks.{Fork, with_block, fork_end, IsFork, AreForks, IsOneLonger, AreOneLonger, AreGrown, AreLongest}
 
 -- ---- one fork
 
-pub fork_push : (genesis : Genesis) (kept : List Block) (tip : Tip) (fork : List Block) (b : Block) → IsFork genesis kept tip fork → GoesOn genesis (tip_after tip fork) b → Contains kept b → IsFork genesis kept tip (fork ++ b ∷ [])
-fork_push genesis kept tip [] b is goes_on member = (goes_on, member, tt)
-fork_push genesis kept tip (x ∷ xs) b is goes_on member = (is.0, is.1, fork_push genesis kept (tip_at x) xs b is.2 goes_on member)
+pub fork_push : (verifies : Verifies) (kept : List Block) (from : LedgerState) (fork : Fork) (b : Block) (after : LedgerState) → IsFork verifies kept from fork → IsApplied verifies (fork_end from fork) b after → Contains kept b
+    → IsFork verifies kept from (with_block fork b after)
+fork_push verifies kept from fork b after is applied member = record {
+  states = states_push verifies from fork.blocks fork.states b after is.states applied;
+  members = all_push (Contains kept) fork.blocks b is.members member;
+}
 
-pub fork_take : (genesis : Genesis) (kept : List Block) (tip : Tip) (n : ℕ) (fork : List Block) → IsFork genesis kept tip fork → IsFork genesis kept tip (take n fork)
-fork_take genesis kept tip zero fork is = tt
-fork_take genesis kept tip (suc n) [] is = tt
-fork_take genesis kept tip (suc n) (x ∷ xs) is = (is.0, is.1, fork_take genesis kept (tip_at x) n xs is.2)
+abbrev fork_front : ℕ → Fork → Fork
+fork_front n fork = record { blocks = take n fork.blocks; states = take n fork.states }
 
--- a fork that is not empty is one with a block behind it
-pub record Ends (genesis : Genesis) (kept : List Block) (tip : Tip) (n : ℕ) (fork : List Block) : Type 0 where
-  pub front : List Block
-  pub front_is_fork : IsFork genesis kept tip front
-  pub front_length : length front ≡ n
+pub fork_take : (verifies : Verifies) (kept : List Block) (from : LedgerState) (n : ℕ) (fork : Fork) → IsFork verifies kept from fork → IsFork verifies kept from (fork_front n fork)
+fork_take verifies kept from n fork is = record { states = states_take verifies n from fork.blocks fork.states is.states; members = all_take (Contains kept) n fork.blocks is.members }
+
+-- a fork that is not empty is one with a block after it
+pub record Ends (verifies : Verifies) (kept : List Block) (from : LedgerState) (n : ℕ) (fork : Fork) : Type 0 where
+  pub front : Fork
+  pub front_is_fork : IsFork verifies kept from front
+  pub front_length : length front.blocks ≡ n
   pub last : Block
-  pub goes_on : GoesOn genesis (tip_after tip front) last
+  pub after : LedgerState
+  pub applied : IsApplied verifies (fork_end from front) last after
   pub member : Contains kept last
-  pub is : fork ≡ front ++ last ∷ []
+  pub is : fork ≡ with_block front last after
 
-pub fork_ends : (genesis : Genesis) (kept : List Block) (tip : Tip) (n : ℕ) (fork : List Block) → IsFork genesis kept tip fork → length fork ≡ n + 1 → Ends genesis kept tip n fork
-fork_ends genesis kept tip n [] is long = absurd (omega arith)
-fork_ends genesis kept tip zero (x ∷ []) is long = record { front = []; front_is_fork = tt; front_length = refl; last = x; goes_on = is.0; member = is.1; is = refl }
-fork_ends genesis kept tip (suc n) (x ∷ []) is long = absurd (omega arith)
-fork_ends genesis kept tip zero (x ∷ y ∷ ys) is long = absurd (omega arith)
-fork_ends genesis kept tip (suc n) (x ∷ y ∷ ys) is long =
-    let rest = fork_ends genesis kept (tip_at x) n (y ∷ ys) is.2 (omega arith) in
+pub fork_ends : (verifies : Verifies) (kept : List Block) (from : LedgerState) (n : ℕ) (bs : List Block) (ts : List LedgerState) → AreStates verifies from bs ts → AllByRecursion (Contains kept) bs → length bs ≡ n + 1
+    → Ends verifies kept from n (record { blocks = bs; states = ts })
+fork_ends verifies kept from n [] ts are members long = absurd (omega arith)
+fork_ends verifies kept from n (x ∷ xs) [] are members long = elim are [ ]
+fork_ends verifies kept from zero (x ∷ []) (t ∷ []) are members long =
+    record { front = record { blocks = []; states = [] }; front_is_fork = record { states = tt; members = tt }; front_length = refl; last = x; after = t; applied = are.0; member = members.0; is = refl }
+fork_ends verifies kept from n (x ∷ []) (t ∷ u ∷ us) are members long = elim are.1 [ ]
+fork_ends verifies kept from (suc n) (x ∷ []) (t ∷ []) are members long = absurd (omega arith)
+fork_ends verifies kept from zero (x ∷ y ∷ ys) ts are members long = absurd (omega arith)
+fork_ends verifies kept from (suc n) (x ∷ y ∷ ys) (t ∷ ts) are members long =
+    let rest = fork_ends verifies kept t n (y ∷ ys) ts are.1 members.1 (omega arith) in
     record {
-      front = x ∷ rest.front;
-      front_is_fork = (is.0, is.1, rest.front_is_fork);
+      front = record { blocks = x ∷ rest.front.blocks; states = t ∷ rest.front.states };
+      front_is_fork = record { states = (are.0, rest.front_is_fork.states); members = (members.0, rest.front_is_fork.members) };
       front_length = let e = rest.front_length in omega arith;
       last = rest.last;
-      goes_on = rest.goes_on;
+      after = rest.after;
+      applied = rest.applied;
       member = rest.member;
-      is = ap (λ (bs : List Block). x ∷ bs) rest.is;
+      is = ap (λ (f : Fork). record { blocks = x ∷ f.blocks; states = t ∷ f.states }) rest.is;
     }
 
 -- a fork of n blocks ends in number n past the tip
-pub fork_within : (genesis : Genesis) (kept : List Block) (tip : Tip) (greatest : ℕ) (fork : List Block) → AllByRecursion (λ b. b.header.number ≤ greatest) kept
-    → IsFork genesis kept tip fork → 0 < length fork → tip.number + length fork ≤ greatest
-fork_within genesis kept tip greatest [] within is some = absurd (omega arith)
-fork_within genesis kept tip greatest (x ∷ []) within is some =
-    let number = is.0.follows.number in let le = all_of_member (λ b. b.header.number ≤ greatest) kept x within is.1 in omega arith
-fork_within genesis kept tip greatest (x ∷ y ∷ ys) within is some =
-    let number = is.0.follows.number in let rest = fork_within genesis kept (tip_at x) greatest (y ∷ ys) within is.2 (omega arith) in omega arith
+pub fork_within : (verifies : Verifies) (kept : List Block) (from : LedgerState) (greatest : ℕ) (bs : List Block) (ts : List LedgerState) → AllByRecursion (λ b. b.header.number ≤ greatest) kept
+    → AreStates verifies from bs ts → AllByRecursion (Contains kept) bs → 0 < length bs → from.tip.number + length bs ≤ greatest
+fork_within verifies kept from greatest [] ts within are members some = absurd (omega arith)
+fork_within verifies kept from greatest (x ∷ xs) [] within are members some = elim are [ ]
+fork_within verifies kept from greatest (x ∷ []) (t ∷ ts) within are members some =
+    let number = are.0.follows.number in let le = all_of_member (λ b. b.header.number ≤ greatest) kept x within members.0 in omega arith
+fork_within verifies kept from greatest (x ∷ y ∷ ys) (t ∷ ts) within are members some =
+    let number = are.0.follows.number in
+    let here : t.tip.number ≡ x.header.number = ap (λ (u : Tip). u.number) are.0.tip in
+    let rest = fork_within verifies kept t greatest (y ∷ ys) ts within are.1 members.1 (omega arith) in
+    omega (arith, number, here, rest)
 
 -- ---- all forks
 
-pub no_blocks : (genesis : Genesis) (kept : List Block) (tip : Tip) → AreForks genesis kept tip 0 ([] ∷ [])
-no_blocks genesis kept tip = record { sound = ((tt, refl), tt); complete = only }
-  where
-    only : (fork : List Block) → IsFork genesis kept tip fork → length fork ≡ 0 → Contains ([] ∷ []) fork
-    only [] is empty = contains_first [] []
-    only (x ∷ xs) is empty = absurd (omega arith)
+-- there is one fork without a block
+abbrev pub no_fork : Fork
+no_fork = record { blocks = []; states = [] }
 
-pub all_grown : (genesis : Genesis) (kept : List Block) (tip : Tip) (n : ℕ) (forks longer : List (List Block)) → AreForks genesis kept tip n forks → AreGrown genesis kept tip forks longer → AreForks genesis kept tip (n + 1) longer
-all_grown genesis kept tip n forks longer all grown = record {
-  sound = all_weaker (λ new. (fork : List Block) × Contains forks fork × IsOneLonger genesis kept tip fork new) (λ fork. IsFork genesis kept tip fork × (length fork ≡ n + 1)) longer
-      (λ new from.
-      let old = all_of_member (λ fork. IsFork genesis kept tip fork × (length fork ≡ n)) forks from.0 all.sound from.1 in
-      let one = from.2 in (
-        subst (IsFork genesis kept tip) (sym one.is) (fork_push genesis kept tip from.0 one.block old.0 one.goes_on one.member),
-        ap length one.is ∙ (length_push from.0 one.block ∙ ap (λ m. m + 1) old.1),
+pub no_blocks : (verifies : Verifies) (kept : List Block) (from : LedgerState) → AreForks verifies kept from 0 (no_fork ∷ [])
+no_blocks verifies kept from = record { sound = ((record { states = tt; members = tt }, refl), tt); complete = λ fork is empty. only fork.blocks fork.states is.states empty }
+  where
+    only : (bs : List Block) (ts : List LedgerState) → AreStates verifies from bs ts → length bs ≡ 0 → Contains {X = Fork} (no_fork ∷ []) (record { blocks = bs; states = ts })
+    only [] [] are empty = contains_first no_fork []
+    only [] (t ∷ ts) are empty = elim are [ ]
+    only (x ∷ xs) ts are empty = absurd (omega arith)
+
+pub all_grown : (verifies : Verifies) (kept : List Block) (from : LedgerState) (n : ℕ) (forks longer : List Fork) → AreForks verifies kept from n forks → AreGrown verifies kept from forks longer → AreForks verifies kept from (n + 1) longer
+all_grown verifies kept from n forks longer all grown = record {
+  sound = all_weaker (λ new. (fork : Fork) × Contains forks fork × IsOneLonger verifies kept from fork new) (λ fork. IsFork verifies kept from fork × (length fork.blocks ≡ n + 1)) longer
+      (λ new made.
+      let old = all_of_member (λ fork. IsFork verifies kept from fork × (length fork.blocks ≡ n)) forks made.0 all.sound made.1 in
+      let one = made.2 in (
+        subst (IsFork verifies kept from) (sym one.is) (fork_push verifies kept from made.0 one.block one.after old.0 one.applied one.member),
+        ap (λ (f : Fork). length f.blocks) one.is ∙ (length_push made.0.blocks one.block ∙ ap (λ m. m + 1) old.1),
       )) grown.sound;
   complete = λ fork is long.
-      let ends = fork_ends genesis kept tip n fork is long in
-      subst (Contains longer) (sym ends.is) (grown.complete ends.front ends.last (all.complete ends.front ends.front_is_fork ends.front_length) ends.goes_on ends.member);
+      let ends = fork_ends verifies kept from n fork.blocks fork.states is.states is.members long in
+      subst (Contains longer) (sym ends.is) (grown.complete ends.front ends.last ends.after (all.complete ends.front ends.front_is_fork ends.front_length) ends.applied ends.member);
 }
 
 -- where no fork grows, none is longer
-pub none_grew : (genesis : Genesis) (kept : List Block) (tip : Tip) (n : ℕ) → AreForks genesis kept tip (n + 1) [] → (fork : List Block) → IsFork genesis kept tip fork → length fork ≤ n
-none_grew genesis kept tip n none fork is = decide (cases_lt n (length fork))
+pub none_grew : (verifies : Verifies) (kept : List Block) (from : LedgerState) (n : ℕ) → AreForks verifies kept from (n + 1) [] → (fork : Fork) → IsFork verifies kept from fork → length fork.blocks ≤ n
+none_grew verifies kept from n none fork is = decide (cases_lt n (length fork.blocks))
   where
-    decide : (n < length fork) ⊎ (length fork ≤ n) → length fork ≤ n
+    decide : (n < length fork.blocks) ⊎ (length fork.blocks ≤ n) → length fork.blocks ≤ n
     decide (inr le) = le
-    decide (inl longer) = absurd (nothing_contained (take (n + 1) fork) (none.complete (take (n + 1) fork) (fork_take genesis kept tip (n + 1) fork is) (omega (arith, length-take (n + 1) fork))))
+    decide (inl longer) =
+        absurd (nothing_contained (fork_front (n + 1) fork) (none.complete (fork_front (n + 1) fork) (fork_take verifies kept from (n + 1) fork is) (omega (arith, length-take (n + 1) fork.blocks))))
 
-pub longest_at_the_end : (genesis : Genesis) (kept : List Block) (tip : Tip) (n : ℕ) (forks : List (List Block)) → AreForks genesis kept tip n forks → forks ≢ [] → AreForks genesis kept tip (n + 1) [] → AreLongest genesis kept tip n forks
-longest_at_the_end genesis kept tip n forks all some none = record { all = all; some = some; none_longer = none_grew genesis kept tip n none }
+pub longest_at_the_end : (verifies : Verifies) (kept : List Block) (from : LedgerState) (n : ℕ) (forks : List Fork) → AreForks verifies kept from n forks → forks ≢ [] → AreForks verifies kept from (n + 1) [] → AreLongest verifies kept from n forks
+longest_at_the_end verifies kept from n forks all some none = record { all = all; some = some; none_longer = none_grew verifies kept from n none }
 
 -- forks that reach the greatest number are the longest
-pub longest_at_the_greatest : (genesis : Genesis) (kept : List Block) (tip : Tip) (n greatest : ℕ) (forks : List (List Block)) → AreForks genesis kept tip n forks → forks ≢ []
-    → AllByRecursion (λ b. b.header.number ≤ greatest) kept → greatest ≤ tip.number + n → AreLongest genesis kept tip n forks
-longest_at_the_greatest genesis kept tip n greatest forks all some within reached = record { all = all; some = some; none_longer = none }
+pub longest_at_the_greatest : (verifies : Verifies) (kept : List Block) (from : LedgerState) (n greatest : ℕ) (forks : List Fork) → AreForks verifies kept from n forks → forks ≢ []
+    → AllByRecursion (λ b. b.header.number ≤ greatest) kept → greatest ≤ from.tip.number + n → AreLongest verifies kept from n forks
+longest_at_the_greatest verifies kept from n greatest forks all some within reached = record { all = all; some = some; none_longer = λ fork is. none fork.blocks fork.states is.states is.members }
   where
-    none : (fork : List Block) → IsFork genesis kept tip fork → length fork ≤ n
-    none [] is = omega arith
-    none (x ∷ xs) is = let le = fork_within genesis kept tip greatest (x ∷ xs) within is (omega arith) in omega arith
+    none : (bs : List Block) (ts : List LedgerState) → AreStates verifies from bs ts → AllByRecursion (Contains kept) bs → length bs ≤ n
+    none [] ts are members = omega arith
+    none (x ∷ xs) ts are members = let le = fork_within verifies kept from greatest (x ∷ xs) ts within are members (omega arith) in omega arith
 
--- ---- the loops
+-- ---- one fork with each block so far
 
-pub none_one_longer : (genesis : Genesis) (tip : Tip) (fork : List Block) → AreOneLonger genesis [] tip fork []
-none_one_longer genesis tip fork = record { sound = tt; complete = λ b goes_on member. absurd (nothing_contained b member) }
+more_kept : (verifies : Verifies) (seen : List Block) (b : Block) (from : LedgerState) (fork new : Fork) → IsOneLonger verifies seen from fork new → IsOneLonger verifies (seen ++ b ∷ []) from fork new
+more_kept verifies seen b from fork new one = record { block = one.block; after = one.after; applied = one.applied; member = Contains-append_left seen (b ∷ []) one.block one.member; is = one.is }
 
-more_kept : (genesis : Genesis) (seen : List Block) (b : Block) (tip : Tip) (fork new : List Block) → IsOneLonger genesis seen tip fork new → IsOneLonger genesis (seen ++ b ∷ []) tip fork new
-more_kept genesis seen b tip fork new one = record { block = one.block; goes_on = one.goes_on; member = Contains-append_left seen (b ∷ []) one.block one.member; is = one.is }
-
--- the next block goes on, and makes one more
-pub one_longer_more : (genesis : Genesis) (seen : List Block) (b : Block) (tip : Tip) (fork : List Block) (longer : List (List Block)) → AreOneLonger genesis seen tip fork longer
-    → GoesOn genesis (tip_after tip fork) b → AreOneLonger genesis (seen ++ b ∷ []) tip fork (longer ++ (fork ++ b ∷ []) ∷ [])
-one_longer_more genesis seen b tip fork longer are goes_on = record {
-  sound = all_push (IsOneLonger genesis (seen ++ b ∷ []) tip fork) longer (fork ++ b ∷ [])
-      (all_weaker (IsOneLonger genesis seen tip fork) (IsOneLonger genesis (seen ++ b ∷ []) tip fork) longer (more_kept genesis seen b tip fork) are.sound)
-      (record { block = b; goes_on = goes_on; member = Contains-push seen b; is = refl });
-  complete = λ c c_goes_on member. elim (Contains-push_cases seen b c member) [
-    | inl before ↦ Contains-append_left longer ((fork ++ b ∷ []) ∷ []) (fork ++ c ∷ []) (are.complete c c_goes_on before)
-    | inr same ↦ subst (λ (d : Block). Contains (longer ++ (fork ++ b ∷ []) ∷ []) (fork ++ d ∷ [])) same (Contains-push longer (fork ++ b ∷ []))
+-- the next block is applied, and makes one more
+pub one_longer_more : (verifies : Verifies) (seen : List Block) (b : Block) (after : LedgerState) (from : LedgerState) (fork : Fork) (longer : List Fork) → AreOneLonger verifies seen from fork longer
+    → IsApplied verifies (fork_end from fork) b after → AreOneLonger verifies (seen ++ b ∷ []) from fork (longer ++ with_block fork b after ∷ [])
+one_longer_more verifies seen b after from fork longer are applied = record {
+  sound = all_push (IsOneLonger verifies (seen ++ b ∷ []) from fork) longer (with_block fork b after)
+      (all_weaker (IsOneLonger verifies seen from fork) (IsOneLonger verifies (seen ++ b ∷ []) from fork) longer (more_kept verifies seen b from fork) are.sound)
+      (record { block = b; after = after; applied = applied; member = Contains-push seen b; is = refl });
+  complete = λ c t c_applied member. elim (Contains-push_cases seen b c member) [
+    | inl before ↦ Contains-append_left longer (with_block fork b after ∷ []) (with_block fork c t) (are.complete c t c_applied before)
+    | inr same ↦
+        let b_applied : IsApplied verifies (fork_end from fork) b t = subst (λ (d : Block). IsApplied verifies (fork_end from fork) d t) (sym same) c_applied in
+        let states : after ≡ t = one_after verifies (fork_end from fork) b after t applied b_applied in
+        subst (Contains (longer ++ with_block fork b after ∷ [])) (λ i. with_block fork (same i) (states i)) (Contains-push longer (with_block fork b after))
   ];
 }
 
--- the next block does not go on
-pub one_longer_same : (genesis : Genesis) (seen : List Block) (b : Block) (tip : Tip) (fork : List Block) (longer : List (List Block)) → AreOneLonger genesis seen tip fork longer
-    → (GoesOn genesis (tip_after tip fork) b → ⊥) → AreOneLonger genesis (seen ++ b ∷ []) tip fork longer
-one_longer_same genesis seen b tip fork longer are not_on = record {
-  sound = all_weaker (IsOneLonger genesis seen tip fork) (IsOneLonger genesis (seen ++ b ∷ []) tip fork) longer (more_kept genesis seen b tip fork) are.sound;
-  complete = λ c c_goes_on member. elim (Contains-push_cases seen b c member) [
-    | inl before ↦ are.complete c c_goes_on before
-    | inr same ↦ absurd (not_on (subst (GoesOn genesis (tip_after tip fork)) (sym same) c_goes_on))
+-- the next block is not applied
+pub one_longer_same : (verifies : Verifies) (seen : List Block) (b : Block) (from : LedgerState) (fork : Fork) (longer : List Fork) → AreOneLonger verifies seen from fork longer
+    → ((after : LedgerState) → IsApplied verifies (fork_end from fork) b after → ⊥) → AreOneLonger verifies (seen ++ b ∷ []) from fork longer
+one_longer_same verifies seen b from fork longer are refused = record {
+  sound = all_weaker (IsOneLonger verifies seen from fork) (IsOneLonger verifies (seen ++ b ∷ []) from fork) longer (more_kept verifies seen b from fork) are.sound;
+  complete = λ c t c_applied member. elim (Contains-push_cases seen b c member) [
+    | inl before ↦ are.complete c t c_applied before
+    | inr same ↦ absurd (refused t (subst (λ (d : Block). IsApplied verifies (fork_end from fork) d t) (sym same) c_applied))
   ];
 }
 
-pub none_grown : (genesis : Genesis) (kept : List Block) (tip : Tip) → AreGrown genesis kept tip [] []
-none_grown genesis kept tip = record { sound = tt; complete = λ fork b member. absurd (nothing_contained fork member) }
+pub none_longer_yet : (verifies : Verifies) (from : LedgerState) (fork : Fork) → AreOneLonger verifies [] from fork []
+none_longer_yet verifies from fork = record { sound = tt; complete = λ b after applied member. absurd (nothing_contained b member) }
+
+pub none_grown : (verifies : Verifies) (kept : List Block) (from : LedgerState) → AreGrown verifies kept from [] []
+none_grown verifies kept from = record { sound = tt; complete = λ fork b after member. absurd (nothing_contained fork member) }
 
 -- the next fork is grown too
-pub grown_more : (genesis : Genesis) (kept : List Block) (tip : Tip) (forks : List (List Block)) (fork : List Block) (longer more : List (List Block)) → AreGrown genesis kept tip forks longer
-    → AreOneLonger genesis kept tip fork more → AreGrown genesis kept tip (forks ++ fork ∷ []) (longer ++ more)
-grown_more genesis kept tip forks fork longer more grown one = record {
-  sound = all_append (λ new. (f : List Block) × Contains (forks ++ fork ∷ []) f × IsOneLonger genesis kept tip f new) longer more
-      (all_weaker (λ new. (f : List Block) × Contains forks f × IsOneLonger genesis kept tip f new) (λ new. (f : List Block) × Contains (forks ++ fork ∷ []) f × IsOneLonger genesis kept tip f new) longer
-      (λ new from. (from.0, Contains-append_left forks (fork ∷ []) from.0 from.1, from.2)) grown.sound)
-      (all_weaker (IsOneLonger genesis kept tip fork) (λ new. (f : List Block) × Contains (forks ++ fork ∷ []) f × IsOneLonger genesis kept tip f new) more
+pub grown_more : (verifies : Verifies) (kept : List Block) (from : LedgerState) (forks : List Fork) (fork : Fork) (longer more : List Fork) → AreGrown verifies kept from forks longer
+    → AreOneLonger verifies kept from fork more → AreGrown verifies kept from (forks ++ fork ∷ []) (longer ++ more)
+grown_more verifies kept from forks fork longer more grown one = record {
+  sound = all_append (λ new. (f : Fork) × Contains (forks ++ fork ∷ []) f × IsOneLonger verifies kept from f new) longer more
+      (all_weaker (λ new. (f : Fork) × Contains forks f × IsOneLonger verifies kept from f new) (λ new. (f : Fork) × Contains (forks ++ fork ∷ []) f × IsOneLonger verifies kept from f new) longer
+      (λ new made. (made.0, Contains-append_left forks (fork ∷ []) made.0 made.1, made.2)) grown.sound)
+      (all_weaker (IsOneLonger verifies kept from fork) (λ new. (f : Fork) × Contains (forks ++ fork ∷ []) f × IsOneLonger verifies kept from f new) more
       (λ new is. (fork, Contains-push forks fork, is)) one.sound);
-  complete = λ f b member goes_on kept_b. elim (Contains-push_cases forks fork f member) [
-    | inl before ↦ Contains-append_left longer more (f ++ b ∷ []) (grown.complete f b before goes_on kept_b)
-    | inr same ↦ Contains-append_right longer more (f ++ b ∷ [])
-        (subst (λ (g : List Block). Contains more (g ++ b ∷ [])) same (one.complete b (subst (λ (g : List Block). GoesOn genesis (tip_after tip g) b) (sym same) goes_on) kept_b))
+  complete = λ f b after member applied kept_b. elim (Contains-push_cases forks fork f member) [
+    | inl before ↦ Contains-append_left longer more (with_block f b after) (grown.complete f b after before applied kept_b)
+    | inr same ↦ Contains-append_right longer more (with_block f b after)
+        (subst (λ (g : Fork). Contains more (with_block g b after)) same
+        (one.complete b after (subst (λ (g : Fork). IsApplied verifies (fork_end from g) b after) (sym same) applied) kept_b))
   ];
 }
 
@@ -155,12 +183,13 @@ grown_more genesis kept tip forks fork longer more grown one = record {
 take_at_more : (kept : List Block) (i : ℕ) (b : Block) → i < length kept → b ≡ get_or kept i b → take (i + 1) kept ≡ take i kept ++ b ∷ []
 take_at_more kept i b below is = take_more kept i b below ∙ ap (λ (c : Block). take i kept ++ c ∷ []) (sym is)
 
-pub one_longer_at : (genesis : Genesis) (kept : List Block) (i : ℕ) (b : Block) (tip : Tip) (fork : List Block) (longer : List (List Block)) → i < length kept → b ≡ get_or kept i b
-    → AreOneLonger genesis (take i kept) tip fork longer → GoesOn genesis (tip_after tip fork) b → AreOneLonger genesis (take (i + 1) kept) tip fork (longer ++ (fork ++ b ∷ []) ∷ [])
-one_longer_at genesis kept i b tip fork longer below is are goes_on =
-    subst (λ (seen : List Block). AreOneLonger genesis seen tip fork (longer ++ (fork ++ b ∷ []) ∷ [])) (sym (take_at_more kept i b below is)) (one_longer_more genesis (take i kept) b tip fork longer are goes_on)
+pub one_longer_at : (verifies : Verifies) (kept : List Block) (i : ℕ) (b : Block) (after from : LedgerState) (fork : Fork) (longer : List Fork) → i < length kept → b ≡ get_or kept i b
+    → AreOneLonger verifies (take i kept) from fork longer → IsApplied verifies (fork_end from fork) b after → AreOneLonger verifies (take (i + 1) kept) from fork (longer ++ with_block fork b after ∷ [])
+one_longer_at verifies kept i b after from fork longer below is are applied =
+    subst (λ (seen : List Block). AreOneLonger verifies seen from fork (longer ++ with_block fork b after ∷ [])) (sym (take_at_more kept i b below is))
+    (one_longer_more verifies (take i kept) b after from fork longer are applied)
 
-pub one_longer_past : (genesis : Genesis) (kept : List Block) (i : ℕ) (b : Block) (tip : Tip) (fork : List Block) (longer : List (List Block)) → i < length kept → b ≡ get_or kept i b
-    → AreOneLonger genesis (take i kept) tip fork longer → (GoesOn genesis (tip_after tip fork) b → ⊥) → AreOneLonger genesis (take (i + 1) kept) tip fork longer
-one_longer_past genesis kept i b tip fork longer below is are not_on =
-    subst (λ (seen : List Block). AreOneLonger genesis seen tip fork longer) (sym (take_at_more kept i b below is)) (one_longer_same genesis (take i kept) b tip fork longer are not_on)
+pub one_longer_past : (verifies : Verifies) (kept : List Block) (i : ℕ) (b : Block) (from : LedgerState) (fork : Fork) (longer : List Fork) → i < length kept → b ≡ get_or kept i b
+    → AreOneLonger verifies (take i kept) from fork longer → ((after : LedgerState) → IsApplied verifies (fork_end from fork) b after → ⊥) → AreOneLonger verifies (take (i + 1) kept) from fork longer
+one_longer_past verifies kept i b from fork longer below is are refused =
+    subst (λ (seen : List Block). AreOneLonger verifies seen from fork longer) (sym (take_at_more kept i b below is)) (one_longer_same verifies (take i kept) b from fork longer are refused)

@@ -5,20 +5,19 @@ use Rattle.std.specs.declared.cmp.Ordering.{Ordering}
 use Rattle.std.specs.declared.cmp.Ordering.TheVariants.{Less, Equal, Greater}
 use Rattle.std.specs.Cmp.{IsTotalOrder}
 use Rattle.std.specs.Cmp.Lexicographic.{slice_cmp, nat_list_cmp_total}
-use Rattle.std.specs.Global.{Vec}
 use Rattle.std.proofs.lemmas.List.{map-append}
 use Rattle.std.proofs.lemmas.List.Elements.{Contains-push, Contains-push_cases, Contains-append_left}
-use Rattle.model.specs.Block.{Block}
 use Rattle.model.specs.Chain.{tip_hash}
 use Rattle.model.proofs.Lists.{all_from_members, nothing_contained}
-use Rattle.chain_core.specs.Forks.{IsLeast}
-use Rattle.chain_core.specs.Forks.{forks_of}
+use Rattle.chain_core.specs.declared.fork.Fork as code
+use Rattle.chain_core.specs.Forks.{Fork, IsLeast}
+use Rattle.chain_core.specs.ForkViews.{fork_of, forks_of}
 
 -- no fork that was taken out ends in a lesser hash than the least so far
-pub record LeastSoFar (all rest : List (List Block)) (least : List Block) : Type 0 where
+pub record LeastSoFar (all rest : List Fork) (least : Fork) : Type 0 where
   pub chosen : Contains all least
-  pub within : (f : List Block) → Contains rest f → Contains all f
-  pub past : (f : List Block) → Contains all f → Contains rest f ⊎ (slice_cmp nat_cmp (tip_hash least) (tip_hash f) ≢ Greater)
+  pub within : (f : Fork) → Contains rest f → Contains all f
+  pub past : (f : Fork) → Contains all f → Contains rest f ⊎ (slice_cmp nat_cmp (tip_hash least.blocks) (tip_hash f.blocks) ≢ Greater)
 
 not_greater_than_itself : (x : List ℕ) → slice_cmp nat_cmp x x ≢ Greater
 not_greater_than_itself x = by (slice_cmp nat_cmp x x) (IsTotalOrder.antisymm nat_list_cmp_total x x)
@@ -50,49 +49,49 @@ less_still x y z less not_greater = by (slice_cmp nat_cmp y z) refl
     by Greater is = absurd (not_greater is)
 
 -- the last one taken out first
-pub least_start : (rest : List (List Block)) (f : List Block) → LeastSoFar (rest ++ f ∷ []) rest f
+pub least_start : (rest : List Fork) (f : Fork) → LeastSoFar (rest ++ f ∷ []) rest f
 least_start rest f = record {
   chosen = Contains-push rest f;
   within = λ g member. Contains-append_left rest (f ∷ []) g member;
   past = λ g member. elim (Contains-push_cases rest f g member) [
     | inl there ↦ inl there
-    | inr is ↦ inr (subst (λ (h : List Block). slice_cmp nat_cmp (tip_hash f) (tip_hash h) ≢ Greater) is (not_greater_than_itself (tip_hash f)))
+    | inr is ↦ inr (subst (λ (h : Fork). slice_cmp nat_cmp (tip_hash f.blocks) (tip_hash h.blocks) ≢ Greater) is (not_greater_than_itself (tip_hash f.blocks)))
   ];
 }
 
 -- the next one is lesser
-pub least_lesser : (all rest : List (List Block)) (f least : List Block) → LeastSoFar all (rest ++ f ∷ []) least → slice_cmp nat_cmp (tip_hash f) (tip_hash least) ≡ Less → LeastSoFar all rest f
+pub least_lesser : (all rest : List Fork) (f least : Fork) → LeastSoFar all (rest ++ f ∷ []) least → slice_cmp nat_cmp (tip_hash f.blocks) (tip_hash least.blocks) ≡ Less → LeastSoFar all rest f
 least_lesser all rest f least before less = record {
   chosen = before.within f (Contains-push rest f);
   within = λ g member. before.within g (Contains-append_left rest (f ∷ []) g member);
   past = λ g member. elim (before.past g member) [
     | inl there ↦ elim (Contains-push_cases rest f g there) [
       | inl still ↦ inl still
-      | inr is ↦ inr (subst (λ (h : List Block). slice_cmp nat_cmp (tip_hash f) (tip_hash h) ≢ Greater) is (not_greater_than_itself (tip_hash f)))
+      | inr is ↦ inr (subst (λ (h : Fork). slice_cmp nat_cmp (tip_hash f.blocks) (tip_hash h.blocks) ≢ Greater) is (not_greater_than_itself (tip_hash f.blocks)))
     ]
-    | inr not_greater ↦ inr (less_still (tip_hash f) (tip_hash least) (tip_hash g) less not_greater)
+    | inr not_greater ↦ inr (less_still (tip_hash f.blocks) (tip_hash least.blocks) (tip_hash g.blocks) less not_greater)
   ];
 }
 
 -- the next one is not lesser
-pub least_stays : (all rest : List (List Block)) (f least : List Block) → LeastSoFar all (rest ++ f ∷ []) least → (slice_cmp nat_cmp (tip_hash f) (tip_hash least) ≡ Less → ⊥) → LeastSoFar all rest least
+pub least_stays : (all rest : List Fork) (f least : Fork) → LeastSoFar all (rest ++ f ∷ []) least → (slice_cmp nat_cmp (tip_hash f.blocks) (tip_hash least.blocks) ≡ Less → ⊥) → LeastSoFar all rest least
 least_stays all rest f least before not_less = record {
   chosen = before.chosen;
   within = λ g member. before.within g (Contains-append_left rest (f ∷ []) g member);
   past = λ g member. elim (before.past g member) [
     | inl there ↦ elim (Contains-push_cases rest f g there) [
       | inl still ↦ inl still
-      | inr is ↦ inr (subst (λ (h : List Block). slice_cmp nat_cmp (tip_hash least) (tip_hash h) ≢ Greater) is (not_less_back (tip_hash f) (tip_hash least) not_less))
+      | inr is ↦ inr (subst (λ (h : Fork). slice_cmp nat_cmp (tip_hash least.blocks) (tip_hash h.blocks) ≢ Greater) is (not_less_back (tip_hash f.blocks) (tip_hash least.blocks) not_less))
     ]
     | inr not_greater ↦ inr not_greater
   ];
 }
 
 -- all are taken out
-pub least_of_all : (all : List (List Block)) (least : List Block) → LeastSoFar all [] least → IsLeast all least
-least_of_all all least before = all_from_members (λ other. slice_cmp nat_cmp (tip_hash least) (tip_hash other) ≢ Greater) all
+pub least_of_all : (all : List Fork) (least : Fork) → LeastSoFar all [] least → IsLeast all least
+least_of_all all least before = all_from_members (λ other. slice_cmp nat_cmp (tip_hash least.blocks) (tip_hash other.blocks) ≢ Greater) all
     (λ f member. elim (before.past f member) [ inl nowhere ↦ absurd (nothing_contained f nowhere) | inr not_greater ↦ not_greater ])
 
 -- one fork behind others
-pub forks_pushed : (forks rest : List (Vec Block)) (fork : Vec Block) → forks ≡ rest ++ fork ∷ [] → forks_of forks ≡ forks_of rest ++ fork.items ∷ []
-forks_pushed forks rest fork is = ap forks_of is ∙ map-append (λ (v : Vec Block). v.items) rest (fork ∷ [])
+pub forks_pushed : {S : Type 0} (forks rest : List (code.Fork S)) (fork : code.Fork S) → forks ≡ rest ++ fork ∷ [] → forks_of forks ≡ forks_of rest ++ fork_of fork ∷ []
+forks_pushed forks rest fork is = ap forks_of is ∙ map-append fork_of rest (fork ∷ [])

@@ -2,6 +2,7 @@ pub mod Sets
 pub mod Candidates
 pub mod GrownForks
 pub mod ChosenForks
+pub mod SwitchedStates
 pub mod Steps
 pub mod Tips
 pub mod Leasts

@@ -4,7 +4,8 @@ use Rattle.std.specs.Prelude.{Any, nat_lt, filter, Some, None}
 use Rattle.std.proofs.lemmas.Bool.{cases_lt, lt-ltb}
 use Rattle.block.specs.Read.{IsRead}
 use Rattle.model.specs.Block.{Block, block_hash_of, block_text, body_hash_of}
-use Rattle.model.specs.Chain.{Genesis, immutable_length, live_blocks}
+use Rattle.model.specs.Genesis.{Genesis}
+use Rattle.model.specs.Chain.{immutable_length, live_blocks}
 use Rattle.model.specs.History.{State, Refusal, TooLarge, Malformed, BodyHashMismatch, TooOld, Known, Clash, VolatileFull, refusal_number, Applies, IsRefused}
 use Rattle.model.specs.Codes.{refusal_at, refusal_back}
 use Rattle.model.proofs.Lists.{contains_filter}

@@ -5,7 +5,9 @@ use Rattle.std.specs.List.{AllByRecursion}
 use Rattle.std.proofs.lemmas.Bool.{lt-ltb, ltb-true}
 use Rattle.std.proofs.lemmas.List.Elements.{Contains-append_left, Contains-push, Contains-push_cases, filter-append}
 use Rattle.model.specs.Block.{Block, SpellsBlock, block_hash_of}
-use Rattle.model.specs.Chain.{Genesis, IsSelection, Stays, Changes, HaveDistinctHashes, immutable_length, live_blocks}
+use Rattle.model.specs.Genesis.{Genesis}
+use Rattle.model.specs.Ledger.{Network}
+use Rattle.model.specs.Chain.{IsSelection, Stays, Changes, HaveDistinctHashes, immutable_length, live_blocks}
 use Rattle.model.specs.Follower.{Followers}
 use Rattle.model.specs.History.{State, opening, live_of, Refusal, TooLarge, Malformed, BodyHashMismatch, TooOld, Known, Clash, VolatileFull, Applies, IsRefused, Arrive, Kept, Refused, IsChange, Keeps, Step}
 use Rattle.model.proofs.Lists.{all_from_members, all_weaker, all_push, contains_first, contains_later, contains_cases, contains_filter}
@@ -79,25 +81,25 @@ narrower_live genesis kept old new longer distinct =
     narrower_distinct (λ b. nat_lt (immutable_length genesis old) b.header.number) (λ b. nat_lt (immutable_length genesis new) b.header.number) kept
     (λ b passes. lt-ltb (immutable_length genesis old) b.header.number (let past = ltb-true (immutable_length genesis new) b.header.number passes in omega arith)) distinct
 
-selection_members : (genesis : Genesis) (kept old new : List Block) → AllByRecursion (Contains kept) old → IsSelection genesis kept old new → AllByRecursion (Contains kept) new
-selection_members genesis kept old new members (Stays none) = members
-selection_members genesis kept old new members (Changes c chosen) = chosen.candidate.members
+selection_members : (network : Network) (kept old new : List Block) → AllByRecursion (Contains kept) old → IsSelection network kept old new → AllByRecursion (Contains kept) new
+selection_members network kept old new members (Stays none) = members
+selection_members network kept old new members (Changes c chosen) = chosen.candidate.members
 
 -- with a block that is not refused the core is sound
-pub sound_with : (genesis : Genesis) (kept chain : List Block) (bytes : List ℕ) (b : Block) → IsSound genesis kept chain → SpellsBlock b bytes
-    → ((refusal : Refusal) → Applies genesis (state kept chain) bytes refusal → ⊥) → IsSound genesis (kept ++ b ∷ []) chain
-sound_with genesis kept chain bytes b sound read not_refused = record {
+pub sound_with : (network : Network) (kept chain : List Block) (bytes : List ℕ) (b : Block) → IsSound network kept chain → SpellsBlock b bytes
+    → ((refusal : Refusal) → Applies network.genesis (state kept chain) bytes refusal → ⊥) → IsSound network (kept ++ b ∷ []) chain
+sound_with network kept chain bytes b sound read not_refused = record {
   valid = sound.valid;
   members = all_weaker (Contains kept) (Contains (kept ++ b ∷ [])) chain (λ c member. Contains-append_left kept (b ∷ []) c member) sound.members;
-  distinct = distinct_pushed genesis kept chain bytes b sound.distinct read not_refused;
+  distinct = distinct_pushed network.genesis kept chain bytes b sound.distinct read not_refused;
 }
 
 -- and with the chain that is then selected
-pub sound_after : (genesis : Genesis) (kept chain new : List Block) → IsSound genesis kept chain → IsSelection genesis kept chain new → IsSound genesis kept new
-sound_after genesis kept chain new sound selection = record {
-  valid = selection_valid genesis kept chain new sound.valid selection;
-  members = selection_members genesis kept chain new sound.members selection;
-  distinct = narrower_live genesis kept chain new (selection_not_shorter genesis kept chain new selection) sound.distinct;
+pub sound_after : (network : Network) (kept chain new : List Block) → IsSound network kept chain → IsSelection network kept chain new → IsSound network kept new
+sound_after network kept chain new sound selection = record {
+  valid = selection_valid network kept chain new sound.valid selection;
+  members = selection_members network kept chain new sound.members selection;
+  distinct = narrower_live network.genesis kept chain new (selection_not_shorter network kept chain new selection) sound.distinct;
 }
 
 -- live blocks stay the same when both lists get the block and the chain becomes longer
@@ -129,43 +131,43 @@ same_live_after genesis kept other old new b same longer distinct distinct_too =
 
 -- A block that is not refused is kept: the step of each state with the same live blocks, and what stands
 -- for the state after it.
-pub record KeptStep (genesis : Genesis) (kept chain : List Block) (b : Block) (bytes : List ℕ) (new : List Block) (back added : ℕ) (other : List Block) (followers : Followers) : Type 0 where
-  pub step : Keeps genesis (state_with other chain followers) bytes back added (state_with (b ∷ other) new followers)
-  pub same : SameLive genesis new (kept ++ b ∷ []) (b ∷ other)
+pub record KeptStep (network : Network) (kept chain : List Block) (b : Block) (bytes : List ℕ) (new : List Block) (back added : ℕ) (other : List Block) (followers : Followers) : Type 0 where
+  pub step : Keeps network (state_with other chain followers) bytes back added (state_with (b ∷ other) new followers)
+  pub same : SameLive network.genesis new (kept ++ b ∷ []) (b ∷ other)
   pub chain_kept : AllByRecursion (Contains (b ∷ other)) new
 
-pub kept_step : (genesis : Genesis) (kept chain : List Block) (b : Block) (bytes : List ℕ) (new : List Block) (back added : ℕ) (other : List Block) (followers : Followers) → IsSound genesis kept chain
-    → SameLive genesis chain kept other → AllByRecursion (Contains other) chain → SpellsBlock b bytes → ((refusal : Refusal) → Applies genesis (state kept chain) bytes refusal → ⊥)
-    → IsSelection genesis (kept ++ b ∷ []) chain new → IsChange chain new back added → KeptStep genesis kept chain b bytes new back added other followers
-kept_step genesis kept chain b bytes new back added other followers sound same chain_kept read not_refused selection change =
+pub kept_step : (network : Network) (kept chain : List Block) (b : Block) (bytes : List ℕ) (new : List Block) (back added : ℕ) (other : List Block) (followers : Followers) → IsSound network kept chain
+    → SameLive network.genesis chain kept other → AllByRecursion (Contains other) chain → SpellsBlock b bytes → ((refusal : Refusal) → Applies network.genesis (state kept chain) bytes refusal → ⊥)
+    → IsSelection network (kept ++ b ∷ []) chain new → IsChange chain new back added → KeptStep network kept chain b bytes new back added other followers
+kept_step network kept chain b bytes new back added other followers sound same chain_kept read not_refused selection change =
     let all = kept ++ b ∷ [] in
     let in_all : AllByRecursion (Contains all) chain = all_weaker (Contains kept) (Contains all) chain (λ c member. Contains-append_left kept (b ∷ []) c member) sound.members in
     let in_others : AllByRecursion (Contains (b ∷ other)) chain = all_weaker (Contains other) (Contains (b ∷ other)) chain (λ c member. contains_later b other c member) chain_kept in
-    let longer = selection_not_shorter genesis all chain new selection in
-    let refuses_none : (refusal : Refusal) → Applies genesis (state_with other chain followers) bytes refusal → ⊥ =
-    λ refusal applies. not_refused refusal (applies_over genesis chain other kept bytes refusal followers [] (same_live_back genesis chain kept other same) applies) in
-    let other_distinct : HaveDistinctHashes (live_blocks genesis other chain) =
-    distinct_by_count (live_blocks genesis kept chain) (live_blocks genesis other chain) sound.distinct same.to same.back (let count = same.count in omega arith) in
-    let both_distinct : HaveDistinctHashes (live_blocks genesis (b ∷ other) chain) = distinct_with genesis (state_with other chain followers) bytes b other_distinct read refuses_none in
-    let out : (c : Block) → Contains (live_blocks genesis all chain) c → Contains (b ∷ other) c =
-    λ c live. let found = filter_member (λ d. nat_lt (immutable_length genesis chain) d.header.number) all c live in
+    let longer = selection_not_shorter network all chain new selection in
+    let refuses_none : (refusal : Refusal) → Applies network.genesis (state_with other chain followers) bytes refusal → ⊥ =
+    λ refusal applies. not_refused refusal (applies_over network.genesis chain other kept bytes refusal followers [] (same_live_back network.genesis chain kept other same) applies) in
+    let other_distinct : HaveDistinctHashes (live_blocks network.genesis other chain) =
+    distinct_by_count (live_blocks network.genesis kept chain) (live_blocks network.genesis other chain) sound.distinct same.to same.back (let count = same.count in omega arith) in
+    let both_distinct : HaveDistinctHashes (live_blocks network.genesis (b ∷ other) chain) = distinct_with network.genesis (state_with other chain followers) bytes b other_distinct read refuses_none in
+    let out : (c : Block) → Contains (live_blocks network.genesis all chain) c → Contains (b ∷ other) c =
+    λ c live. let found = filter_member (λ d. nat_lt (immutable_length network.genesis chain) d.header.number) all c live in
     elim (Contains-push_cases kept b c found.0) [
-      | inl before ↦ contains_later b other c (live_is_kept genesis other chain c (same.to c (contains_filter (λ d. nat_lt (immutable_length genesis chain) d.header.number) kept c before found.1)))
+      | inl before ↦ contains_later b other c (live_is_kept network.genesis other chain c (same.to c (contains_filter (λ d. nat_lt (immutable_length network.genesis chain) d.header.number) kept c before found.1)))
       | inr is ↦ subst (Contains (b ∷ other)) is (contains_first b other)
     ] in
-    let in' : (c : Block) → Contains (live_blocks genesis (b ∷ other) chain) c → Contains all c =
-    λ c live. let found = filter_member (λ d. nat_lt (immutable_length genesis chain) d.header.number) (b ∷ other) c live in
+    let in' : (c : Block) → Contains (live_blocks network.genesis (b ∷ other) chain) c → Contains all c =
+    λ c live. let found = filter_member (λ d. nat_lt (immutable_length network.genesis chain) d.header.number) (b ∷ other) c live in
     elim (contains_cases b other c found.0) [
       | inl is ↦ subst (Contains all) is (Contains-push kept b)
-      | inr before ↦ Contains-append_left kept (b ∷ []) c (live_is_kept genesis kept chain c (same.back c (contains_filter (λ d. nat_lt (immutable_length genesis chain) d.header.number) other c before found.1)))
+      | inr before ↦ Contains-append_left kept (b ∷ []) c (live_is_kept network.genesis kept chain c (same.back c (contains_filter (λ d. nat_lt (immutable_length network.genesis chain) d.header.number) other c before found.1)))
     ] in
-    let selection_too = selection_over genesis all (b ∷ other) chain new out in' in_all in_others selection in
+    let selection_too = selection_over network all (b ∷ other) chain new out in' in_all in_others selection in
     record {
       step = record { block = b; read = read; not_refused = refuses_none; kept = refl; followers = refl; selection = selection_too; change = change };
-      same = same_live_after genesis kept other chain new b same longer
-          (narrower_live genesis all chain new longer (distinct_pushed genesis kept chain bytes b sound.distinct read not_refused))
-          (narrower_live genesis (b ∷ other) chain new longer both_distinct);
-      chain_kept = selection_members genesis (b ∷ other) chain new in_others selection_too;
+      same = same_live_after network.genesis kept other chain new b same longer
+          (narrower_live network.genesis all chain new longer (distinct_pushed network.genesis kept chain bytes b sound.distinct read not_refused))
+          (narrower_live network.genesis (b ∷ other) chain new longer both_distinct);
+      chain_kept = selection_members network (b ∷ other) chain new in_others selection_too;
     }
 
 -- ---- over every state that the core stands for
@@ -187,10 +189,10 @@ stands_again genesis kept new other followers same chain_kept =
     record { chain = refl; followers = refl; members = λ b. (same.to b, same.back b); count = same.count; chain_kept = chain_kept }
 
 -- a refusal is one of each state
-pub refused_step : (genesis : Genesis) (kept chain : List Block) (bytes : List ℕ) (refusal : Refusal) (followers : Followers) (s : State) → IsRefused genesis (state kept chain) bytes refusal
-    → Stands (held_of genesis kept chain followers) s → (t : State) × Step genesis s (Arrive bytes) (Refused refusal) t × Stands (held_of genesis kept chain followers) t
-refused_step genesis kept chain bytes refusal followers s refused stands =
-    (s, (subst (λ (u : State). IsRefused genesis u bytes refusal) (as_state genesis kept chain followers s stands) (refused_over genesis chain kept s.kept bytes refusal [] followers (same_live_of genesis kept chain followers s stands) refused), refl), stands)
+pub refused_step : (network : Network) (kept chain : List Block) (bytes : List ℕ) (refusal : Refusal) (followers : Followers) (s : State) → IsRefused network.genesis (state kept chain) bytes refusal
+    → Stands (held_of network.genesis kept chain followers) s → (t : State) × Step network s (Arrive bytes) (Refused refusal) t × Stands (held_of network.genesis kept chain followers) t
+refused_step network kept chain bytes refusal followers s refused stands =
+    (s, (subst (λ (u : State). IsRefused network.genesis u bytes refusal) (as_state network.genesis kept chain followers s stands) (refused_over network.genesis chain kept s.kept bytes refusal [] followers (same_live_of network.genesis kept chain followers s stands) refused), refl), stands)
 
 -- where no refusal applies to one state, none does to another with the same live blocks
 pub none_over : (genesis : Genesis) (kept chain : List Block) (bytes : List ℕ) (followers : Followers) → ((r : Refusal) → Applies genesis (state kept chain) bytes r → ⊥)
@@ -200,21 +202,21 @@ none_over genesis kept chain bytes followers none s stands r applies =
     none r (applies_over genesis chain s.kept kept bytes r followers [] (same_live_back genesis chain kept s.kept (same_live_of genesis kept chain followers s stands)) here)
 
 -- a block that is kept is kept by each state
-pub kept_step_of : (genesis : Genesis) (kept chain : List Block) (b : Block) (bytes : List ℕ) (new : List Block) (back added : ℕ) (followers : Followers) (s : State) → IsSound genesis kept chain
-    → SpellsBlock b bytes → ((refusal : Refusal) → Applies genesis (state kept chain) bytes refusal → ⊥)
-    → IsSelection genesis (kept ++ b ∷ []) chain new → IsChange chain new back added
-    → Stands (held_of genesis kept chain followers) s → (t : State) × Step genesis s (Arrive bytes) (Kept back added) t × Stands (held_of genesis (kept ++ b ∷ []) new followers) t
-kept_step_of genesis kept chain b bytes new back added followers s sound read not_refused selection change stands =
+pub kept_step_of : (network : Network) (kept chain : List Block) (b : Block) (bytes : List ℕ) (new : List Block) (back added : ℕ) (followers : Followers) (s : State) → IsSound network kept chain
+    → SpellsBlock b bytes → ((refusal : Refusal) → Applies network.genesis (state kept chain) bytes refusal → ⊥)
+    → IsSelection network (kept ++ b ∷ []) chain new → IsChange chain new back added
+    → Stands (held_of network.genesis kept chain followers) s → (t : State) × Step network s (Arrive bytes) (Kept back added) t × Stands (held_of network.genesis (kept ++ b ∷ []) new followers) t
+kept_step_of network kept chain b bytes new back added followers s sound read not_refused selection change stands =
     let chain_kept : AllByRecursion (Contains s.kept) chain = subst (AllByRecursion (Contains s.kept)) (sym stands.chain) stands.chain_kept in
-    let is = kept_step genesis kept chain b bytes new back added s.kept followers sound (same_live_of genesis kept chain followers s stands) chain_kept read not_refused selection change in (
+    let is = kept_step network kept chain b bytes new back added s.kept followers sound (same_live_of network.genesis kept chain followers s stands) chain_kept read not_refused selection change in (
       state_with (b ∷ s.kept) new followers,
-      subst (λ (u : State). Keeps genesis u bytes back added (state_with (b ∷ s.kept) new followers)) (as_state genesis kept chain followers s stands) is.step,
-      stands_again genesis (kept ++ b ∷ []) new (b ∷ s.kept) followers is.same is.chain_kept,
+      subst (λ (u : State). Keeps network u bytes back added (state_with (b ∷ s.kept) new followers)) (as_state network.genesis kept chain followers s stands) is.step,
+      stands_again network.genesis (kept ++ b ∷ []) new (b ∷ s.kept) followers is.same is.chain_kept,
     )
 
 -- a new core stands for the opening state, and is sound
 pub opening_stands : (genesis : Genesis) → Stands (opening_held genesis) opening
 opening_stands genesis = record { chain = refl; followers = refl; members = λ b. ((λ member. member), (λ member. member)); count = refl; chain_kept = tt }
 
-pub opening_is_sound : (genesis : Genesis) → IsSound genesis [] []
-opening_is_sound genesis = record { valid = record { linked = tt; sizes = tt; ledger = refl }; members = tt; distinct = tt }
+pub opening_is_sound : (network : Network) → IsSound network [] []
+opening_is_sound network = record { valid = record { linked = tt; sizes = tt; ledger = refl }; members = tt; distinct = tt }

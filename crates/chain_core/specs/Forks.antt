@@ -1,73 +1,77 @@
 -- The plain search: forks from the immutable tip, all of one length at a time.
-use Rattle.std.specs.Prelude.{◌≡◌, ◌≢◌, ℕ, ◌≤◌, List, [], ◌∷◌, ◌++◌, length, map, Contains}
+use Rattle.std.specs.Prelude.{◌≡◌, ◌≢◌, ℕ, ◌≤◌, List, [], ◌∷◌, ◌++◌, length, Contains}
 use Rattle.std.specs.List.{AllByRecursion}
-use Rattle.std.specs.Global.{Vec}
 use Rattle.std.specs.Ordering.{nat_cmp}
 use Rattle.std.specs.declared.cmp.Ordering.TheVariants.{Greater}
 use Rattle.std.specs.Cmp.Lexicographic.{slice_cmp}
-use Rattle.model.specs.Block.{Block, body_size_of}
-use Rattle.model.specs.Chain.{Genesis, Tip, tip_at, tip_after, genesis_tip, tip_hash, Follows, immutable_part}
-use Rattle.model.specs.Chain.{IsSelection, live_blocks}
+use Rattle.model.specs.Signature.{Verifies}
+use Rattle.model.specs.Block.{Block}
+use Rattle.model.specs.Chain.{tip_hash, immutable_part, IsSelection, live_blocks}
+use Rattle.model.specs.Ledger.{Network}
+use Rattle.model.specs.Applying.{LedgerState, IsApplied, AreStates, last_state}
 
--- the block may come after the tip, its body fits, and there is a ledger after it
-pub record GoesOn (genesis : Genesis) (tip : Tip) (b : Block) : Type 0 where
-  pub follows : Follows tip b
-  pub size : body_size_of b ≤ genesis.max_body_size
-  pub body : b.transactions ≡ []
+-- blocks that come after a state, and the states that they make of it
+pub record Fork : Type 0 where
+  pub blocks : List Block
+  pub states : List LedgerState
 
--- blocks of the list that go on from the tip, one after the other
-abbrev pub IsFork : Genesis → List Block → Tip → List Block → Type 0
-IsFork genesis kept tip [] = Unit {0}
-IsFork genesis kept tip (b ∷ bs) = GoesOn genesis tip b × Contains kept b × IsFork genesis kept (tip_at b) bs
+-- the fork with a block after it, and the state that this one makes
+abbrev pub with_block : Fork → Block → LedgerState → Fork
+with_block fork b after = record { blocks = fork.blocks ++ b ∷ []; states = fork.states ++ after ∷ [] }
+
+-- the state at the end of a fork
+abbrev pub fork_end : LedgerState → Fork → LedgerState
+fork_end from fork = last_state from fork.states
+
+-- blocks of the list that are applied to the state, one after the other
+pub record IsFork (verifies : Verifies) (kept : List Block) (from : LedgerState) (fork : Fork) : Type 0 where
+  pub states : AreStates verifies from fork.blocks fork.states
+  pub members : AllByRecursion (Contains kept) fork.blocks
 
 -- all forks of one length
-pub record AreForks (genesis : Genesis) (kept : List Block) (tip : Tip) (n : ℕ)
-    (forks : List (List Block)) : Type 0 where
-  pub sound : AllByRecursion (λ fork. IsFork genesis kept tip fork × (length fork ≡ n)) forks
-  pub complete : (fork : List Block) → IsFork genesis kept tip fork → length fork ≡ n → Contains forks fork
+pub record AreForks (verifies : Verifies) (kept : List Block) (from : LedgerState) (n : ℕ)
+    (forks : List Fork) : Type 0 where
+  pub sound : AllByRecursion (λ fork. IsFork verifies kept from fork × (length fork.blocks ≡ n)) forks
+  pub complete : (fork : Fork) → IsFork verifies kept from fork → length fork.blocks ≡ n → Contains forks fork
 
 -- the fork with one of these blocks after it
-pub record IsOneLonger (genesis : Genesis) (kept : List Block) (tip : Tip) (fork longer : List Block) : Type 0 where
+pub record IsOneLonger (verifies : Verifies) (kept : List Block) (from : LedgerState)
+    (fork longer : Fork) : Type 0 where
   pub block : Block
-  pub goes_on : GoesOn genesis (tip_after tip fork) block
+  pub after : LedgerState
+  pub applied : IsApplied verifies (fork_end from fork) block after
   pub member : Contains kept block
-  pub is : longer ≡ fork ++ block ∷ []
+  pub is : longer ≡ with_block fork block after
 
 -- all that one of these blocks makes of the fork
-pub record AreOneLonger (genesis : Genesis) (kept : List Block) (tip : Tip) (fork : List Block)
-    (longer : List (List Block)) : Type 0 where
-  pub sound : AllByRecursion (IsOneLonger genesis kept tip fork) longer
-  pub complete : (b : Block) → GoesOn genesis (tip_after tip fork) b → Contains kept b
-      → Contains longer (fork ++ b ∷ [])
+pub record AreOneLonger (verifies : Verifies) (kept : List Block) (from : LedgerState) (fork : Fork)
+    (longer : List Fork) : Type 0 where
+  pub sound : AllByRecursion (IsOneLonger verifies kept from fork) longer
+  pub complete : (b : Block) (after : LedgerState) → IsApplied verifies (fork_end from fork) b after → Contains kept b
+      → Contains longer (with_block fork b after)
 
 -- all that one of these blocks makes of the forks
-pub record AreGrown (genesis : Genesis) (kept : List Block) (tip : Tip)
-    (forks longer : List (List Block)) : Type 0 where
-  pub sound : AllByRecursion (λ new. (fork : List Block) × Contains forks fork
-      × IsOneLonger genesis kept tip fork new) longer
-  pub complete : (fork : List Block) (b : Block) → Contains forks fork → GoesOn genesis (tip_after tip fork) b
-      → Contains kept b → Contains longer (fork ++ b ∷ [])
+pub record AreGrown (verifies : Verifies) (kept : List Block) (from : LedgerState)
+    (forks longer : List Fork) : Type 0 where
+  pub sound : AllByRecursion (λ new. (fork : Fork) × Contains forks fork
+      × IsOneLonger verifies kept from fork new) longer
+  pub complete : (fork : Fork) (b : Block) (after : LedgerState) → Contains forks fork
+      → IsApplied verifies (fork_end from fork) b after → Contains kept b → Contains longer (with_block fork b after)
 
 -- all forks of the greatest length that any has
-pub record AreLongest (genesis : Genesis) (kept : List Block) (tip : Tip) (n : ℕ)
-    (forks : List (List Block)) : Type 0 where
-  pub all : AreForks genesis kept tip n forks
+pub record AreLongest (verifies : Verifies) (kept : List Block) (from : LedgerState) (n : ℕ)
+    (forks : List Fork) : Type 0 where
+  pub all : AreForks verifies kept from n forks
   pub some : forks ≢ []
-  pub none_longer : (fork : List Block) → IsFork genesis kept tip fork → length fork ≤ n
-
--- where the immutable part of a chain ends
-abbrev pub immutable_tip : Genesis → List Block → Tip
-immutable_tip genesis chain = tip_after genesis_tip (immutable_part genesis chain)
+  pub none_longer : (fork : Fork) → IsFork verifies kept from fork → length fork.blocks ≤ n
 
 -- no fork of these ends in a lesser hash
-abbrev pub IsLeast : List (List Block) → List Block → Type 0
-IsLeast forks fork = AllByRecursion (λ other. slice_cmp nat_cmp (tip_hash fork) (tip_hash other) ≢ Greater) forks
+abbrev pub IsLeast : List Fork → Fork → Type 0
+IsLeast forks fork =
+    AllByRecursion (λ other. slice_cmp nat_cmp (tip_hash fork.blocks) (tip_hash other.blocks) ≢ Greater) forks
 
--- the selection rule puts the fork after the immutable part, and its blocks are live
-pub record IsChosenFork (genesis : Genesis) (kept chain fork : List Block) : Type 0 where
-  pub selection : IsSelection genesis kept chain (immutable_part genesis chain ++ fork)
-  pub live : AllByRecursion (Contains (live_blocks genesis kept chain)) fork
-
--- what forks of the code stand for
-abbrev pub forks_of : List (Vec Block) → List (List Block)
-forks_of forks = map (λ fork. fork.items) forks
+-- the selection rule puts the fork after the immutable part, whose state it goes on from, and its blocks are live
+pub record IsChosenFork (network : Network) (kept chain : List Block) (from : LedgerState) (fork : Fork) : Type 0 where
+  pub selection : IsSelection network kept chain (immutable_part network.genesis chain ++ fork.blocks)
+  pub states : AreStates network.verifies from fork.blocks fork.states
+  pub live : AllByRecursion (Contains (live_blocks network.genesis kept chain)) fork.blocks

@@ -2,7 +2,7 @@
 use Rattle.std.specs.Prelude.{◌≡◌, ◌≢◌, ℕ, List, Option, MatchOption}
 use Rattle.block.specs.Read.{IsRead}
 use Rattle.model.specs.Block.{Block, block_hash_of, block_text}
-use Rattle.model.specs.Chain.{Genesis}
+use Rattle.model.specs.Genesis.{Genesis}
 use Rattle.model.specs.History.{State, Refusal, Applies, IsRefused}
 
 -- the same hash, and another text

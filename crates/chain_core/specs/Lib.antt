@@ -1,5 +1,6 @@
 pub mod Held
 pub mod Forks
+pub mod ForkViews
 pub mod Views
 pub mod Texts
 pub mod Judgements

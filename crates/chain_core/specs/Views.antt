@@ -1,14 +1,11 @@
--- What the plain types of the code stand for: genesis, tips, refusals, events and replies.
-use Rattle.std.specs.Prelude.{List, [], ◌∷◌, Option, Some, None, Result, Ok, Err, map, option_map}
+-- What the plain types of the code stand for: refusals, events and replies.
+use Rattle.std.specs.Prelude.{List, [], ◌∷◌, Option, Some, None, Result, Ok, Err, map}
 use Rattle.std.specs.Global.{Vec}
 use Rattle.std.specs.declared.alloc.AllocError.{AllocError}
 use Rattle.model.specs.Block.{Block, block_text}
-use Rattle.model.specs.Chain as chain
 use Rattle.model.specs.Follower as follower
 use Rattle.model.specs.History as history
 use Rattle.ident.specs.PointView.{point_of}
-use Rattle.chain_core.specs.declared.genesis.Genesis.{Genesis}
-use Rattle.chain_core.specs.declared.tip.Tip.{Tip}
 use Rattle.chain_core.specs.declared.arrival.Refusal.{Refusal}
 use Rattle.chain_core.specs.declared.arrival.Refusal.TheVariants.{TooLarge, Malformed, BodyHashMismatch, TooOld, Known}
 use Rattle.chain_core.specs.declared.arrival.Refusal.TheVariants.{Clash, VolatileFull}
@@ -25,13 +22,6 @@ use Rattle.chain_core.specs.declared.event.RawEvent.{RawEvent}
 use Rattle.chain_core.specs.declared.event.RawEvent.TheVariants as event
 use Rattle.chain_core.specs.declared.event.Reply.{Reply}
 use Rattle.chain_core.specs.declared.event.Reply.TheVariants as reply
-
-abbrev pub genesis_of : Genesis → chain.Genesis
-genesis_of genesis =
-    record { k = genesis.k; max_volatile = genesis.max_volatile; max_body_size = genesis.max_body_size }
-
-abbrev pub tip_of : Tip → chain.Tip
-tip_of tip = record { number = tip.number; slot = tip.slot; hash = option_map (λ h. h.bytes) tip.hash }
 
 -- ---- arrivals
 
@@ -52,7 +42,7 @@ arrive_reply_of (Err want) = history.OutOfMemory
 -- ---- followers
 
 -- a block to put on is told by its bytes, as they arrived
-abbrev pub instruction_of : Option Instruction → follower.Instruction
+abbrev pub instruction_of : {S : Type 0} → Option (Instruction S) → follower.Instruction
 instruction_of None = follower.Stay
 instruction_of (Some (instruction.AddBlock block)) = follower.AddBlock (block_text block)
 instruction_of (Some (instruction.RollBack point)) = follower.RollBack (point_of point)
@@ -66,7 +56,7 @@ open_reply_of (Ok id) = history.Opened id.number
 open_reply_of (Err open'.TooManyFollowers) = history.TooManyFollowers
 open_reply_of (Err open'.OutOfMemory) = history.OutOfMemory
 
-abbrev pub next_reply_of : Result (Option Instruction) NextFault → history.Reply
+abbrev pub next_reply_of : {S : Type 0} → Result (Option (Instruction S)) NextFault → history.Reply
 next_reply_of (Ok instruction) = history.Instructed (instruction_of instruction)
 next_reply_of (Err next.UnknownFollower) = history.UnknownFollower
 next_reply_of (Err next.OutOfMemory) = history.OutOfMemory
@@ -78,26 +68,26 @@ event_of (event.Arrive bytes) = history.Arrive bytes.items
 event_of event.Open = history.Open
 event_of (event.Next id) = history.Next id.number
 
-abbrev pub reply_of : Reply → history.Reply
+abbrev pub reply_of : {S : Type 0} → Reply S → history.Reply
 reply_of (reply.Arrive answer) = arrive_reply_of answer
 reply_of (reply.Open answer) = open_reply_of answer
 reply_of (reply.Next answer) = next_reply_of answer
 
 -- the reply is of the event's kind
-abbrev pub IsReplyTo : RawEvent → Reply → Type 0
+abbrev pub IsReplyTo : {S : Type 0} → RawEvent → Reply S → Type 0
 IsReplyTo (event.Arrive bytes) (reply.Arrive answer) = Unit {0}
 IsReplyTo event.Open (reply.Open answer) = Unit {0}
 IsReplyTo (event.Next id) (reply.Next answer) = Unit {0}
 IsReplyTo e r = ⊥
 
 -- each event has a reply of its kind
-abbrev pub AreRepliesTo : List RawEvent → List Reply → Type 0
+abbrev pub AreRepliesTo : {S : Type 0} → List RawEvent → List (Reply S) → Type 0
 AreRepliesTo [] [] = Unit {0}
 AreRepliesTo (e ∷ es) (r ∷ rs) = IsReplyTo e r × AreRepliesTo es rs
 AreRepliesTo es rs = ⊥
 
 -- each event with its reply, as far as there are both
-abbrev pub history_of : List RawEvent → List Reply → List history.Entry
+abbrev pub history_of : {S : Type 0} → List RawEvent → List (Reply S) → List history.Entry
 history_of [] replies = []
 history_of (e ∷ es) [] = []
 history_of (e ∷ es) (r ∷ rs) = record { event = event_of e; reply = reply_of r } ∷ history_of es rs

@@ -3,6 +3,7 @@
 use crate::arrival::ArriveReply;
 use crate::follower::{FollowerId, Instruction, NextFault, OpenFault};
 use std::alloc::AllocError;
+use witness_pool::SigScheme;
 
 /// What comes to the node.
 #[derive(Debug, Drop)]
@@ -17,11 +18,11 @@ pub enum RawEvent {
 
 /// What the node answers to an event, by the event's kind. Where memory ran out nothing changed.
 #[derive(Debug, Drop)]
-pub enum Reply {
+pub enum Reply<S: SigScheme> {
     /// To bytes of a block.
     Arrive(Result<ArriveReply, AllocError>),
     /// To the opening of a follower.
     Open(Result<FollowerId, OpenFault>),
     /// To a follower that asks what comes next.
-    Next(Result<Option<Instruction>, NextFault>),
+    Next(Result<Option<Instruction<S>>, NextFault>),
 }

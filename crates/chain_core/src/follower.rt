@@ -9,11 +9,12 @@ ghost use Rattle.model.specs.Follower.{MayBeTold, IsDue, IsNextInstruction};
 ghost use Rattle.chain_core.specs.Views.{instruction_of, followers_of};
 ghost use Rattle.chain_core.specs.FollowerCalls.{IsOpenFault, IsNextFault, IsTold, IsNextFor};
 
-use block::Block;
+use block::CheckedBlock;
 use ident::Point;
 use std::alloc::{AllocError, AllocFailed, Global};
 use std::fmt;
 use thiserror::Error;
+use witness_pool::SigScheme;
 
 /// How many followers may be open.
 pub const MAX_FOLLOWERS: usize = 1024;
@@ -38,9 +39,9 @@ impl fmt::Display for FollowerId {
 
 /// What a follower is told.
 #[derive(Debug, Drop)]
-pub enum Instruction {
+pub enum Instruction<S: SigScheme> {
     /// To put on this block. It is the one that the node keeps, shared.
-    AddBlock(Block),
+    AddBlock(CheckedBlock<S>),
     /// To go back to this point.
     RollBack(Point),
 }
@@ -101,14 +102,14 @@ impl From<AllocError> for NextFault {
 }
 
 /// Whether the two blocks are the same.
-fn is_same_block(block: &Block, other: &Block) -> bool
+fn is_same_block<S: SigScheme>(block: &CheckedBlock<S>, other: &CheckedBlock<S>) -> bool
     ensures { IsTrue result ↔ (block.now ≡ other.now) }
 {
     block.eq(other)
 }
 
 /// Whether the chain begins with these blocks.
-fn begins_with(chain: &[Block], told: &[Block]) -> bool
+fn begins_with<S: SigScheme>(chain: &[CheckedBlock<S>], told: &[CheckedBlock<S>]) -> bool
     ensures { IsTrue result ↔ BeginsWith chain.now told.now }
 {
     if chain.len() < told.len() {
@@ -123,7 +124,10 @@ fn begins_with(chain: &[Block], told: &[Block]) -> bool
 }
 
 /// The block of the chain that comes next, if what was told is a proper beginning of it.
-fn next_block<'a>(chain: &'a [Block], told: &[Block]) -> Option<&'a Block>
+fn next_block<'a, S: SigScheme>(
+    chain: &'a [CheckedBlock<S>],
+    told: &[CheckedBlock<S>],
+) -> Option<&'a CheckedBlock<S>>
     ensures { MatchOption result ((b : Plain) → IsDue chain.now told.now b → ⊥) (λ b. IsDue chain.now told.now b.now) }
 {
     if begins_with(chain, told) {
@@ -134,9 +138,9 @@ fn next_block<'a>(chain: &'a [Block], told: &[Block]) -> Option<&'a Block>
 }
 
 /// Opens a follower, which was told nothing.
-pub fn open_follower(
+pub fn open_follower<S: SigScheme>(
     alloc: Global,
-    followers: &mut Vec<Vec<Block>>,
+    followers: &mut Vec<Vec<CheckedBlock<S>>>,
 ) -> Result<FollowerId, OpenFault>
     ensures ok { IfOk result (λ id. (id.number ≡ length followers.old.items) × (id.number < follower_limit)
         × (followers_of followers.new.items ≡ followers_of followers.old.items ++ Some [] ∷ [])) }
@@ -154,7 +158,10 @@ pub fn open_follower(
 }
 
 /// What a follower that was told these blocks is told next, with the chain that it has then been told.
-fn tell(chain: &[Block], told: &mut Vec<Block>) -> Result<Option<Instruction>, AllocError>
+fn tell<S: SigScheme>(
+    chain: &[CheckedBlock<S>],
+    told: &mut Vec<CheckedBlock<S>>,
+) -> Result<Option<Instruction<S>>, AllocError>
     ensures ok { IfOk result (λ instruction. MayBeTold chain.now told.old.items
         (instruction_of instruction) told.new.items) }
     ensures next { IfOk result (λ instruction. IsNextInstruction chain.now told.old.items
@@ -172,11 +179,11 @@ fn tell(chain: &[Block], told: &mut Vec<Block>) -> Result<Option<Instruction>, A
 }
 
 /// Tells the follower of this number what comes next.
-pub fn tell_follower(
-    chain: &[Block],
-    followers: &mut Vec<Vec<Block>>,
+pub fn tell_follower<S: SigScheme>(
+    chain: &[CheckedBlock<S>],
+    followers: &mut Vec<Vec<CheckedBlock<S>>>,
     id: FollowerId,
-) -> Result<Option<Instruction>, NextFault>
+) -> Result<Option<Instruction<S>>, NextFault>
     ensures ok { IfOk result (λ instruction. IsTold chain.now followers.old.items id.number
         (instruction_of instruction) followers.new.items) }
     ensures next { IfOk result (λ instruction. IsNextFor chain.now (followers_of followers.old.items) id.number

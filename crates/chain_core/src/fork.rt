@@ -1,84 +1,129 @@
 //! The plain search: all forks of kept blocks from the immutable tip, one block longer at a time.
 
-ghost use Rattle.std.specs.Prelude.{◌≡◌, ◌↔◌, ◌≤◌, ℕ, List, [], ◌∷◌, ◌++◌, IsTrue, IfOk, OnOk};
+ghost use Rattle.std.specs.Prelude.{◌≡◌, ◌≤◌, ℕ, List, [], ◌∷◌, ◌++◌, IfOk, OnOk};
 ghost use Rattle.std.specs.List.{AllByRecursion};
-ghost use Rattle.model.specs.Block.{Block as Plain};
-ghost use Rattle.chain_core.specs.Forks.{GoesOn, AreOneLonger, AreGrown, AreLongest};
-ghost use Rattle.chain_core.specs.Forks.{forks_of};
-ghost use Rattle.chain_core.specs.Views.{tip_of};
-ghost use Rattle.chain_core.specs.Views.{genesis_of};
+ghost use Rattle.chain_core.specs.Forks.{AreOneLonger, AreGrown, AreLongest, with_block as longer_by};
+ghost use Rattle.chain_core.specs.Forks.{Fork as Plain};
+ghost use Rattle.model.specs.Applying.{last_state};
+ghost use Rattle.chain_core.specs.ForkViews.{fork_of, forks_of};
 
-use crate::genesis::Genesis;
-use crate::tip::Tip;
-use block::Block;
+use block::CheckedBlock;
+use ledger::{ApplyFault, LedgerState, apply_block};
 use std::alloc::{AllocError, Global};
+use witness_pool::SigScheme;
 
-/// Whether the block may come after the tip, its body fits, and there is a ledger after it.
-fn goes_on(genesis: &Genesis, tip: &Tip, block: &Block) -> bool
-    ensures { IsTrue result ↔ GoesOn (genesis_of genesis.now) (tip_of tip.now) block.now }
+/// The last of the states that come after one, and that one itself where there are none.
+pub fn end_state<'a>(before: &'a LedgerState, states: &'a [LedgerState]) -> &'a LedgerState
+    ensures { result.now ≡ last_state before.now states.now }
 {
-    if block.number() <= tip.number || block.number() - tip.number != 1 {
-        return false;
+    match states.last() {
+        Some(last) => last,
+        None => before,
     }
-    block.previous() == tip.hash
-        && tip.slot < block.slot()
-        && block.body_size() as u64 <= genesis.max_body_size
-        && block.is_empty()
 }
 
-/// The fork with the block after it. Shares the blocks, and copies none of their bytes.
-fn with_block(alloc: Global, fork: &[Block], block: &Block) -> Result<Vec<Block>, AllocError>
-    ensures { IfOk result (λ longer. longer.items ≡ fork.now ++ block.now ∷ []) }
-{
-    let mut longer = Vec::new(alloc);
-    for b in fork {
-        longer.push(b.try_clone()?)?;
+/// Blocks that come after a state, and the states that they make of it.
+#[derive(Drop)]
+pub struct Fork<S: SigScheme> {
+    pub blocks: Vec<CheckedBlock<S>>,
+    pub states: Vec<LedgerState>,
+}
+
+impl<S: SigScheme> Fork<S> {
+    /// No blocks.
+    fn new(alloc: Global) -> Fork<S>
+        ensures blocks { result.blocks.items ≡ [] }
+        ensures states { result.states.items ≡ [] }
+    {
+        Fork {
+            blocks: Vec::new(alloc),
+            states: Vec::new(alloc),
+        }
     }
-    longer.push(block.try_clone()?)?;
-    Ok(longer)
+
+    /// The fork with the block after it, which makes this state. Shares blocks and states, and copies none of their
+    /// bytes.
+    fn with_block(
+        &self,
+        alloc: Global,
+        block: &CheckedBlock<S>,
+        after: LedgerState,
+    ) -> Result<Fork<S>, AllocError>
+        ensures { IfOk result (λ longer. fork_of longer ≡ longer_by (fork_of self.now) block.now after) }
+    {
+        let mut longer = Fork::new(alloc);
+        share_blocks(&mut longer.blocks, &self.blocks)?;
+        share_states(&mut longer.states, &self.states)?;
+        longer.blocks.push(block.try_clone()?)?;
+        longer.states.push(after)?;
+        Ok(longer)
+    }
+}
+
+/// Puts one more owner of each of these blocks to the end of the others.
+fn share_blocks<S: SigScheme>(
+    to: &mut Vec<CheckedBlock<S>>,
+    from: &[CheckedBlock<S>],
+) -> Result<(), AllocError>
+    ensures { OnOk result (to.new.items ≡ to.old.items ++ from.now) }
+{
+    for block in from {
+        to.push(block.try_clone()?)?;
+    }
+    Ok(())
+}
+
+/// Puts a copy of each of these states, which shares its outputs, to the end of the others.
+fn share_states(to: &mut Vec<LedgerState>, from: &[LedgerState]) -> Result<(), AllocError>
+    ensures { OnOk result (to.new.items ≡ to.old.items ++ from.now) }
+{
+    for state in from {
+        to.push(state.try_clone()?)?;
+    }
+    Ok(())
 }
 
 /// Puts all that one of the kept blocks makes of the fork to the end of the longer forks.
-fn grow_fork(
+fn grow_fork<S: SigScheme>(
     alloc: Global,
-    genesis: &Genesis,
-    kept: &[Block],
-    from: &Tip,
-    fork: &[Block],
-    longer: &mut Vec<Vec<Block>>,
+    kept: &[CheckedBlock<S>],
+    from: &LedgerState,
+    fork: &Fork<S>,
+    longer: &mut Vec<Fork<S>>,
 ) -> Result<(), AllocError>
-    ensures { OnOk result ((more : List (List Plain)) × (forks_of longer.new.items ≡ forks_of longer.old.items ++ more)
-        × AreOneLonger (genesis_of genesis.now) kept.now (tip_of from.now) fork.now more) }
+    ensures { OnOk result ((more : List Plain) × (forks_of longer.new.items ≡ forks_of longer.old.items ++ more)
+        × AreOneLonger S.verifies kept.now from.now (fork_of fork.now) more) }
 {
-    let tip = from.after(fork);
+    let tip = end_state(from, &fork.states);
     for block in kept {
-        if goes_on(genesis, &tip, block) {
-            longer.push(with_block(alloc, fork, block)?)?;
+        match apply_block(tip, block) {
+            Ok(after) => longer.push(fork.with_block(alloc, block, after)?)?,
+            Err(ApplyFault::Refused(_)) => {}
+            Err(ApplyFault::OutOfMemory) => return Err(AllocError),
         }
     }
     Ok(())
 }
 
 /// All forks that are one block longer than these.
-fn grow(
+fn grow<S: SigScheme>(
     alloc: Global,
-    genesis: &Genesis,
-    kept: &[Block],
-    from: &Tip,
-    forks: &[Vec<Block>],
-) -> Result<Vec<Vec<Block>>, AllocError>
-    ensures { IfOk result (λ longer. AreGrown (genesis_of genesis.now) kept.now (tip_of from.now) (forks_of forks.now)
-        (forks_of longer.items)) }
+    kept: &[CheckedBlock<S>],
+    from: &LedgerState,
+    forks: &[Fork<S>],
+) -> Result<Vec<Fork<S>>, AllocError>
+    ensures { IfOk result (λ longer.
+        AreGrown S.verifies kept.now from.now (forks_of forks.now) (forks_of longer.items)) }
 {
     let mut longer = Vec::new(alloc);
     for fork in forks {
-        grow_fork(alloc, genesis, kept, from, fork, &mut longer)?;
+        grow_fork(alloc, kept, from, fork, &mut longer)?;
     }
     Ok(longer)
 }
 
 /// The greatest number of these blocks, and 0 where there are none.
-fn greatest_number(blocks: &[Block]) -> u64
+fn greatest_number<S: SigScheme>(blocks: &[CheckedBlock<S>]) -> u64
     ensures { AllByRecursion (λ b. b.header.number ≤ result) blocks.now }
 {
     let mut greatest = 0;
@@ -89,19 +134,17 @@ fn greatest_number(blocks: &[Block]) -> u64
 }
 
 /// All forks of the greatest length that any has. Takes time that grows with the number of forks times that of
-/// kept blocks.
-pub fn longest_forks(
+/// kept blocks, and applies a block once for each fork that it makes longer.
+pub fn longest_forks<S: SigScheme>(
     alloc: Global,
-    genesis: &Genesis,
-    kept: &[Block],
-    from: &Tip,
-) -> Result<Vec<Vec<Block>>, AllocError>
-    ensures { IfOk result (λ forks. (n : ℕ)
-        × AreLongest (genesis_of genesis.now) kept.now (tip_of from.now) n (forks_of forks.items)) }
+    kept: &[CheckedBlock<S>],
+    from: &LedgerState,
+) -> Result<Vec<Fork<S>>, AllocError>
+    ensures { IfOk result (λ forks. (n : ℕ) × AreLongest S.verifies kept.now from.now n (forks_of forks.items)) }
 {
-    let mut longest = vec![in alloc; Vec::new(alloc)]?;
-    for _ in from.number..greatest_number(kept) {
-        let longer = grow(alloc, genesis, kept, from, &longest)?;
+    let mut longest = vec![in alloc; Fork::new(alloc)]?;
+    for _ in from.tip().number..greatest_number(kept) {
+        let longer = grow(alloc, kept, from, &longest)?;
         if longer.is_empty() {
             return Ok(longest);
         }

@@ -1,33 +1,45 @@
 //! A block that is kept.
 
 ghost use Rattle.std.specs.Prelude.{◌≡◌, ◌++◌, [], ◌∷◌, IfOk, OnOk, OnErr};
+ghost use Rattle.model.specs.Ledger.{network_of};
 ghost use Rattle.model.specs.Chain.{IsSelection};
 ghost use Rattle.model.specs.History.{IsChange};
-ghost use Rattle.chain_core.specs.Views.{genesis_of};
+ghost use Rattle.model.specs.Applying.{opening_state, AreStates};
 ghost use Rattle.chain_core.specs.Held.{IsSound};
 
-use crate::genesis::Genesis;
+use crate::selected::Selected;
 use crate::selection::{Change, select};
-use block::Block;
+use block::CheckedBlock;
+use genesis::Genesis;
 use std::alloc::{AllocError, Global};
+use witness_pool::SigScheme;
 
 /// Keeps the block, and selects the chain anew. Where memory runs out nothing changes.
-pub fn keep(
+pub fn keep<S: SigScheme>(
     alloc: Global,
     genesis: &Genesis,
-    kept: &mut Vec<Block>,
-    chain: &mut Vec<Block>,
-    block: Block,
+    kept: &mut Vec<CheckedBlock<S>>,
+    selected: &mut Selected<S>,
+    block: CheckedBlock<S>,
 ) -> Result<Change, AllocError>
-    requires { IsSound (genesis_of genesis.now) (kept.old.items ++ block ∷ []) chain.old.items }
+    requires sound { IsSound (network_of genesis.now S.verifies) (kept.old.items ++ block ∷ [])
+        selected.old.chain.items }
+    requires opening { selected.old.opening ≡ opening_state genesis.now }
+    requires states { AreStates S.verifies selected.old.opening selected.old.chain.items selected.old.states.items }
     ensures kept { OnOk result (kept.new.items ≡ kept.old.items ++ block ∷ []) }
-    ensures selected { OnOk result
-        (IsSelection (genesis_of genesis.now) kept.new.items chain.old.items chain.new.items) }
-    ensures change { IfOk result (λ change. IsChange chain.old.items chain.new.items change.back change.added) }
-    ensures err { OnErr result ((kept.new.items ≡ kept.old.items) × (chain.new.items ≡ chain.old.items)) }
+    ensures selected { OnOk result (IsSelection (network_of genesis.now S.verifies) kept.new.items
+        selected.old.chain.items selected.new.chain.items) }
+    ensures states { OnOk result
+        (AreStates S.verifies selected.new.opening selected.new.chain.items selected.new.states.items) }
+    ensures opening { selected.new.opening ≡ selected.old.opening }
+    ensures change { IfOk result (λ change.
+        IsChange selected.old.chain.items selected.new.chain.items change.back change.added) }
+    ensures err { OnErr result ((kept.new.items ≡ kept.old.items)
+        × (selected.new.chain.items ≡ selected.old.chain.items)
+        × (selected.new.states.items ≡ selected.old.states.items)) }
 {
     kept.push(block)?;
-    match select(alloc, genesis, kept, chain) {
+    match select(alloc, genesis, kept, selected) {
         Ok(change) => Ok(change),
         Err(e) => {
             let _ = kept.pop();

@@ -5,15 +5,13 @@ mod arrival;
 mod event;
 mod follower;
 mod fork;
-mod genesis;
 mod keeping;
 mod node_core;
 mod refusal;
+mod selected;
 mod selection;
-mod tip;
 
 pub use arrival::{ArriveReply, Refusal};
 pub use event::{RawEvent, Reply};
 pub use follower::{FollowerId, Instruction, NextFault, OpenFault};
-pub use genesis::Genesis;
 pub use node_core::Core;

@@ -5,18 +5,22 @@ use crate::event::{RawEvent, Reply};
 use crate::follower::{
     FollowerId, Instruction, NextFault, OpenFault, open_follower, tell_follower,
 };
-use crate::genesis::Genesis;
 use crate::keeping::keep;
 use crate::refusal::first_refusal;
-use block::{Block, NoBlock};
+use crate::selected::Selected;
+use block::{CheckedBlock, NoBlock};
+use genesis::Genesis;
 use ident::Point;
+use ledger::LedgerState;
 use std::alloc::{AllocError, Global};
 use std::marker::Model;
+use utxo_rules::Utxo;
+use witness_pool::SigScheme;
 
 /// The node's chain, from the bytes of blocks in any order.
 ///
 /// ```text
-/// let mut core = Core::new(alloc, Genesis { k: 2160, max_volatile: 10_000, max_body_size: 90_112 });
+/// let mut core = Core::<TestScheme>::new(alloc, Genesis::from_toml(alloc, &text)?)?;
 /// match core.arrive(&bytes)? {
 ///     ArriveReply::Kept { back, added } => .., // of the selected chain so many are rolled back and put on
 ///     ArriveReply::Refused(refusal) => ..,     // the first of seven reasons that applies
@@ -25,15 +29,15 @@ use std::marker::Model;
 ///
 /// The core keeps one plain list of all kept blocks, the selected chain, and what each follower was told.
 #[derive(Drop)]
-pub struct Core {
+pub struct Core<S: SigScheme> {
     alloc: Global,
     genesis: Genesis,
-    kept: Vec<Block>,
-    chain: Vec<Block>,
-    followers: Vec<Vec<Block>>,
+    kept: Vec<CheckedBlock<S>>,
+    selected: Selected<S>,
+    followers: Vec<Vec<CheckedBlock<S>>>,
 }
 
-impl Model for Core {
+impl<S: SigScheme> Model for Core<S> {
     ghost use Rattle.chain_core.specs.Held.{Held, coded_held};
 
     ghost Value = { Held };
@@ -44,34 +48,41 @@ impl Model for Core {
 
     ghost view = { held };
 
-    ghost invariant = { IsSoundInside };
+    ghost invariant = { IsSoundInside S.verifies };
 }
 
-impl Core {
-    ghost use Rattle.std.specs.Prelude.{◌≡◌, ◌<◌, ◌≤◌, [], length, IfOk, IfErr, OnErr};
+impl<S: SigScheme> Core<S> {
+    ghost use Rattle.std.specs.Prelude.{◌≡◌, ◌<◌, ◌≤◌, [], length, Some, IfOk, IfErr, OnErr};
     ghost use Rattle.model.specs.Block.{Block as Plain, SpellsBlock};
     ghost use Rattle.model.specs.Chain.{tip_point};
+    ghost use Rattle.model.specs.Ledger.{Ledger, network_of, ledger_of};
     ghost use Rattle.model.specs.Limits.{block_size_limit, follower_limit};
     ghost use Rattle.model.specs.Follower.{free_id};
     ghost use Rattle.model.specs.History as history;
     ghost use Rattle.model.specs.History.{State, Arrive, Open, Next, Step, IsRun, ChainTheorem, Applies};
     ghost use Rattle.ident.specs.PointView.{point_of};
-    ghost use Rattle.chain_core.specs.Views.{genesis_of, event_of, reply_of, arrive_reply_of, open_reply_of};
+    ghost use Rattle.chain_core.specs.Views.{event_of, reply_of, arrive_reply_of, open_reply_of};
     ghost use Rattle.chain_core.specs.Views.{next_reply_of, instruction_of, history_of, IsReplyTo, AreRepliesTo};
     ghost use Rattle.chain_core.specs.FollowerCalls.{HasDue, IsNextFor};
     ghost use Rattle.chain_core.specs.Held.{opening_held, Stands};
 
-    /// A core before anything arrived: the selected chain is empty. Takes no memory before the first block.
-    pub fn new(alloc: Global, genesis: Genesis) -> Core
-        ensures { result ≡ opening_held (genesis_of genesis) }
+    /// A core before anything arrived: the selected chain is empty, and the unspent outputs are those of the genesis.
+    /// Err where memory runs out for these.
+    pub fn new(alloc: Global, genesis: Genesis) -> Result<Core<S>, AllocError>
+        ensures { IfOk result (λ core. core ≡ opening_held genesis) }
     {
-        Core {
+        let opening = LedgerState::new(alloc, &genesis)?;
+        Ok(Core {
             alloc,
             genesis,
             kept: Vec::new(alloc),
-            chain: Vec::new(alloc),
+            selected: Selected {
+                opening,
+                chain: Vec::new(alloc),
+                states: Vec::new(alloc),
+            },
             followers: Vec::new(alloc),
-        }
+        })
     }
 
     /// Bytes of a block arrive. They are refused for the first reason that applies, or the block is kept and
@@ -83,7 +94,8 @@ impl Core {
     pub fn arrive(&mut self, bytes: &[u8]) -> Result<ArriveReply, AllocError>
         // For every state of the definitions that the core stands for, this is a step to one that it then stands for.
         ensures step { (s : State) → Stands self.old s → (t : State)
-            × Step self.old.genesis s (Arrive bytes.now) (arrive_reply_of result) t × Stands self.new t }
+            × Step (network_of self.old.genesis S.verifies) s (Arrive bytes.now) (arrive_reply_of result) t
+            × Stands self.new t }
         // Memory is asked for while transactions are read, and else only where no refusal applies.
         ensures memory { OnErr result ((b : Plain) → SpellsBlock b bytes.now → b.transactions ≡ [] →
             (s : State) → Stands self.old s → (refusal : history.Refusal) →
@@ -101,15 +113,20 @@ impl Core {
             }
             Err(NoBlock::OutOfMemory) => return Err(AllocError),
         };
-        if let Some(refusal) = first_refusal(&self.genesis, &self.kept, &self.chain, &found) {
+        if let Some(refusal) = first_refusal(
+            &self.genesis,
+            &self.kept,
+            &self.selected.chain,
+            &found,
+        ) {
             return Ok(ArriveReply::Refused(refusal));
         }
-        let block = found.into_block(self.alloc)?;
+        let block = found.into_checked_block(self.alloc)?;
         let change = keep(
             self.alloc,
             &self.genesis,
             &mut self.kept,
-            &mut self.chain,
+            &mut self.selected,
             block,
         )?;
         Ok(ArriveReply::Kept {
@@ -122,7 +139,8 @@ impl Core {
     /// there are 1,024, or memory runs out, nothing changes.
     pub fn open(&mut self) -> Result<FollowerId, OpenFault>
         ensures step { (s : State) → Stands self.old s → (t : State)
-            × Step self.old.genesis s Open (open_reply_of result) t × Stands self.new t }
+            × Step (network_of self.old.genesis S.verifies) s Open (open_reply_of result) t
+            × Stands self.new t }
         // Memory is asked for only where a number is free.
         ensures memory { IfErr result (λ e. e ≡ OpenFault.OutOfMemory → free_id self.old.followers < follower_limit) }
         ensures genesis { self.new.genesis ≡ self.old.genesis }
@@ -137,9 +155,10 @@ impl Core {
     ///
     /// Where no such follower is open, or memory runs out, nothing changes. Takes no memory where it answers nothing.
     /// Compares what was told with the chain, block by block. Shares the block, and copies none of its bytes.
-    pub fn next(&mut self, id: FollowerId) -> Result<Option<Instruction>, NextFault>
+    pub fn next(&mut self, id: FollowerId) -> Result<Option<Instruction<S>>, NextFault>
         ensures step { (s : State) → Stands self.old s → (t : State)
-            × Step self.old.genesis s (Next id.number) (next_reply_of result) t × Stands self.new t }
+            × Step (network_of self.old.genesis S.verifies) s (Next id.number) (next_reply_of result) t
+            × Stands self.new t }
         // Where what the follower was told is a proper beginning of the selected chain, the instruction is its next
         // block; else there is none.
         ensures next { IfOk result (λ instruction. IsNextFor self.old.chain self.old.followers id.number
@@ -150,13 +169,14 @@ impl Core {
         ensures genesis { self.new.genesis ≡ self.old.genesis }
         ensures err { OnErr result (self.new ≡ self.old) }
     {
-        tell_follower(&self.chain, &mut self.followers, id)
+        tell_follower(&self.selected.chain, &mut self.followers, id)
     }
 
     /// Answers one event.
-    fn answer(&mut self, event: &RawEvent) -> Reply
+    fn answer(&mut self, event: &RawEvent) -> Reply<S>
         ensures step { (s : State) → Stands self.old s → (t : State)
-            × Step self.old.genesis s (event_of event.now) (reply_of result) t × Stands self.new t }
+            × Step (network_of self.old.genesis S.verifies) s (event_of event.now) (reply_of result) t
+            × Stands self.new t }
         ensures kind { IsReplyTo event.now result }
         ensures genesis { self.new.genesis ≡ self.old.genesis }
     {
@@ -169,16 +189,18 @@ impl Core {
 
     /// Answers events in their order, one reply to each. Room for the replies is taken first: where memory runs
     /// out there, no event has come.
-    pub fn run(&mut self, events: &[RawEvent]) -> Result<Vec<Reply>, AllocError>
+    pub fn run(&mut self, events: &[RawEvent]) -> Result<Vec<Reply<S>>, AllocError>
         // Each event has a reply of its kind.
         ensures kinds { IfOk result (λ replies. AreRepliesTo events.now replies.items) }
         // For every state of the definitions that the core stands for, the events with the replies are a run to one
         // that it then stands for.
         ensures run { IfOk result (λ replies. (s : State) → Stands self.old s → (t : State)
-            × IsRun self.old.genesis s (history_of events.now replies.items) t × Stands self.new t) }
+            × IsRun (network_of self.old.genesis S.verifies) s (history_of events.now replies.items) t
+            × Stands self.new t) }
         // From a new core on, the chain theorem.
         ensures theorem { IfOk result (λ replies. self.old ≡ opening_held self.old.genesis → (t : State)
-            × ChainTheorem self.old.genesis (history_of events.now replies.items) t × Stands self.new t) }
+            × ChainTheorem (network_of self.old.genesis S.verifies) (history_of events.now replies.items) t
+            × Stands self.new t) }
         ensures genesis { self.new.genesis ≡ self.old.genesis }
         ensures err { OnErr result (self.new ≡ self.old) }
     {
@@ -194,9 +216,26 @@ impl Core {
     pub fn tip(&self) -> Point
         ensures { point_of result ≡ tip_point self.now.chain }
     {
-        match self.chain.last() {
+        match self.selected.chain.last() {
             Some(block) => block.point(),
             None => Point::genesis(),
         }
+    }
+
+    /// The unspent outputs of the selected chain. Takes no memory.
+    pub fn utxo(&self) -> &Utxo
+        // They are those of the fold of the rules over the chain.
+        ensures { (ledger : Ledger) × (ledger_of (network_of self.now.genesis S.verifies) self.now.chain ≡ Some ledger)
+            × (result.now ≡ ledger.utxo) }
+    {
+        self.selected.state().utxo()
+    }
+
+    /// The fees of all transactions of the selected chain, in lovelace. Takes no memory.
+    pub fn fees(&self) -> u64
+        ensures { (ledger : Ledger) × (ledger_of (network_of self.now.genesis S.verifies) self.now.chain ≡ Some ledger)
+            × (result ≡ ledger.fees) }
+    {
+        self.selected.state().fees()
     }
 }

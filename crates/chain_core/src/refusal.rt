@@ -7,24 +7,24 @@ ghost use Rattle.model.specs.Block.{Block as Plain, block_hash_of, block_text};
 ghost use Rattle.model.specs.Chain.{live_blocks};
 ghost use Rattle.model.specs.History.{Applies, IsRefused};
 ghost use Rattle.model.specs.History as history;
-ghost use Rattle.chain_core.specs.Views.{genesis_of};
 ghost use Rattle.chain_core.specs.Views.{refusal_of};
 ghost use Rattle.chain_core.specs.Judgements.{IsClash, IsJudged};
 
 use crate::arrival::Refusal;
-use crate::genesis::Genesis;
 use crate::selection::immutable_length;
-use block::{Block, BlockRef};
+use block::{BlockRef, CheckedBlock};
+use genesis::Genesis;
+use witness_pool::SigScheme;
 
 /// Whether the two blocks have the same hash and different texts.
-fn clashes(block: &Block, other: &BlockRef<'_>) -> bool
+fn clashes<S: SigScheme>(block: &CheckedBlock<S>, other: &BlockRef<'_>) -> bool
     ensures { IsTrue result ↔ IsClash block.now other.now }
 {
     block.hash() == other.hash() && !other.has_text_of(block)
 }
 
 /// Whether a block past this number has the same text.
-fn is_known(immutable: u64, kept: &[Block], block: &BlockRef<'_>) -> bool
+fn is_known<S: SigScheme>(immutable: u64, kept: &[CheckedBlock<S>], block: &BlockRef<'_>) -> bool
     ensures { IsTrue result ↔ Any (λ c. (immutable < c.header.number)
         × (block_text c ≡ block_text block.now)) kept.now }
 {
@@ -37,7 +37,11 @@ fn is_known(immutable: u64, kept: &[Block], block: &BlockRef<'_>) -> bool
 }
 
 /// Whether a block past this number clashes with the block.
-fn has_live_clash(immutable: u64, kept: &[Block], block: &BlockRef<'_>) -> bool
+fn has_live_clash<S: SigScheme>(
+    immutable: u64,
+    kept: &[CheckedBlock<S>],
+    block: &BlockRef<'_>,
+) -> bool
     ensures { IsTrue result ↔ Any (λ c. (immutable < c.header.number) × IsClash c block.now) kept.now }
 {
     for other in kept {
@@ -49,7 +53,7 @@ fn has_live_clash(immutable: u64, kept: &[Block], block: &BlockRef<'_>) -> bool
 }
 
 /// Whether a block of the chain clashes with the block.
-fn has_clash(chain: &[Block], block: &BlockRef<'_>) -> bool
+fn has_clash<S: SigScheme>(chain: &[CheckedBlock<S>], block: &BlockRef<'_>) -> bool
     ensures { IsTrue result ↔ Any (λ c. IsClash c block.now) chain.now }
 {
     for other in chain {
@@ -61,7 +65,7 @@ fn has_clash(chain: &[Block], block: &BlockRef<'_>) -> bool
 }
 
 /// How many blocks are past this number.
-fn live_count(immutable: u64, kept: &[Block]) -> usize
+fn live_count<S: SigScheme>(immutable: u64, kept: &[CheckedBlock<S>]) -> usize
     ensures { result ≡ length (filter (λ b. nat_lt immutable b.header.number) kept.now) }
 {
     kept.iter()
@@ -71,13 +75,13 @@ fn live_count(immutable: u64, kept: &[Block]) -> usize
 
 /// Why the block is not kept: the first reason that applies, if any does. Takes time that grows with the kept
 /// blocks, and no memory.
-pub fn first_refusal(
+pub fn first_refusal<S: SigScheme>(
     genesis: &Genesis,
-    kept: &[Block],
-    chain: &[Block],
+    kept: &[CheckedBlock<S>],
+    chain: &[CheckedBlock<S>],
     block: &BlockRef<'_>,
 ) -> Option<Refusal>
-    ensures { IsJudged (genesis_of genesis.now)
+    ensures { IsJudged genesis.now
         (record { kept = kept.now; chain = chain.now; followers = [] }) block.now (option_map refusal_of result) }
 {
     let immutable = immutable_length(genesis, chain) as u64;
@@ -93,7 +97,7 @@ pub fn first_refusal(
     if has_clash(chain, block) {
         return Some(Refusal::Clash);
     }
-    if live_count(immutable, kept) as u64 >= genesis.max_volatile {
+    if live_count(immutable, kept) as u64 >= genesis.max_volatile() {
         return Some(Refusal::VolatileFull);
     }
     None

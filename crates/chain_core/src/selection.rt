@@ -10,26 +10,28 @@ ghost use Rattle.model.specs.Block.{Block as Plain, block_hash_of};
 ghost use Rattle.model.specs.Chain.{tip_hash, IsSelection, immutable_length as immutable_count, immutable_part};
 ghost use Rattle.model.specs.Chain as chain;
 ghost use Rattle.model.specs.History.{IsCommonLength, IsChange};
-ghost use Rattle.chain_core.specs.Forks.{IsLeast, IsChosenFork, immutable_tip as end_of_immutable};
-ghost use Rattle.chain_core.specs.Forks.{forks_of};
-ghost use Rattle.chain_core.specs.Views.{genesis_of};
-ghost use Rattle.chain_core.specs.Views.{tip_of};
+ghost use Rattle.chain_core.specs.Forks.{IsLeast, IsChosenFork};
+ghost use Rattle.model.specs.Ledger.{network_of};
+ghost use Rattle.model.specs.Applying.{opening_state, last_state, AreStates, IsStateOf};
+ghost use Rattle.chain_core.specs.ForkViews.{fork_of, forks_of};
 ghost use Rattle.chain_core.specs.Held.{IsSound};
 
-use crate::fork::longest_forks;
-use crate::genesis::Genesis;
-use crate::tip::Tip;
-use block::Block;
+use crate::fork::{Fork, longest_forks};
+use crate::selected::Selected;
+use block::CheckedBlock;
+use genesis::Genesis;
 use ident::BlockHash;
+use ledger::LedgerState;
 use std::alloc::{AllocError, Global};
+use witness_pool::SigScheme;
 
 /// How many blocks of the chain are never rolled back.
-pub fn immutable_length(genesis: &Genesis, chain: &[Block]) -> usize
-    ensures count { result ≡ immutable_count (genesis_of genesis.now) chain.now }
+pub fn immutable_length<S: SigScheme>(genesis: &Genesis, chain: &[CheckedBlock<S>]) -> usize
+    ensures count { result ≡ immutable_count genesis.now chain.now }
     ensures within { result ≤ length chain.now }
 {
-    if genesis.k < chain.len() as u64 {
-        chain.len() - genesis.k as usize
+    if genesis.k() < chain.len() as u64 {
+        chain.len() - genesis.k() as usize
     } else {
         0
     }
@@ -50,7 +52,7 @@ fn is_same(hash: BlockHash, other: BlockHash) -> bool
 }
 
 /// Whether the last block of the one fork has a lesser hash than that of the other.
-fn ends_lesser(fork: &[Block], other: &[Block]) -> bool
+fn ends_lesser<S: SigScheme>(fork: &[CheckedBlock<S>], other: &[CheckedBlock<S>]) -> bool
     requires some { fork.now ≢ [] }
     requires others { other.now ≢ [] }
     ensures { IsTrue result ↔ (slice_cmp nat_cmp (tip_hash fork.now) (tip_hash other.now) ≡ Less) }
@@ -62,7 +64,7 @@ fn ends_lesser(fork: &[Block], other: &[Block]) -> bool
 }
 
 /// How many blocks two forks have in common, from the first one on.
-fn common_length(old: &[Block], new: &[Block]) -> usize
+fn common_length<S: SigScheme>(old: &[CheckedBlock<S>], new: &[CheckedBlock<S>]) -> usize
     requires { (b c : Plain) → Contains old.now b → Contains new.now c → block_hash_of b ≡ block_hash_of c → b ≡ c }
     ensures { IsCommonLength old.now new.now result }
 {
@@ -76,75 +78,71 @@ fn common_length(old: &[Block], new: &[Block]) -> usize
 }
 
 /// How long these forks are, which all are as long.
-fn fork_length(forks: &[Vec<Block>]) -> usize
-    ensures { (n : ℕ) → forks_of forks.now ≢ [] → AllByRecursion (λ fork. length fork ≡ n) (forks_of forks.now)
+fn fork_length<S: SigScheme>(forks: &[Fork<S>]) -> usize
+    ensures { (n : ℕ) → forks_of forks.now ≢ [] → AllByRecursion (λ fork. length fork.blocks ≡ n) (forks_of forks.now)
         → result ≡ n }
 {
     match forks.first() {
-        Some(fork) => fork.len(),
+        Some(fork) => fork.blocks.len(),
         None => 0,
     }
 }
 
 /// The fork whose last block has the least hash, if there are any.
-fn least_fork(mut forks: Vec<Vec<Block>>) -> Option<Vec<Block>>
-    requires { AllByRecursion (λ fork. fork ≢ []) (forks_of forks.items) }
-    ensures some { IfSome result (λ fork. Contains (forks_of forks.items) fork.items
-        × IsLeast (forks_of forks.items) fork.items) }
+fn least_fork<S: SigScheme>(mut forks: Vec<Fork<S>>) -> Option<Fork<S>>
+    requires { AllByRecursion (λ fork. fork.blocks ≢ []) (forks_of forks.items) }
+    ensures some { IfSome result (λ fork. Contains (forks_of forks.items) (fork_of fork)
+        × IsLeast (forks_of forks.items) (fork_of fork)) }
     ensures none { IfNone result (forks_of forks.items ≡ []) }
 {
     let mut least = forks.pop()?;
     while let Some(fork) = forks.pop() {
-        if ends_lesser(&fork, &least) {
+        if ends_lesser(&fork.blocks, &least.blocks) {
             least = fork;
         }
     }
     Some(least)
 }
 
-/// Cuts the chain back to its first `keep` blocks, and puts on the fork but for its first `common`.
-fn switch_to(
-    chain: &mut Vec<Block>,
-    keep: usize,
-    mut fork: Vec<Block>,
-    common: usize,
-) -> Result<(), AllocError>
-    requires keep { keep ≤ length chain.old.items }
-    requires common { common ≤ length fork.items }
-    ensures ok { OnOk result (chain.new.items ≡ take keep chain.old.items ++ drop common fork.items) }
-    ensures err { OnErr result (chain.new.items ≡ chain.old.items) }
-{
-    let mut added = fork.split_off(common)?;
-    chain.reserve(added.len())?;
-    chain.truncate(keep);
-    chain.append(&mut added)
-}
-
-/// Where the immutable part of the chain ends.
-fn immutable_tip(genesis: &Genesis, chain: &[Block]) -> Tip
-    ensures { tip_of result ≡ end_of_immutable (genesis_of genesis.now) chain.now }
-{
-    Tip::genesis().after(&chain[..immutable_length(genesis, chain)])
-}
-
 /// The fork that the selection rule puts after the immutable part, if the chain is not to stay.
-fn chosen_fork(
+fn chosen_fork<S: SigScheme>(
     alloc: Global,
     genesis: &Genesis,
-    kept: &[Block],
-    chain: &[Block],
-) -> Result<Option<Vec<Block>>, AllocError>
-    requires { IsSound (genesis_of genesis.now) kept.now chain.now }
+    kept: &[CheckedBlock<S>],
+    chain: &[CheckedBlock<S>],
+    from: &LedgerState,
+) -> Result<Option<Fork<S>>, AllocError>
+    requires sound { IsSound (network_of genesis.now S.verifies) kept.now chain.now }
+    requires from { IsStateOf (network_of genesis.now S.verifies) (immutable_part genesis.now chain.now) from.now }
     ensures { IfOk result (λ found. MatchOption found
-        (IsSelection (genesis_of genesis.now) kept.now chain.now chain.now)
-        (λ fork. IsChosenFork (genesis_of genesis.now) kept.now chain.now fork.items)) }
+        (IsSelection (network_of genesis.now S.verifies) kept.now chain.now chain.now)
+        (λ fork. IsChosenFork (network_of genesis.now S.verifies) kept.now chain.now from.now (fork_of fork))) }
 {
-    let from = immutable_tip(genesis, chain);
-    let forks = longest_forks(alloc, genesis, kept, &from)?;
+    let forks = longest_forks(alloc, kept, from)?;
     if fork_length(&forks) <= chain.len() - immutable_length(genesis, chain) {
         return Ok(None);
     }
     Ok(least_fork(forks))
+}
+
+/// The fork to which the selected chain is to switch, if it is not to stay.
+fn better_fork<S: SigScheme>(
+    alloc: Global,
+    genesis: &Genesis,
+    kept: &[CheckedBlock<S>],
+    selected: &Selected<S>,
+) -> Result<Option<Fork<S>>, AllocError>
+    requires sound { IsSound (network_of genesis.now S.verifies) kept.now selected.now.chain.items }
+    requires opening { selected.now.opening ≡ opening_state genesis.now }
+    requires states { AreStates S.verifies selected.now.opening selected.now.chain.items selected.now.states.items }
+    ensures { IfOk result (λ found. MatchOption found
+        (IsSelection (network_of genesis.now S.verifies) kept.now selected.now.chain.items selected.now.chain.items)
+        (λ fork. IsChosenFork (network_of genesis.now S.verifies) kept.now selected.now.chain.items
+        (last_state selected.now.opening
+        (take (immutable_count genesis.now selected.now.chain.items) selected.now.states.items)) (fork_of fork))) }
+{
+    let from = selected.state_after(immutable_length(genesis, &selected.chain));
+    chosen_fork(alloc, genesis, kept, &selected.chain, from)
 }
 
 /// How many blocks of the old chain were rolled back, and how many of the new one put on.
@@ -154,27 +152,34 @@ pub struct Change {
     pub added: u64,
 }
 
-/// Makes the chain what the selection rule says over the kept blocks. Where memory runs out it stays.
-pub fn select(
+/// Makes the chain what the selection rule says over the kept blocks, with its states. Where memory runs out it stays.
+pub fn select<S: SigScheme>(
     alloc: Global,
     genesis: &Genesis,
-    kept: &[Block],
-    chain: &mut Vec<Block>,
+    kept: &[CheckedBlock<S>],
+    selected: &mut Selected<S>,
 ) -> Result<Change, AllocError>
-    requires { IsSound (genesis_of genesis.now) kept.now chain.old.items }
-    ensures ok { IfOk result (λ change. IsSelection (genesis_of genesis.now) kept.now chain.old.items chain.new.items
-        × IsChange chain.old.items chain.new.items change.back change.added) }
-    ensures err { OnErr result (chain.new.items ≡ chain.old.items) }
+    requires sound { IsSound (network_of genesis.now S.verifies) kept.now selected.old.chain.items }
+    requires opening { selected.old.opening ≡ opening_state genesis.now }
+    requires states { AreStates S.verifies selected.old.opening selected.old.chain.items selected.old.states.items }
+    ensures ok { IfOk result (λ change.
+        IsSelection (network_of genesis.now S.verifies) kept.now selected.old.chain.items selected.new.chain.items
+        × IsChange selected.old.chain.items selected.new.chain.items change.back change.added) }
+    ensures states { OnOk result
+        (AreStates S.verifies selected.new.opening selected.new.chain.items selected.new.states.items) }
+    ensures opening { selected.new.opening ≡ selected.old.opening }
+    ensures err { OnErr result ((selected.new.chain.items ≡ selected.old.chain.items)
+        × (selected.new.states.items ≡ selected.old.states.items)) }
 {
-    let Some(fork) = chosen_fork(alloc, genesis, kept, chain)? else {
+    let Some(fork) = better_fork(alloc, genesis, kept, selected)? else {
         return Ok(Change { back: 0, added: 0 });
     };
-    let immutable = immutable_length(genesis, chain);
-    let common = common_length(&chain[immutable..], &fork);
+    let immutable = immutable_length(genesis, &selected.chain);
+    let common = common_length(&selected.chain[immutable..], &fork.blocks);
     let change = Change {
-        back: (chain.len() - immutable - common) as u64,
-        added: (fork.len() - common) as u64,
+        back: (selected.chain.len() - immutable - common) as u64,
+        added: (fork.blocks.len() - common) as u64,
     };
-    switch_to(chain, immutable + common, fork, common)?;
+    selected.switch_to(immutable + common, fork, common)?;
     Ok(change)
 }

@@ -35,11 +35,11 @@ pub struct Genesis {
 
 impl Model for Genesis {
     ghost use Rattle.model.specs.Genesis.{Genesis};
-    ghost use Rattle.model.specs.Codes.{coded_configuration};
+    ghost use Rattle.model.specs.Codes.{coded_genesis};
 
     ghost Value = { Genesis };
 
-    ghost coded = { coded_configuration };
+    ghost coded = { coded_genesis };
 
     ghost use Rattle.genesis.specs.Held.{genesis_view, IsHeldGenesis};
 

@@ -4,7 +4,9 @@ use Rattle.std.specs.Prelude.{unwrap_or}
 use Rattle.std.specs.List.{AllByRecursion}
 use Rattle.std.proofs.lemmas.List.{length-take, take_all, take-take}
 use Rattle.model.specs.Block.{Block, block_hash_of}
-use Rattle.model.specs.Chain.{Genesis, Tip, tip_at, genesis_tip, tip_after, tip_hash, IsLinked, HaveDistinctHashes, immutable_length, immutable_part, BeginsWith, IsCandidate}
+use Rattle.model.specs.Genesis.{Genesis}
+use Rattle.model.specs.Ledger.{Network}
+use Rattle.model.specs.Chain.{Tip, tip_at, genesis_tip, tip_after, tip_hash, IsLinked, HaveDistinctHashes, immutable_length, immutable_part, BeginsWith, IsCandidate}
 use Rattle.model.proofs.Lists.{all_of_member, all_weaker, contains_cases}
 
 -- ---- tips and numbers
@@ -99,6 +101,6 @@ begins_earlier genesis old new c longer new_begins c_begins =
     ap (λ j. take j c) (length_immutable genesis old) ∙ (sym (take-take m n c le) ∙ (ap (take m) c_at ∙ (take-take m n new le ∙ new_at)))
 
 -- a candidate through the new immutable tip is one through the old one
-pub older_candidate : (genesis : Genesis) (kept old new c : List Block) → length old ≤ length new → BeginsWith new (immutable_part genesis old) → IsCandidate genesis kept new c → IsCandidate genesis kept old c
-older_candidate genesis kept old new c longer begins candidate =
-    record { valid = candidate.valid; members = candidate.members; begins = begins_earlier genesis old new c longer begins candidate.begins }
+pub older_candidate : (network : Network) (kept old new c : List Block) → length old ≤ length new → BeginsWith new (immutable_part network.genesis old) → IsCandidate network kept new c → IsCandidate network kept old c
+older_candidate network kept old new c longer begins candidate =
+    record { valid = candidate.valid; members = candidate.members; begins = begins_earlier network.genesis old new c longer begins candidate.begins }

@@ -2,7 +2,8 @@
 use Rattle.std.proofs.Common.{◌≡◌, ◌≢◌, ℕ, zero, suc, ◌-◌, ◌<◌, ◌≤◌, List, [], ◌∷◌, ◌++◌, length, take, Some, None, sym, ap, ◌∙◌, arith, le_antisymm, inl, inr, ◌⊎◌}
 use Rattle.std.specs.Prelude.{slice_get}
 use Rattle.model.specs.Block.{Block}
-use Rattle.model.specs.Chain.{Genesis, IsSelection, immutable_length}
+use Rattle.model.specs.Ledger.{Network}
+use Rattle.model.specs.Chain.{IsSelection, immutable_length}
 use Rattle.model.specs.History.{State, Event, Arrive, Kept, Step, IsCommonLength, IsChange}
 use Rattle.model.proofs.Chains.{length_immutable}
 use Rattle.model.proofs.Selections.{selection_begins, selection_not_shorter, selection_longer}
@@ -53,11 +54,11 @@ one_change old new back added other_back other_added first second =
     (omega arith, omega arith)
 
 -- no change leaves more than k blocks
-pub change_bounded : (genesis : Genesis) (kept old new : List Block) (back added : ℕ) → IsSelection genesis kept old new → IsChange old new back added → back ≤ genesis.k
-change_bounded genesis kept old new back added selection change =
-    let m = immutable_length genesis old in
-    let begins : take m new ≡ take m old = ap (λ n. take n new) (sym (length_immutable genesis old)) ∙ selection_begins genesis kept old new selection in
-    let not_shorter = selection_not_shorter genesis kept old new selection in
+pub change_bounded : (network : Network) (kept old new : List Block) (back added : ℕ) → IsSelection network kept old new → IsChange old new back added → back ≤ network.genesis.k
+change_bounded network kept old new back added selection change =
+    let m = immutable_length network.genesis old in
+    let begins : take m new ≡ take m old = ap (λ n. take n new) (sym (length_immutable network.genesis old)) ∙ selection_begins network kept old new selection in
+    let not_shorter = selection_not_shorter network kept old new selection in
     let shared : m ≤ change.common = change.is_common.longest m (omega arith) (omega arith) (sym begins) in
     let is = change.left in omega arith
 
@@ -70,35 +71,35 @@ change_of_nothing old new back added change same =
     (omega arith, omega arith)
 
 -- a chain that stays has 0 and 0; one that becomes longer has more put on than left
-pub change_told : (genesis : Genesis) (kept old new : List Block) (back added : ℕ) → IsSelection genesis kept old new → IsChange old new back added
+pub change_told : (network : Network) (kept old new : List Block) (back added : ℕ) → IsSelection network kept old new → IsChange old new back added
     → ((new ≡ old) × (back ≡ 0) × (added ≡ 0)) ⊎ (back < added)
-change_told genesis kept old new back added selection change =
-    elim (selection_longer genesis kept old new selection) [
+change_told network kept old new back added selection change =
+    elim (selection_longer network kept old new selection) [
       | inl same ↦ let zeros = change_of_nothing old new back added change same in inl (same, zeros.0, zeros.1)
       | inr longer ↦ inr (let l = change.left in let p = change.put_on in omega arith)
     ]
 
 -- ---- the same of a step that keeps a block
 
-change_of : (genesis : Genesis) (s : State) (event : Event) (back added : ℕ) (t : State) → Step genesis s event (Kept back added) t
-    → (kept : List Block) × IsSelection genesis kept s.chain t.chain × IsChange s.chain t.chain back added
-change_of genesis s (Arrive bytes) back added t step = (t.kept, step.selection, step.change)
-change_of genesis s event back added t step = absurd step
+change_of : (network : Network) (s : State) (event : Event) (back added : ℕ) (t : State) → Step network s event (Kept back added) t
+    → (kept : List Block) × IsSelection network kept s.chain t.chain × IsChange s.chain t.chain back added
+change_of network s (Arrive bytes) back added t step = (t.kept, step.selection, step.change)
+change_of network s event back added t step = absurd step
 
-pub step_shares : (genesis : Genesis) (s : State) (event : Event) (back added : ℕ) (t : State) → Step genesis s event (Kept back added) t
+pub step_shares : (network : Network) (s : State) (event : Event) (back added : ℕ) (t : State) → Step network s event (Kept back added) t
     → (back ≤ length s.chain) × (added ≤ length t.chain) × (take (length s.chain - back) s.chain ≡ take (length t.chain - added) t.chain)
-step_shares genesis s event back added t step = change_shares s.chain t.chain back added (change_of genesis s event back added t step).2
+step_shares network s event back added t step = change_shares s.chain t.chain back added (change_of network s event back added t step).2
 
-pub step_no_more : (genesis : Genesis) (s : State) (event : Event) (back added : ℕ) (t : State) (b c : Block) → Step genesis s event (Kept back added) t
+pub step_no_more : (network : Network) (s : State) (event : Event) (back added : ℕ) (t : State) (b c : Block) → Step network s event (Kept back added) t
     → slice_get s.chain (length s.chain - back) ≡ Some b → slice_get t.chain (length t.chain - added) ≡ Some c → b ≢ c
-step_no_more genesis s event back added t b c step = change_no_more s.chain t.chain back added b c (change_of genesis s event back added t step).2
+step_no_more network s event back added t b c step = change_no_more s.chain t.chain back added b c (change_of network s event back added t step).2
 
-pub step_bounded : (genesis : Genesis) (s : State) (event : Event) (back added : ℕ) (t : State) → Step genesis s event (Kept back added) t
-    → back ≤ genesis.k
-step_bounded genesis s event back added t step =
-    let change = change_of genesis s event back added t step in change_bounded genesis change.0 s.chain t.chain back added change.1 change.2
+pub step_bounded : (network : Network) (s : State) (event : Event) (back added : ℕ) (t : State) → Step network s event (Kept back added) t
+    → back ≤ network.genesis.k
+step_bounded network s event back added t step =
+    let change = change_of network s event back added t step in change_bounded network change.0 s.chain t.chain back added change.1 change.2
 
-pub step_told : (genesis : Genesis) (s : State) (event : Event) (back added : ℕ) (t : State) → Step genesis s event (Kept back added) t
+pub step_told : (network : Network) (s : State) (event : Event) (back added : ℕ) (t : State) → Step network s event (Kept back added) t
     → ((t.chain ≡ s.chain) × (back ≡ 0) × (added ≡ 0)) ⊎ (back < added)
-step_told genesis s event back added t step =
-    let change = change_of genesis s event back added t step in change_told genesis change.0 s.chain t.chain back added change.1 change.2
+step_told network s event back added t step =
+    let change = change_of network s event back added t step in change_told network change.0 s.chain t.chain back added change.1 change.2

@@ -4,7 +4,9 @@ use Rattle.std.specs.Prelude.{nat_lt, slice_set}
 use Rattle.std.specs.List.{AllByRecursion, filter}
 use Rattle.std.proofs.lemmas.Bool.{lt-ltb, ltb-true}
 use Rattle.model.specs.Block.{Block, SpellsBlock, block_hash_of}
-use Rattle.model.specs.Chain.{Genesis, IsValidChain, NoneLonger, IsSelection, HaveDistinctHashes, immutable_length, immutable_part, live_blocks, BeginsWith}
+use Rattle.model.specs.Genesis.{Genesis}
+use Rattle.model.specs.Ledger.{Network}
+use Rattle.model.specs.Chain.{IsValidChain, NoneLonger, IsSelection, HaveDistinctHashes, immutable_length, immutable_part, live_blocks, BeginsWith}
 use Rattle.model.specs.Follower.{Instruction, Stay, AddBlock, RollBack, IsReplayed}
 use Rattle.model.specs.History.{State, opening, live_of, Refusal, Known, Clash, Applies, Event, Arrive, Open, Next, Reply, Kept, Refused, Opened, TooManyFollowers, Instructed, UnknownFollower, OutOfMemory, Keeps, Instructs, Step, Entry, IsRun, IsLegal, BringsBlock, IsKeptBy, length_with, length_from}
 use Rattle.model.proofs.Lists.{all_from_members, all_filter_narrower, nothing_contained, contains_first, contains_later, contains_cases}
@@ -43,31 +45,31 @@ distinct_with genesis s bytes b distinct spelled not_refused = with_test (nat_lt
 -- ---- what each step keeps
 
 -- a state as legal histories leave it
-pub record IsSoundState (genesis : Genesis) (s : State) : Type 0 where
-  pub valid : IsValidChain genesis s.chain
-  pub longest : NoneLonger genesis s.kept s.chain
-  pub distinct : HaveDistinctHashes (live_of genesis s)
+pub record IsSoundState (network : Network) (s : State) : Type 0 where
+  pub valid : IsValidChain network s.chain
+  pub longest : NoneLonger network s.kept s.chain
+  pub distinct : HaveDistinctHashes (live_of network.genesis s)
 
-no_longer_than_nothing : (genesis : Genesis) → NoneLonger genesis [] []
-no_longer_than_nothing genesis [] candidate = omega arith
-no_longer_than_nothing genesis (b ∷ bs) candidate = absurd (nothing_contained b candidate.members.0)
+no_longer_than_nothing : (network : Network) → NoneLonger network [] []
+no_longer_than_nothing network [] candidate = omega arith
+no_longer_than_nothing network (b ∷ bs) candidate = absurd (nothing_contained b candidate.members.0)
 
-pub opening_sound : (genesis : Genesis) → IsSoundState genesis opening
-opening_sound genesis = record {
+pub opening_sound : (network : Network) → IsSoundState network opening
+opening_sound network = record {
   valid = record { linked = tt; sizes = tt; ledger = refl };
-  longest = no_longer_than_nothing genesis;
+  longest = no_longer_than_nothing network;
   distinct = tt;
 }
 
-keeps_sound : (genesis : Genesis) (s : State) (bytes : List ℕ) (back added : ℕ) (t : State) → IsSoundState genesis s → Keeps genesis s bytes back added t → IsSoundState genesis t
-keeps_sound genesis s bytes back added t sound keeps =
-    let more = selection_not_shorter genesis t.kept s.chain t.chain keeps.selection in
-    let distinct : HaveDistinctHashes (live_blocks genesis t.kept s.chain) = subst (λ (bs : List Block). HaveDistinctHashes (live_blocks genesis bs s.chain)) (sym keeps.kept) (distinct_with genesis s bytes keeps.block sound.distinct keeps.read keeps.not_refused) in
+keeps_sound : (network : Network) (s : State) (bytes : List ℕ) (back added : ℕ) (t : State) → IsSoundState network s → Keeps network s bytes back added t → IsSoundState network t
+keeps_sound network s bytes back added t sound keeps =
+    let more = selection_not_shorter network t.kept s.chain t.chain keeps.selection in
+    let distinct : HaveDistinctHashes (live_blocks network.genesis t.kept s.chain) = subst (λ (bs : List Block). HaveDistinctHashes (live_blocks network.genesis bs s.chain)) (sym keeps.kept) (distinct_with network.genesis s bytes keeps.block sound.distinct keeps.read keeps.not_refused) in
     record {
-      valid = selection_valid genesis t.kept s.chain t.chain sound.valid keeps.selection;
-      longest = selection_longest genesis t.kept s.chain t.chain keeps.selection;
-      distinct = narrower_distinct (λ b. nat_lt (immutable_length genesis s.chain) b.header.number) (λ b. nat_lt (immutable_length genesis t.chain) b.header.number) t.kept
-          (λ b passes. lt-ltb (immutable_length genesis s.chain) b.header.number (let past = ltb-true (immutable_length genesis t.chain) b.header.number passes in omega arith)) distinct;
+      valid = selection_valid network t.kept s.chain t.chain sound.valid keeps.selection;
+      longest = selection_longest network t.kept s.chain t.chain keeps.selection;
+      distinct = narrower_distinct (λ b. nat_lt (immutable_length network.genesis s.chain) b.header.number) (λ b. nat_lt (immutable_length network.genesis t.chain) b.header.number) t.kept
+          (λ b passes. lt-ltb (immutable_length network.genesis s.chain) b.header.number (let past = ltb-true (immutable_length network.genesis t.chain) b.header.number passes in omega arith)) distinct;
     }
 
 -- a step that neither keeps a block nor changes the chain
@@ -78,49 +80,49 @@ pub record IsQuiet (s : State) (event : Event) (reply : Reply) (t : State) : Typ
   pub brings_none : (b : Block) → BringsBlock event reply b → ⊥
 
 -- a step keeps a block, or is quiet
-pub data Kind (genesis : Genesis) (s : State) : Event → Reply → State → Type 0 where
-  Keeping : (bytes : List ℕ) (back added : ℕ) (t : State) → Keeps genesis s bytes back added t → Kind genesis s (Arrive bytes) (Kept back added) t
-  Quiet : (event : Event) (reply : Reply) (t : State) → IsQuiet s event reply t → Kind genesis s event reply t
+pub data Kind (network : Network) (s : State) : Event → Reply → State → Type 0 where
+  Keeping : (bytes : List ℕ) (back added : ℕ) (t : State) → Keeps network s bytes back added t → Kind network s (Arrive bytes) (Kept back added) t
+  Quiet : (event : Event) (reply : Reply) (t : State) → IsQuiet s event reply t → Kind network s event reply t
 
-pub kind_of : (genesis : Genesis) (s : State) (event : Event) (reply : Reply) (t : State) → Step genesis s event reply t → Kind genesis s event reply t
-kind_of genesis s (Arrive bytes) (Kept back added) t step = Keeping bytes back added t step
-kind_of genesis s (Arrive bytes) (Refused refusal) t step = Quiet (Arrive bytes) (Refused refusal) t (record { kept = ap (λ (u : State). u.kept) step.1; chain = ap (λ (u : State). u.chain) step.1; counted = λ n. refl; brings_none = λ b no'. no' })
-kind_of genesis s Open (Opened id) t step = Quiet Open (Opened id) t (record { kept = ap (λ (u : State). u.kept) step.after; chain = ap (λ (u : State). u.chain) step.after; counted = λ n. refl; brings_none = λ b no'. no' })
-kind_of genesis s Open TooManyFollowers t step = Quiet Open TooManyFollowers t (record { kept = ap (λ (u : State). u.kept) step.1; chain = ap (λ (u : State). u.chain) step.1; counted = λ n. refl; brings_none = λ b no'. no' })
-kind_of genesis s (Next id) (Instructed instruction) t step = Quiet (Next id) (Instructed instruction) t (record { kept = ap (λ (u : State). u.kept) step.after; chain = ap (λ (u : State). u.chain) step.after; counted = λ n. refl; brings_none = λ b no'. no' })
-kind_of genesis s (Next id) UnknownFollower t step = Quiet (Next id) UnknownFollower t (record { kept = ap (λ (u : State). u.kept) step.1; chain = ap (λ (u : State). u.chain) step.1; counted = λ n. refl; brings_none = λ b no'. no' })
-kind_of genesis s event OutOfMemory t step = Quiet event OutOfMemory t (record { kept = ap (λ (u : State). u.kept) step; chain = ap (λ (u : State). u.chain) step; counted = λ n. refl; brings_none = λ b no'. no' })
-kind_of genesis s event reply t step = absurd step
+pub kind_of : (network : Network) (s : State) (event : Event) (reply : Reply) (t : State) → Step network s event reply t → Kind network s event reply t
+kind_of network s (Arrive bytes) (Kept back added) t step = Keeping bytes back added t step
+kind_of network s (Arrive bytes) (Refused refusal) t step = Quiet (Arrive bytes) (Refused refusal) t (record { kept = ap (λ (u : State). u.kept) step.1; chain = ap (λ (u : State). u.chain) step.1; counted = λ n. refl; brings_none = λ b no'. no' })
+kind_of network s Open (Opened id) t step = Quiet Open (Opened id) t (record { kept = ap (λ (u : State). u.kept) step.after; chain = ap (λ (u : State). u.chain) step.after; counted = λ n. refl; brings_none = λ b no'. no' })
+kind_of network s Open TooManyFollowers t step = Quiet Open TooManyFollowers t (record { kept = ap (λ (u : State). u.kept) step.1; chain = ap (λ (u : State). u.chain) step.1; counted = λ n. refl; brings_none = λ b no'. no' })
+kind_of network s (Next id) (Instructed instruction) t step = Quiet (Next id) (Instructed instruction) t (record { kept = ap (λ (u : State). u.kept) step.after; chain = ap (λ (u : State). u.chain) step.after; counted = λ n. refl; brings_none = λ b no'. no' })
+kind_of network s (Next id) UnknownFollower t step = Quiet (Next id) UnknownFollower t (record { kept = ap (λ (u : State). u.kept) step.1; chain = ap (λ (u : State). u.chain) step.1; counted = λ n. refl; brings_none = λ b no'. no' })
+kind_of network s event OutOfMemory t step = Quiet event OutOfMemory t (record { kept = ap (λ (u : State). u.kept) step; chain = ap (λ (u : State). u.chain) step; counted = λ n. refl; brings_none = λ b no'. no' })
+kind_of network s event reply t step = absurd step
 
-quiet_sound : (genesis : Genesis) (s : State) (event : Event) (reply : Reply) (t : State) → IsSoundState genesis s → IsQuiet s event reply t → IsSoundState genesis t
-quiet_sound genesis s event reply t sound quiet = record {
-  valid = subst (IsValidChain genesis) (sym quiet.chain) sound.valid;
-  longest = subst (λ (bs : List Block). NoneLonger genesis bs t.chain) (sym quiet.kept) (subst (λ (c : List Block). NoneLonger genesis s.kept c) (sym quiet.chain) sound.longest);
-  distinct = subst (λ (bs : List Block). HaveDistinctHashes (live_blocks genesis bs t.chain)) (sym quiet.kept) (subst (λ (c : List Block). HaveDistinctHashes (live_blocks genesis s.kept c)) (sym quiet.chain) sound.distinct);
+quiet_sound : (network : Network) (s : State) (event : Event) (reply : Reply) (t : State) → IsSoundState network s → IsQuiet s event reply t → IsSoundState network t
+quiet_sound network s event reply t sound quiet = record {
+  valid = subst (IsValidChain network) (sym quiet.chain) sound.valid;
+  longest = subst (λ (bs : List Block). NoneLonger network bs t.chain) (sym quiet.kept) (subst (λ (c : List Block). NoneLonger network s.kept c) (sym quiet.chain) sound.longest);
+  distinct = subst (λ (bs : List Block). HaveDistinctHashes (live_blocks network.genesis bs t.chain)) (sym quiet.kept) (subst (λ (c : List Block). HaveDistinctHashes (live_blocks network.genesis s.kept c)) (sym quiet.chain) sound.distinct);
 }
 
-kind_sound : (genesis : Genesis) (s : State) (event : Event) (reply : Reply) (t : State) → IsSoundState genesis s → Kind genesis s event reply t → IsSoundState genesis t
-kind_sound genesis s event reply t sound (Keeping bytes back added u keeps) = keeps_sound genesis s bytes back added u sound keeps
-kind_sound genesis s event reply t sound (Quiet e r u quiet) = quiet_sound genesis s e r u sound quiet
+kind_sound : (network : Network) (s : State) (event : Event) (reply : Reply) (t : State) → IsSoundState network s → Kind network s event reply t → IsSoundState network t
+kind_sound network s event reply t sound (Keeping bytes back added u keeps) = keeps_sound network s bytes back added u sound keeps
+kind_sound network s event reply t sound (Quiet e r u quiet) = quiet_sound network s e r u sound quiet
 
-pub step_sound : (genesis : Genesis) (s : State) (event : Event) (reply : Reply) (t : State) → IsSoundState genesis s → Step genesis s event reply t → IsSoundState genesis t
-step_sound genesis s event reply t sound step = kind_sound genesis s event reply t sound (kind_of genesis s event reply t step)
+pub step_sound : (network : Network) (s : State) (event : Event) (reply : Reply) (t : State) → IsSoundState network s → Step network s event reply t → IsSoundState network t
+step_sound network s event reply t sound step = kind_sound network s event reply t sound (kind_of network s event reply t step)
 
-pub run_sound : (genesis : Genesis) (s : State) (es : List Entry) (t : State) → IsSoundState genesis s → IsRun genesis s es t → IsSoundState genesis t
-run_sound genesis s [] t sound run = subst (IsSoundState genesis) (sym run) sound
-run_sound genesis s (e ∷ es) t sound run = run_sound genesis run.0 es t (step_sound genesis s e.event e.reply run.0 sound run.1) run.2
+pub run_sound : (network : Network) (s : State) (es : List Entry) (t : State) → IsSoundState network s → IsRun network s es t → IsSoundState network t
+run_sound network s [] t sound run = subst (IsSoundState network) (sym run) sound
+run_sound network s (e ∷ es) t sound run = run_sound network run.0 es t (step_sound network s e.event e.reply run.0 sound run.1) run.2
 
-pub legal_sound : (genesis : Genesis) (history : List Entry) (s : State) → IsLegal genesis history s → IsSoundState genesis s
-legal_sound genesis history s legal = run_sound genesis opening history s (opening_sound genesis) legal
+pub legal_sound : (network : Network) (history : List Entry) (s : State) → IsLegal network history s → IsSoundState network s
+legal_sound network history s legal = run_sound network opening history s (opening_sound network) legal
 
 -- ---- a history determines its state
 
-keeps_one : (genesis : Genesis) (s : State) (bytes : List ℕ) (back added : ℕ) (t u : State) → IsSoundState genesis s → Keeps genesis s bytes back added t → Keeps genesis s bytes back added u → t ≡ u
-keeps_one genesis s bytes back added t u sound first second =
+keeps_one : (network : Network) (s : State) (bytes : List ℕ) (back added : ℕ) (t u : State) → IsSoundState network s → Keeps network s bytes back added t → Keeps network s bytes back added u → t ≡ u
+keeps_one network s bytes back added t u sound first second =
     let blocks : first.block ≡ second.block = one_block first.block second.block bytes first.read second.read in
     let kept : t.kept ≡ u.kept = first.kept ∙ (ap (λ (b : Block). b ∷ s.kept) blocks ∙ sym second.kept) in
-    let distinct : HaveDistinctHashes (live_blocks genesis u.kept s.chain) = subst (λ (bs : List Block). HaveDistinctHashes (live_blocks genesis bs s.chain)) (sym second.kept) (distinct_with genesis s bytes second.block sound.distinct second.read second.not_refused) in
-    let chain : t.chain ≡ u.chain = one_selection genesis u.kept s.chain t.chain u.chain distinct (subst (λ (bs : List Block). IsSelection genesis bs s.chain t.chain) kept first.selection) second.selection in
+    let distinct : HaveDistinctHashes (live_blocks network.genesis u.kept s.chain) = subst (λ (bs : List Block). HaveDistinctHashes (live_blocks network.genesis bs s.chain)) (sym second.kept) (distinct_with network.genesis s bytes second.block sound.distinct second.read second.not_refused) in
+    let chain : t.chain ≡ u.chain = one_selection network u.kept s.chain t.chain u.chain distinct (subst (λ (bs : List Block). IsSelection network bs s.chain t.chain) kept first.selection) second.selection in
     let followers : t.followers ≡ u.followers = first.followers ∙ sym second.followers in
     λ i. record { kept = kept i; chain = chain i; followers = followers i }
 
@@ -138,107 +140,107 @@ instructs_one s id instruction t u first second =
     let now : first.now ≡ second.now = replayed_one first.before instruction first.now second.now first.told.replayed (subst (λ (old : List Block). IsReplayed old instruction second.now) (sym before) second.told.replayed) in
     first.after ∙ ((λ i. record { kept = s.kept; chain = s.chain; followers = slice_set s.followers id (Some (now i)) }) ∙ sym second.after)
 
-pub step_one : (genesis : Genesis) (s : State) (event : Event) (reply : Reply) (t u : State) → IsSoundState genesis s → Step genesis s event reply t → Step genesis s event reply u → t ≡ u
-step_one genesis s (Arrive bytes) (Kept back added) t u sound first second = keeps_one genesis s bytes back added t u sound first second
-step_one genesis s (Arrive bytes) (Refused refusal) t u sound first second = first.1 ∙ sym second.1
-step_one genesis s Open (Opened id) t u sound first second = first.after ∙ sym second.after
-step_one genesis s Open TooManyFollowers t u sound first second = first.1 ∙ sym second.1
-step_one genesis s (Next id) (Instructed instruction) t u sound first second = instructs_one s id instruction t u first second
-step_one genesis s (Next id) UnknownFollower t u sound first second = first.1 ∙ sym second.1
-step_one genesis s event OutOfMemory t u sound first second = first ∙ sym second
-step_one genesis s event reply t u sound first second = absurd first
+pub step_one : (network : Network) (s : State) (event : Event) (reply : Reply) (t u : State) → IsSoundState network s → Step network s event reply t → Step network s event reply u → t ≡ u
+step_one network s (Arrive bytes) (Kept back added) t u sound first second = keeps_one network s bytes back added t u sound first second
+step_one network s (Arrive bytes) (Refused refusal) t u sound first second = first.1 ∙ sym second.1
+step_one network s Open (Opened id) t u sound first second = first.after ∙ sym second.after
+step_one network s Open TooManyFollowers t u sound first second = first.1 ∙ sym second.1
+step_one network s (Next id) (Instructed instruction) t u sound first second = instructs_one s id instruction t u first second
+step_one network s (Next id) UnknownFollower t u sound first second = first.1 ∙ sym second.1
+step_one network s event OutOfMemory t u sound first second = first ∙ sym second
+step_one network s event reply t u sound first second = absurd first
 
-pub run_one : (genesis : Genesis) (s : State) (es : List Entry) (t u : State) → IsSoundState genesis s → IsRun genesis s es t → IsRun genesis s es u → t ≡ u
-run_one genesis s [] t u sound first second = first ∙ sym second
-run_one genesis s (e ∷ es) t u sound first second =
-    let mids : second.0 ≡ first.0 = step_one genesis s e.event e.reply second.0 first.0 sound second.1 first.1 in
-    run_one genesis first.0 es t u (step_sound genesis s e.event e.reply first.0 sound first.1) first.2 (subst (λ (m : State). IsRun genesis m es u) mids second.2)
+pub run_one : (network : Network) (s : State) (es : List Entry) (t u : State) → IsSoundState network s → IsRun network s es t → IsRun network s es u → t ≡ u
+run_one network s [] t u sound first second = first ∙ sym second
+run_one network s (e ∷ es) t u sound first second =
+    let mids : second.0 ≡ first.0 = step_one network s e.event e.reply second.0 first.0 sound second.1 first.1 in
+    run_one network first.0 es t u (step_sound network s e.event e.reply first.0 sound first.1) first.2 (subst (λ (m : State). IsRun network m es u) mids second.2)
 
 -- ---- the kept blocks
 
-kept_or_brought : (genesis : Genesis) (s : State) (event : Event) (reply : Reply) (t : State) (b : Block) → Kind genesis s event reply t → Contains s.kept b ⊎ BringsBlock event reply b → Contains t.kept b
-kept_or_brought genesis s event reply t b (Keeping bytes back added u keeps) (inl member) = subst (λ (bs : List Block). Contains bs b) (sym keeps.kept) (contains_later keeps.block s.kept b member)
-kept_or_brought genesis s event reply t b (Keeping bytes back added u keeps) (inr read) =
+kept_or_brought : (network : Network) (s : State) (event : Event) (reply : Reply) (t : State) (b : Block) → Kind network s event reply t → Contains s.kept b ⊎ BringsBlock event reply b → Contains t.kept b
+kept_or_brought network s event reply t b (Keeping bytes back added u keeps) (inl member) = subst (λ (bs : List Block). Contains bs b) (sym keeps.kept) (contains_later keeps.block s.kept b member)
+kept_or_brought network s event reply t b (Keeping bytes back added u keeps) (inr read) =
     subst (λ (bs : List Block). Contains bs b) (sym keeps.kept) (subst (λ (c : Block). Contains (c ∷ s.kept) b) (one_block b keeps.block bytes read keeps.read) (contains_first b s.kept))
-kept_or_brought genesis s event reply t b (Quiet e r u quiet) (inl member) = subst (λ (bs : List Block). Contains bs b) (sym quiet.kept) member
-kept_or_brought genesis s event reply t b (Quiet e r u quiet) (inr brought) = absurd (quiet.brings_none b brought)
+kept_or_brought network s event reply t b (Quiet e r u quiet) (inl member) = subst (λ (bs : List Block). Contains bs b) (sym quiet.kept) member
+kept_or_brought network s event reply t b (Quiet e r u quiet) (inr brought) = absurd (quiet.brings_none b brought)
 
-same_or_later : (genesis : Genesis) (s : State) (event : Event) (reply : Reply) (t : State) (b : Block) → Step genesis s event reply t → Contains s.kept b ⊎ BringsBlock event reply b → Contains t.kept b
-same_or_later genesis s event reply t b step from = kept_or_brought genesis s event reply t b (kind_of genesis s event reply t step) from
+same_or_later : (network : Network) (s : State) (event : Event) (reply : Reply) (t : State) (b : Block) → Step network s event reply t → Contains s.kept b ⊎ BringsBlock event reply b → Contains t.kept b
+same_or_later network s event reply t b step from = kept_or_brought network s event reply t b (kind_of network s event reply t step) from
 
-pub kept_after : (genesis : Genesis) (s : State) (es : List Entry) (t : State) (b : Block) → IsRun genesis s es t → Contains s.kept b ⊎ IsKeptBy es b → Contains t.kept b
-kept_after genesis s [] t b run (inl member) = subst (λ (u : State). Contains u.kept b) (sym run) member
-kept_after genesis s [] t b run (inr never) = absurd never
-kept_after genesis s (e ∷ es) t b run (inl member) = kept_after genesis run.0 es t b run.2 (inl (same_or_later genesis s e.event e.reply run.0 b run.1 (inl member)))
-kept_after genesis s (e ∷ es) t b run (inr (inl brings)) = kept_after genesis run.0 es t b run.2 (inl (same_or_later genesis s e.event e.reply run.0 b run.1 (inr brings)))
-kept_after genesis s (e ∷ es) t b run (inr (inr later)) = kept_after genesis run.0 es t b run.2 (inr later)
+pub kept_after : (network : Network) (s : State) (es : List Entry) (t : State) (b : Block) → IsRun network s es t → Contains s.kept b ⊎ IsKeptBy es b → Contains t.kept b
+kept_after network s [] t b run (inl member) = subst (λ (u : State). Contains u.kept b) (sym run) member
+kept_after network s [] t b run (inr never) = absurd never
+kept_after network s (e ∷ es) t b run (inl member) = kept_after network run.0 es t b run.2 (inl (same_or_later network s e.event e.reply run.0 b run.1 (inl member)))
+kept_after network s (e ∷ es) t b run (inr (inl brings)) = kept_after network run.0 es t b run.2 (inl (same_or_later network s e.event e.reply run.0 b run.1 (inr brings)))
+kept_after network s (e ∷ es) t b run (inr (inr later)) = kept_after network run.0 es t b run.2 (inr later)
 
-kind_came_from : (genesis : Genesis) (s : State) (event : Event) (reply : Reply) (t : State) (b : Block) → Kind genesis s event reply t → Contains t.kept b → Contains s.kept b ⊎ BringsBlock event reply b
-kind_came_from genesis s event reply t b (Keeping bytes back added u keeps) member =
+kind_came_from : (network : Network) (s : State) (event : Event) (reply : Reply) (t : State) (b : Block) → Kind network s event reply t → Contains t.kept b → Contains s.kept b ⊎ BringsBlock event reply b
+kind_came_from network s event reply t b (Keeping bytes back added u keeps) member =
     elim (contains_cases keeps.block s.kept b (subst (λ (bs : List Block). Contains bs b) keeps.kept member)) [
       | inl is ↦ inr (subst (λ (c : Block). SpellsBlock c bytes) is keeps.read)
       | inr later ↦ inl later
     ]
-kind_came_from genesis s event reply t b (Quiet e r u quiet) member = inl (subst (λ (bs : List Block). Contains bs b) quiet.kept member)
+kind_came_from network s event reply t b (Quiet e r u quiet) member = inl (subst (λ (bs : List Block). Contains bs b) quiet.kept member)
 
-came_from : (genesis : Genesis) (s : State) (event : Event) (reply : Reply) (t : State) (b : Block) → Step genesis s event reply t → Contains t.kept b → Contains s.kept b ⊎ BringsBlock event reply b
-came_from genesis s event reply t b step member = kind_came_from genesis s event reply t b (kind_of genesis s event reply t step) member
+came_from : (network : Network) (s : State) (event : Event) (reply : Reply) (t : State) (b : Block) → Step network s event reply t → Contains t.kept b → Contains s.kept b ⊎ BringsBlock event reply b
+came_from network s event reply t b step member = kind_came_from network s event reply t b (kind_of network s event reply t step) member
 
-pub kept_before : (genesis : Genesis) (s : State) (es : List Entry) (t : State) (b : Block) → IsRun genesis s es t → Contains t.kept b → Contains s.kept b ⊎ IsKeptBy es b
-kept_before genesis s [] t b run member = inl (subst (λ (u : State). Contains u.kept b) run member)
-kept_before genesis s (e ∷ es) t b run member =
-    elim (kept_before genesis run.0 es t b run.2 member) [
-      | inl before ↦ elim (came_from genesis s e.event e.reply run.0 b run.1 before) [ inl old ↦ inl old | inr brings ↦ inr (inl brings) ]
+pub kept_before : (network : Network) (s : State) (es : List Entry) (t : State) (b : Block) → IsRun network s es t → Contains t.kept b → Contains s.kept b ⊎ IsKeptBy es b
+kept_before network s [] t b run member = inl (subst (λ (u : State). Contains u.kept b) run member)
+kept_before network s (e ∷ es) t b run member =
+    elim (kept_before network run.0 es t b run.2 member) [
+      | inl before ↦ elim (came_from network s e.event e.reply run.0 b run.1 before) [ inl old ↦ inl old | inr brings ↦ inr (inl brings) ]
       | inr later ↦ inr (inr later)
     ]
 
-pub kept_by_history : (genesis : Genesis) (history : List Entry) (s : State) (b : Block) → IsLegal genesis history s → Contains s.kept b ↔ IsKeptBy history b
-kept_by_history genesis history s b legal = (
-  λ member. elim (kept_before genesis opening history s b legal member) [ inl nothing ↦ absurd (nothing_contained b nothing) | inr by_history ↦ by_history ],
-  λ by_history. kept_after genesis opening history s b legal (inr by_history),
+pub kept_by_history : (network : Network) (history : List Entry) (s : State) (b : Block) → IsLegal network history s → Contains s.kept b ↔ IsKeptBy history b
+kept_by_history network history s b legal = (
+  λ member. elim (kept_before network opening history s b legal member) [ inl nothing ↦ absurd (nothing_contained b nothing) | inr by_history ↦ by_history ],
+  λ by_history. kept_after network opening history s b legal (inr by_history),
 )
 
 -- ---- lengths
 
-kind_length : (genesis : Genesis) (s : State) (event : Event) (reply : Reply) (t : State) → Kind genesis s event reply t → length t.chain ≡ length_with (length s.chain) reply
-kind_length genesis s event reply t (Keeping bytes back added u keeps) = let change = keeps.change in omega arith
-kind_length genesis s event reply t (Quiet e r u quiet) = ap length quiet.chain ∙ sym (quiet.counted (length s.chain))
+kind_length : (network : Network) (s : State) (event : Event) (reply : Reply) (t : State) → Kind network s event reply t → length t.chain ≡ length_with (length s.chain) reply
+kind_length network s event reply t (Keeping bytes back added u keeps) = let change = keeps.change in omega arith
+kind_length network s event reply t (Quiet e r u quiet) = ap length quiet.chain ∙ sym (quiet.counted (length s.chain))
 
-step_length : (genesis : Genesis) (s : State) (event : Event) (reply : Reply) (t : State) → Step genesis s event reply t → length t.chain ≡ length_with (length s.chain) reply
-step_length genesis s event reply t step = kind_length genesis s event reply t (kind_of genesis s event reply t step)
+step_length : (network : Network) (s : State) (event : Event) (reply : Reply) (t : State) → Step network s event reply t → length t.chain ≡ length_with (length s.chain) reply
+step_length network s event reply t step = kind_length network s event reply t (kind_of network s event reply t step)
 
-pub run_length : (genesis : Genesis) (s : State) (es : List Entry) (t : State) → IsRun genesis s es t → length t.chain ≡ length_from (length s.chain) es
-run_length genesis s [] t run = ap (λ (u : State). length u.chain) run
-run_length genesis s (e ∷ es) t run = run_length genesis run.0 es t run.2 ∙ ap (λ n. length_from n es) (step_length genesis s e.event e.reply run.0 run.1)
+pub run_length : (network : Network) (s : State) (es : List Entry) (t : State) → IsRun network s es t → length t.chain ≡ length_from (length s.chain) es
+run_length network s [] t run = ap (λ (u : State). length u.chain) run
+run_length network s (e ∷ es) t run = run_length network run.0 es t run.2 ∙ ap (λ n. length_from n es) (step_length network s e.event e.reply run.0 run.1)
 
-kind_longer : (genesis : Genesis) (s : State) (event : Event) (reply : Reply) (t : State) → Kind genesis s event reply t → (t.chain ≡ s.chain) ⊎ (length s.chain < length t.chain)
-kind_longer genesis s event reply t (Keeping bytes back added u keeps) = selection_longer genesis u.kept s.chain u.chain keeps.selection
-kind_longer genesis s event reply t (Quiet e r u quiet) = inl quiet.chain
+kind_longer : (network : Network) (s : State) (event : Event) (reply : Reply) (t : State) → Kind network s event reply t → (t.chain ≡ s.chain) ⊎ (length s.chain < length t.chain)
+kind_longer network s event reply t (Keeping bytes back added u keeps) = selection_longer network u.kept s.chain u.chain keeps.selection
+kind_longer network s event reply t (Quiet e r u quiet) = inl quiet.chain
 
-pub step_longer : (genesis : Genesis) (s : State) (event : Event) (reply : Reply) (t : State) → Step genesis s event reply t → (t.chain ≡ s.chain) ⊎ (length s.chain < length t.chain)
-step_longer genesis s event reply t step = kind_longer genesis s event reply t (kind_of genesis s event reply t step)
+pub step_longer : (network : Network) (s : State) (event : Event) (reply : Reply) (t : State) → Step network s event reply t → (t.chain ≡ s.chain) ⊎ (length s.chain < length t.chain)
+step_longer network s event reply t step = kind_longer network s event reply t (kind_of network s event reply t step)
 
 -- ---- the immutable part
 
 -- how a later chain stands to an earlier one
-pub record GoesOn (genesis : Genesis) (old new : List Block) : Type 0 where
+pub record GoesOn (network : Network) (old new : List Block) : Type 0 where
   pub not_shorter : length old ≤ length new
-  pub begins : BeginsWith new (immutable_part genesis old)
+  pub begins : BeginsWith new (immutable_part network.genesis old)
 
-goes_on_itself : (genesis : Genesis) (chain : List Block) → GoesOn genesis chain chain
-goes_on_itself genesis chain = record { not_shorter = omega arith; begins = begins_with_itself genesis chain }
+goes_on_itself : (network : Network) (chain : List Block) → GoesOn network chain chain
+goes_on_itself network chain = record { not_shorter = omega arith; begins = begins_with_itself network.genesis chain }
 
-kind_goes_on : (genesis : Genesis) (s : State) (event : Event) (reply : Reply) (t : State) → Kind genesis s event reply t → GoesOn genesis s.chain t.chain
-kind_goes_on genesis s event reply t (Keeping bytes back added u keeps) =
-    record { not_shorter = selection_not_shorter genesis u.kept s.chain u.chain keeps.selection; begins = selection_begins genesis u.kept s.chain u.chain keeps.selection }
-kind_goes_on genesis s event reply t (Quiet e r u quiet) = subst (GoesOn genesis s.chain) (sym quiet.chain) (goes_on_itself genesis s.chain)
+kind_goes_on : (network : Network) (s : State) (event : Event) (reply : Reply) (t : State) → Kind network s event reply t → GoesOn network s.chain t.chain
+kind_goes_on network s event reply t (Keeping bytes back added u keeps) =
+    record { not_shorter = selection_not_shorter network u.kept s.chain u.chain keeps.selection; begins = selection_begins network u.kept s.chain u.chain keeps.selection }
+kind_goes_on network s event reply t (Quiet e r u quiet) = subst (GoesOn network s.chain) (sym quiet.chain) (goes_on_itself network s.chain)
 
-pub step_goes_on : (genesis : Genesis) (s : State) (event : Event) (reply : Reply) (t : State) → Step genesis s event reply t → GoesOn genesis s.chain t.chain
-step_goes_on genesis s event reply t step = kind_goes_on genesis s event reply t (kind_of genesis s event reply t step)
+pub step_goes_on : (network : Network) (s : State) (event : Event) (reply : Reply) (t : State) → Step network s event reply t → GoesOn network s.chain t.chain
+step_goes_on network s event reply t step = kind_goes_on network s event reply t (kind_of network s event reply t step)
 
-pub run_goes_on : (genesis : Genesis) (s : State) (es : List Entry) (t : State) → IsRun genesis s es t → GoesOn genesis s.chain t.chain
-run_goes_on genesis s [] t run = subst (λ (u : State). GoesOn genesis s.chain u.chain) (sym run) (goes_on_itself genesis s.chain)
-run_goes_on genesis s (e ∷ es) t run =
-    let first = step_goes_on genesis s e.event e.reply run.0 run.1 in
-    let rest = run_goes_on genesis run.0 es t run.2 in
-    record { not_shorter = let a = first.not_shorter in let b = rest.not_shorter in omega arith; begins = begins_earlier genesis s.chain run.0.chain t.chain first.not_shorter first.begins rest.begins }
+pub run_goes_on : (network : Network) (s : State) (es : List Entry) (t : State) → IsRun network s es t → GoesOn network s.chain t.chain
+run_goes_on network s [] t run = subst (λ (u : State). GoesOn network s.chain u.chain) (sym run) (goes_on_itself network s.chain)
+run_goes_on network s (e ∷ es) t run =
+    let first = step_goes_on network s e.event e.reply run.0 run.1 in
+    let rest = run_goes_on network run.0 es t run.2 in
+    record { not_shorter = let a = first.not_shorter in let b = rest.not_shorter in omega arith; begins = begins_earlier network.genesis s.chain run.0.chain t.chain first.not_shorter first.begins rest.begins }

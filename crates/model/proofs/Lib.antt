@@ -21,6 +21,7 @@ pub mod Balances
 pub mod Conserved
 pub mod LedgerSteps
 pub mod AppliedBlocks
+pub mod StatesAlong
 pub mod TextLengths
 pub mod TransactionSizes
 pub mod ExampleSizes

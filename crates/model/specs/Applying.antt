@@ -1,7 +1,7 @@
 -- Blocks that are applied to a state, one after the other: the five faults of a block in their order, and what it makes
 -- of the state where it has none (Shelley, CHAIN and BBODY; the Consensus and Storage Layer report, the extended ledger
 -- state). The order of the faults is this project's own.
-use Rattle.std.specs.Prelude.{◌≡◌, ◌≢◌, ℕ, ◌+◌, ◌<◌, ◌≤◌, List, Some}
+use Rattle.std.specs.Prelude.{◌≡◌, ◌≢◌, ℕ, ◌+◌, ◌<◌, ◌≤◌, List, [], ◌∷◌, Some}
 use Rattle.std.specs.List.{AllByRecursion}
 use Rattle.model.specs.Signature.{Verifies}
 use Rattle.model.specs.Rules.{Params, Reason}
@@ -69,6 +69,18 @@ module _ (verifies : Verifies) where
     pub ledger : ledger_after verifies s.params b.header.slot s.ledger b.transactions ≡ Some after.ledger
     pub params : after.params ≡ s.params
     pub tip : after.tip ≡ tip_at b
+
+  -- the states that blocks make of one, each after the block of its place
+  abbrev pub AreStates : LedgerState → List Block → List LedgerState → Type 0
+  AreStates s [] [] = Unit {0}
+  AreStates s [] (t ∷ ts) = ⊥
+  AreStates s (b ∷ bs) [] = ⊥
+  AreStates s (b ∷ bs) (t ∷ ts) = IsApplied s b t × AreStates t bs ts
+
+-- the last of the states after one, and that one itself where there are none
+abbrev pub last_state : LedgerState → List LedgerState → LedgerState
+last_state s [] = s
+last_state s (t ∷ ts) = last_state t ts
 
 -- ---- chains
 

@@ -6,38 +6,11 @@ use Rattle.std.specs.List.{AllByRecursion}
 use Rattle.std.specs.Ordering.{nat_cmp}
 use Rattle.std.specs.declared.cmp.Ordering.TheVariants.{Greater}
 use Rattle.std.specs.Cmp.Lexicographic.{slice_cmp}
+use Rattle.model.specs.Genesis.{Genesis}
+use Rattle.model.specs.Ledger.{Network, ledger_of}
 use Rattle.model.specs.Limits.{hash_size}
 use Rattle.model.specs.Transaction.{Transaction, Input, Output}
 use Rattle.model.specs.Block.{Block, block_hash_of, body_size_of}
-
--- what a network agrees on before its first block
-pub record Genesis : Type 0 where
-  pub k : ℕ  -- how many blocks of the selected chain may be rolled back
-  pub max_volatile : ℕ  -- how many live blocks are kept at most
-  pub max_body_size : ℕ  -- of a block's body, in bytes
-
--- ---- the ledger of a chain
-
--- the unspent outputs, each with the input that would spend it, and the fees so far
-pub record Ledger : Type 0 where
-  pub utxo : List (Input × Output)
-  pub fees : ℕ
-
-abbrev pub opening_ledger : Ledger
-opening_ledger = record { utxo = []; fees = 0 }
-
--- the ledger after a body. There are no rules of transactions yet: none leaves a ledger
-abbrev pub ledger_after : Ledger → List Transaction → Option Ledger
-ledger_after ledger [] = Some ledger
-ledger_after ledger (t ∷ ts) = None
-
-abbrev pub ledger_from : Ledger → List Block → Option Ledger
-ledger_from ledger [] = Some ledger
-ledger_from ledger (b ∷ bs) = option_and_then (λ after. ledger_from after bs) (ledger_after ledger b.transactions)
-
--- the ledger after all blocks of a chain, where none of them has a fault
-abbrev pub ledger_of : List Block → Option Ledger
-ledger_of chain = ledger_from opening_ledger chain
 
 -- ---- valid chains
 
@@ -65,10 +38,10 @@ IsLinked tip [] = Unit {0}
 IsLinked tip (b ∷ bs) = Follows tip b × IsLinked (tip_at b) bs
 
 -- blocks that apply one after the other from genesis
-pub record IsValidChain (genesis : Genesis) (chain : List Block) : Type 0 where
+pub record IsValidChain (network : Network) (chain : List Block) : Type 0 where
   pub linked : IsLinked genesis_tip chain
-  pub sizes : AllByRecursion (λ b. body_size_of b ≤ genesis.max_body_size) chain
-  pub ledger : IsSome (ledger_of chain)
+  pub sizes : AllByRecursion (λ b. body_size_of b ≤ network.genesis.params.max_body_size) chain
+  pub ledger : IsSome (ledger_of network chain)
 
 -- ---- selection
 
@@ -94,14 +67,14 @@ abbrev pub BeginsWith : List Block → List Block → Type 0
 BeginsWith chain part = take (length part) chain ≡ part
 
 -- a valid chain of kept blocks through the immutable tip of the selected chain
-pub record IsCandidate (genesis : Genesis) (kept selected candidate : List Block) : Type 0 where
-  pub valid : IsValidChain genesis candidate
+pub record IsCandidate (network : Network) (kept selected candidate : List Block) : Type 0 where
+  pub valid : IsValidChain network candidate
   pub members : AllByRecursion (Contains kept) candidate
-  pub begins : BeginsWith candidate (immutable_part genesis selected)
+  pub begins : BeginsWith candidate (immutable_part network.genesis selected)
 
-abbrev pub NoneLonger : Genesis → List Block → List Block → Type 0
-NoneLonger genesis kept selected =
-    (candidate : List Block) → IsCandidate genesis kept selected candidate → length candidate ≤ length selected
+abbrev pub NoneLonger : Network → List Block → List Block → Type 0
+NoneLonger network kept selected =
+    (candidate : List Block) → IsCandidate network kept selected candidate → length candidate ≤ length selected
 
 -- where a chain ends that goes on from this tip
 abbrev pub tip_after : Tip → List Block → Tip
@@ -125,17 +98,17 @@ tip_point chain = record {
 }
 
 -- the longest candidate, and of several the one whose last block has the least hash, compared as bytes
-pub record IsChosen (genesis : Genesis) (kept selected chosen : List Block) : Type 0 where
-  pub candidate : IsCandidate genesis kept selected chosen
+pub record IsChosen (network : Network) (kept selected chosen : List Block) : Type 0 where
+  pub candidate : IsCandidate network kept selected chosen
   pub longer : length selected < length chosen
-  pub longest : (other : List Block) → IsCandidate genesis kept selected other → length other ≤ length chosen
-  pub least : (other : List Block) → IsCandidate genesis kept selected other → length other ≡ length chosen
+  pub longest : (other : List Block) → IsCandidate network kept selected other → length other ≤ length chosen
+  pub least : (other : List Block) → IsCandidate network kept selected other → length other ≡ length chosen
       → slice_cmp nat_cmp (tip_hash chosen) (tip_hash other) ≢ Greater
 
 -- SELECTION RULE (the Consensus and Storage Layer report, chain selection; the tie is this project's own)
 -- It is asked anew after each block that is kept, over all kept blocks. Candidates are the valid chains of these
 -- through the immutable tip: where none is longer than the selected chain that stays, and else it becomes the longest
 -- one, of several the one with the least hash at its end.
-pub data IsSelection (genesis : Genesis) (kept selected : List Block) : List Block → Type 0 where
-  Stays : NoneLonger genesis kept selected → IsSelection genesis kept selected selected
-  Changes : (chosen : List Block) → IsChosen genesis kept selected chosen → IsSelection genesis kept selected chosen
+pub data IsSelection (network : Network) (kept selected : List Block) : List Block → Type 0 where
+  Stays : NoneLonger network kept selected → IsSelection network kept selected selected
+  Changes : (chosen : List Block) → IsChosen network kept selected chosen → IsSelection network kept selected chosen

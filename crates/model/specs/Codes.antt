@@ -16,8 +16,8 @@ use Rattle.model.specs.Transaction.{Credential, KeyHash, ScriptHash, Address, In
 use Rattle.model.specs.Block.{Header, Block}
 use Rattle.model.specs.Utxo.{Utxo}
 use Rattle.model.specs.Rules.{Params}
-use Rattle.model.specs.Genesis.{Grant, Genesis as Configuration}
-use Rattle.model.specs.Chain.{Genesis, Ledger, Tip}
+use Rattle.model.specs.Genesis.{Grant, Genesis}
+use Rattle.model.specs.Chain.{Tip}
 use Rattle.model.specs.Applying.{LedgerState}
 use Rattle.model.specs.Follower.{Followers}
 use Rattle.model.specs.History.{State, Refusal, TooLarge, Malformed, BodyHashMismatch, TooOld, Known, Clash}
@@ -320,8 +320,8 @@ coded_grant =
     (λ p. record { address = p.0; coin = p.1 }) (λ _. refl)
 
 -- all that a network agrees on before its first block
-abbrev pub coded_configuration : Coded Configuration
-coded_configuration =
+abbrev pub coded_genesis : Coded Genesis
+coded_genesis =
     code_by (Params × (ℕ × (ℕ × (ℕ × List Grant))))
     (coded× coded_params (coded× coded_ℕ (coded× coded_ℕ (coded× coded_ℕ (coded_list coded_grant)))))
     (λ g. (g.params, (g.k, (g.max_volatile, (g.max_mempool, g.grants)))))
@@ -329,21 +329,6 @@ coded_configuration =
     (λ _. refl)
 
 -- ---- chains and histories
-
--- what a network agrees on before its first block
-abbrev pub coded_genesis : Coded Genesis
-coded_genesis =
-    code_by (ℕ × (ℕ × ℕ)) (coded× coded_ℕ (coded× coded_ℕ coded_ℕ))
-    (λ g. (g.k, (g.max_volatile, g.max_body_size)))
-    (λ p. record { k = p.0; max_volatile = p.1.0; max_body_size = p.1.1 })
-    (λ _. refl)
-
--- the unspent outputs, and the fees so far
-abbrev pub coded_ledger : Coded Ledger
-coded_ledger =
-    code_by (List (Input × Output)
-    × ℕ) (coded× (coded_list (coded× coded_input coded_output)) coded_ℕ) (λ l. (l.utxo, l.fees))
-    (λ p. record { utxo = p.0; fees = p.1 }) (λ _. refl)
 
 -- where a chain ends
 abbrev pub coded_tip : Coded Tip

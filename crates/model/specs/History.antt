@@ -3,7 +3,9 @@
 use Rattle.std.specs.Prelude.{◌≡◌, ◌≢◌, ◌++◌, ℕ, ◌+◌, ◌-◌, ◌≤◌, ◌<◌, ◌⊎◌, List, [], ◌∷◌, length, take, Contains, Some}
 use Rattle.std.specs.Prelude.{None, slice_set}
 use Rattle.model.specs.Block.{Block, SpellsBlock, block_text, block_hash_of, body_hash_of}
-use Rattle.model.specs.Chain.{Genesis, immutable_length, live_blocks, IsSelection, BeginsWith, IsValidChain, NoneLonger}
+use Rattle.model.specs.Genesis.{Genesis}
+use Rattle.model.specs.Ledger.{Network}
+use Rattle.model.specs.Chain.{immutable_length, live_blocks, IsSelection, BeginsWith, IsValidChain, NoneLonger}
 use Rattle.model.specs.Limits.{block_size_limit, follower_limit}
 use Rattle.model.specs.Follower.{Followers, Instruction, told_by, free_id, with_opened, MayBeTold}
 
@@ -100,13 +102,13 @@ pub record IsChange (old new : List Block) (back added : ℕ) : Type 0 where
 -- Bytes are kept where they are read as a block and no refusal applies. The block joins the kept ones, the selection
 -- rule then says which chain is selected, and the reply counts the blocks rolled back and put on. Followers are told
 -- later.
-pub record Keeps (genesis : Genesis) (s : State) (bytes : List ℕ) (back added : ℕ) (t : State) : Type 0 where
+pub record Keeps (network : Network) (s : State) (bytes : List ℕ) (back added : ℕ) (t : State) : Type 0 where
   pub block : Block
   pub read : SpellsBlock block bytes
-  pub not_refused : (refusal : Refusal) → Applies genesis s bytes refusal → ⊥
+  pub not_refused : (refusal : Refusal) → Applies network.genesis s bytes refusal → ⊥
   pub kept : t.kept ≡ block ∷ s.kept
   pub followers : t.followers ≡ s.followers
-  pub selection : IsSelection genesis t.kept s.chain t.chain
+  pub selection : IsSelection network t.kept s.chain t.chain
   pub change : IsChange s.chain t.chain back added
 
 -- a follower of the least free number is opened
@@ -126,16 +128,16 @@ pub record Instructs (s : State) (id : ℕ) (instruction : Instruction) (t : Sta
 -- STEP RULE (this project's own, over the report's interface of the chain database)
 -- From one state an event may be answered so, and leave the other; each kind of event has its own replies. What is
 -- refused changes nothing, nor does want of memory, which may be answered to any event.
-abbrev pub Step : Genesis → State → Event → Reply → State → Type 0
-Step genesis s (Arrive bytes) (Kept back added) t = Keeps genesis s bytes back added t
-Step genesis s (Arrive bytes) (Refused refusal) t = IsRefused genesis s bytes refusal × (t ≡ s)
-Step genesis s Open (Opened id) t = Opens s id t
-Step genesis s Open TooManyFollowers t = (follower_limit ≤ free_id s.followers) × (t ≡ s)
-Step genesis s (Next id) (Instructed instruction) t = Instructs s id instruction t
-Step genesis s (Next id) UnknownFollower t = (told_by s.followers id ≡ None) × (t ≡ s)
-Step genesis s event OutOfMemory t = t ≡ s
+abbrev pub Step : Network → State → Event → Reply → State → Type 0
+Step network s (Arrive bytes) (Kept back added) t = Keeps network s bytes back added t
+Step network s (Arrive bytes) (Refused refusal) t = IsRefused network.genesis s bytes refusal × (t ≡ s)
+Step network s Open (Opened id) t = Opens s id t
+Step network s Open TooManyFollowers t = (follower_limit ≤ free_id s.followers) × (t ≡ s)
+Step network s (Next id) (Instructed instruction) t = Instructs s id instruction t
+Step network s (Next id) UnknownFollower t = (told_by s.followers id ≡ None) × (t ≡ s)
+Step network s event OutOfMemory t = t ≡ s
 -- no event is answered otherwise
-Step genesis s event reply t = ⊥
+Step network s event reply t = ⊥
 
 -- ---- histories
 
@@ -145,13 +147,13 @@ pub record Entry : Type 0 where
   pub reply : Reply
 
 -- these events were answered so, one after the other
-abbrev pub IsRun : Genesis → State → List Entry → State → Type 0
-IsRun genesis s [] t = t ≡ s
-IsRun genesis s (e ∷ es) t = (mid : State) × Step genesis s e.event e.reply mid × IsRun genesis mid es t
+abbrev pub IsRun : Network → State → List Entry → State → Type 0
+IsRun network s [] t = t ≡ s
+IsRun network s (e ∷ es) t = (mid : State) × Step network s e.event e.reply mid × IsRun network mid es t
 
 -- a history from the beginning, and the state that it leaves
-abbrev pub IsLegal : Genesis → List Entry → State → Type 0
-IsLegal genesis history s = IsRun genesis opening history s
+abbrev pub IsLegal : Network → List Entry → State → Type 0
+IsLegal network history s = IsRun network opening history s
 
 -- ---- what a history says by itself
 
@@ -177,12 +179,12 @@ abbrev pub length_after : List Entry → ℕ
 length_after history = length_from 0 history
 
 -- the chain was the beginning of a selected chain after some part of the history
-pub record WasSelected (genesis : Genesis) (history : List Entry) (chain : List Block) : Type 0 where
+pub record WasSelected (network : Network) (history : List Entry) (chain : List Block) : Type 0 where
   pub past : List Entry
   pub since : List Entry
   pub split : history ≡ past ++ since
   pub state : State
-  pub legal : IsLegal genesis past state
+  pub legal : IsLegal network past state
   pub begins : BeginsWith state.chain chain
 
 -- ---- the chain theorem
@@ -190,8 +192,8 @@ pub record WasSelected (genesis : Genesis) (history : List Entry) (chain : List 
 -- The history is legal and leaves this state; the selected chain is valid; no valid chain of kept blocks through the
 -- immutable tip is longer; and what each follower was told is the beginning of a chain that was selected at some time
 -- of the history.
-pub record ChainTheorem (genesis : Genesis) (history : List Entry) (state : State) : Type 0 where
-  pub legal : IsLegal genesis history state
-  pub valid : IsValidChain genesis state.chain
-  pub longest : NoneLonger genesis state.kept state.chain
-  pub told : (id : ℕ) (told : List Block) → told_by state.followers id ≡ Some told → WasSelected genesis history told
+pub record ChainTheorem (network : Network) (history : List Entry) (state : State) : Type 0 where
+  pub legal : IsLegal network history state
+  pub valid : IsValidChain network state.chain
+  pub longest : NoneLonger network state.kept state.chain
+  pub told : (id : ℕ) (told : List Block) → told_by state.followers id ≡ Some told → WasSelected network history told

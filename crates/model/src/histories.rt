@@ -4,7 +4,8 @@
 ghost use Rattle.std.specs.Prelude.{◌≡◌, ◌≢◌, ℕ, ◌-◌, ◌<◌, ◌≤◌, ◌↔◌, ◌⊎◌, List, ◌++◌, length, take, Contains, Some};
 ghost use Rattle.std.specs.Prelude.{slice_get};
 ghost use Rattle.model.specs.Block.{Block};
-ghost use Rattle.model.specs.Chain.{Genesis, IsValidChain, NoneLonger, IsSelection, IsCandidate, HaveDistinctHashes};
+ghost use Rattle.model.specs.Ledger.{Network};
+ghost use Rattle.model.specs.Chain.{IsValidChain, NoneLonger, IsSelection, IsCandidate, HaveDistinctHashes};
 ghost use Rattle.model.specs.Chain.{live_blocks, immutable_part, BeginsWith};
 ghost use Rattle.model.specs.Follower.{told_by};
 ghost use Rattle.model.specs.History.{State, Event, Reply, Kept, Entry, Step, IsRun, IsLegal, IsKeptBy, WasSelected};
@@ -12,92 +13,92 @@ ghost use Rattle.model.specs.History.{ChainTheorem, live_of, length_after};
 
 /// The selection rule has one answer at most, where no two live blocks have one hash.
 pub fn one_selection()
-    ensures { (genesis : Genesis) (kept selected a b : List Block)
-        → HaveDistinctHashes (live_blocks genesis kept selected)
-        → IsSelection genesis kept selected a → IsSelection genesis kept selected b → a ≡ b }
+    ensures { (network : Network) (kept selected a b : List Block)
+        → HaveDistinctHashes (live_blocks network.genesis kept selected)
+        → IsSelection network kept selected a → IsSelection network kept selected b → a ≡ b }
 {}
 
 /// After every legal history no two live blocks have one hash.
 pub fn live_hashes_differ()
-    ensures { (genesis : Genesis) (history : List Entry) (s : State) → IsLegal genesis history s
-        → HaveDistinctHashes (live_of genesis s) }
+    ensures { (network : Network) (history : List Entry) (s : State) → IsLegal network history s
+        → HaveDistinctHashes (live_of network.genesis s) }
 {}
 
 /// A history determines its state: what was answered leaves nothing open.
 pub fn one_state()
-    ensures { (genesis : Genesis) (history : List Entry) (s t : State) → IsLegal genesis history s
-        → IsLegal genesis history t → s ≡ t }
+    ensures { (network : Network) (history : List Entry) (s t : State) → IsLegal network history s
+        → IsLegal network history t → s ≡ t }
 {}
 
 /// The kept blocks are those whose arrival was answered so.
 pub fn kept_blocks()
-    ensures { (genesis : Genesis) (history : List Entry) (s : State) (b : Block) → IsLegal genesis history s
+    ensures { (network : Network) (history : List Entry) (s : State) (b : Block) → IsLegal network history s
         → Contains s.kept b ↔ IsKeptBy history b }
 {}
 
 /// The selected chain of a legal history.
 pub fn selected_chain()
     // It is valid.
-    ensures valid { (genesis : Genesis) (history : List Entry) (s : State) → IsLegal genesis history s
-        → IsValidChain genesis s.chain }
+    ensures valid { (network : Network) (history : List Entry) (s : State) → IsLegal network history s
+        → IsValidChain network s.chain }
     // No valid chain of kept blocks through the immutable tip is longer.
-    ensures longest { (genesis : Genesis) (history : List Entry) (s : State) → IsLegal genesis history s
-        → NoneLonger genesis s.kept s.chain }
+    ensures longest { (network : Network) (history : List Entry) (s : State) → IsLegal network history s
+        → NoneLonger network s.kept s.chain }
     // It changes only to a longer one.
-    ensures longer { (genesis : Genesis) (s : State) (event : Event) (reply : Reply) (t : State)
-        → Step genesis s event reply t
+    ensures longer { (network : Network) (s : State) (event : Event) (reply : Reply) (t : State)
+        → Step network s event reply t
         → (t.chain ≡ s.chain) ⊎ (length s.chain < length t.chain) }
     // The replies alone tell how long it is.
-    ensures counted { (genesis : Genesis) (history : List Entry) (s : State) → IsLegal genesis history s
+    ensures counted { (network : Network) (history : List Entry) (s : State) → IsLegal network history s
         → length s.chain ≡ length_after history }
 {}
 
 /// The immutable part of the selected chain only grows, whatever arrives.
 pub fn immutable_part_grows()
     // Every later selected chain begins with it.
-    ensures begins { (genesis : Genesis) (s : State) (later : List Entry) (t : State) → IsRun genesis s later t
-        → BeginsWith t.chain (immutable_part genesis s.chain) }
+    ensures begins { (network : Network) (s : State) (later : List Entry) (t : State) → IsRun network s later t
+        → BeginsWith t.chain (immutable_part network.genesis s.chain) }
     // So does every later immutable part.
-    ensures grows { (genesis : Genesis) (s : State) (later : List Entry) (t : State) → IsRun genesis s later t
-        → BeginsWith (immutable_part genesis t.chain) (immutable_part genesis s.chain) }
+    ensures grows { (network : Network) (s : State) (later : List Entry) (t : State) → IsRun network s later t
+        → BeginsWith (immutable_part network.genesis t.chain) (immutable_part network.genesis s.chain) }
     // A candidate through a later immutable tip is one through the tip of now.
-    ensures candidates { (genesis : Genesis) (s : State) (later : List Entry) (t : State) (kept candidate : List Block)
-        → IsRun genesis s later t
-        → IsCandidate genesis kept t.chain candidate → IsCandidate genesis kept s.chain candidate }
+    ensures candidates { (network : Network) (s : State) (later : List Entry) (t : State) (kept candidate : List Block)
+        → IsRun network s later t
+        → IsCandidate network kept t.chain candidate → IsCandidate network kept s.chain candidate }
 {}
 
 /// What is answered of a block that is kept: how many blocks of the old chain are rolled back, and how many of
 /// the new one put on.
 pub fn change_counts()
     // The two chains share the rest,
-    ensures shared { (genesis : Genesis) (s : State) (event : Event) (back added : ℕ) (t : State)
-        → Step genesis s event (Kept back added) t
+    ensures shared { (network : Network) (s : State) (event : Event) (back added : ℕ) (t : State)
+        → Step network s event (Kept back added) t
         → (back ≤ length s.chain) × (added ≤ length t.chain)
         × (take (length s.chain - back) s.chain ≡ take (length t.chain - added) t.chain) }
     // and no more: the next blocks differ.
-    ensures no_more { (genesis : Genesis) (s : State) (event : Event) (back added : ℕ) (t : State) (b c : Block)
-        → Step genesis s event (Kept back added) t
+    ensures no_more { (network : Network) (s : State) (event : Event) (back added : ℕ) (t : State) (b c : Block)
+        → Step network s event (Kept back added) t
         → slice_get s.chain (length s.chain - back) ≡ Some b → slice_get t.chain (length t.chain - added) ≡ Some c
         → b ≢ c }
     // Never are more than k blocks rolled back.
-    ensures bounded { (genesis : Genesis) (s : State) (event : Event) (back added : ℕ) (t : State)
-        → Step genesis s event (Kept back added) t
-        → back ≤ genesis.k }
+    ensures bounded { (network : Network) (s : State) (event : Event) (back added : ℕ) (t : State)
+        → Step network s event (Kept back added) t
+        → back ≤ network.genesis.k }
     // A chain that stays is answered with 0 and 0; one that changes has more put on than rolled back.
-    ensures told { (genesis : Genesis) (s : State) (event : Event) (back added : ℕ) (t : State)
-        → Step genesis s event (Kept back added) t
+    ensures told { (network : Network) (s : State) (event : Event) (back added : ℕ) (t : State)
+        → Step network s event (Kept back added) t
         → ((t.chain ≡ s.chain) × (back ≡ 0) × (added ≡ 0)) ⊎ (back < added) }
 {}
 
 /// What a follower was told is the beginning of a chain that was selected at some time of the history.
 pub fn told_chains()
-    ensures { (genesis : Genesis) (history : List Entry) (s : State) (id : ℕ) (told : List Block)
-        → IsLegal genesis history s
-        → told_by s.followers id ≡ Some told → WasSelected genesis history told }
+    ensures { (network : Network) (history : List Entry) (s : State) (id : ℕ) (told : List Block)
+        → IsLegal network history s
+        → told_by s.followers id ≡ Some told → WasSelected network history told }
 {}
 
 /// The chain theorem holds of every legal history and the state that it leaves.
 pub fn chain_theorem()
-    ensures { (genesis : Genesis) (history : List Entry) (s : State) → IsLegal genesis history s
-        → ChainTheorem genesis history s }
+    ensures { (network : Network) (history : List Entry) (s : State) → IsLegal network history s
+        → ChainTheorem network history s }
 {}

@@ -2,6 +2,7 @@
 #![tactic(auto)]
 
 mod command_line;
+mod genesis_file;
 mod jobs;
 mod start;
 

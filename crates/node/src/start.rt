@@ -2,13 +2,15 @@
 
 ghost use Rattle.std.specs.Prelude.{◌≡◌, ◌≢◌, ◌≤◌, ◌⊎◌, IfErr, IfSome, OnOk};
 ghost use Rattle.clap.specs.Words.{kind_of};
-ghost use Rattle.scenario.specs.Run.{script_genesis, EndsWell};
+ghost use Rattle.scenario.specs.Run.{script_network, EndsWell};
 ghost use Rattle.node.specs.Ending.{EndsBySome};
 
 use crate::command_line::job;
+use crate::genesis_file::{MAX_GENESIS_SIZE, NoGenesis, read_genesis};
 use crate::jobs::Job;
 use clap::Error;
 use clap::error::ErrorKind;
+use genesis::{Genesis, GenesisFault};
 use scenario::ScenarioFault;
 use std::alloc::{AllocError, Global};
 use std::fs::File;
@@ -22,31 +24,63 @@ enum Failure<'a> {
     /// The file of this path can't be read.
     #[error("cannot read {0}")]
     CannotRead(&'a str),
-    /// The run of the script failed.
+    /// What the genesis file says is no genesis: the fault, with its number.
+    #[error("genesis: {number} {fault}")]
+    Genesis { number: u8, fault: GenesisFault },
+    /// The run of the script failed, or memory ran out before it.
     #[error(transparent)]
     Scenario(ScenarioFault),
 }
 
-/// Runs the script that a reader gives, read through a buffer.
+/// Why a genesis file of this path says no genesis.
+fn genesis_failure<'a>(path: &'a str, why: NoGenesis) -> Failure<'a> {
+    match why {
+        NoGenesis::Unread => Failure::CannotRead(path),
+        NoGenesis::Fault(fault) => match fault.number() {
+            Some(number) => Failure::Genesis { number, fault },
+            None => Failure::Scenario(ScenarioFault::OutOfMemory),
+        },
+    }
+}
+
+/// The genesis that a file says.
+fn genesis_of_file<'a, R: Files + AllocGlobal>(
+    rt: &R,
+    path: &'a str,
+) -> Result<Genesis, Failure<'a>> {
+    let Ok(file) = File::open(rt, path) else {
+        return Err(Failure::CannotRead(path));
+    };
+    // One byte more than a genesis file may have makes it too large, so a file without end takes no more memory.
+    let mut bytes = file.take(MAX_GENESIS_SIZE + 1);
+    match read_genesis(rt.alloc(), &mut bytes) {
+        Ok(genesis) => Ok(genesis),
+        Err(why) => Err(genesis_failure(path, why)),
+    }
+}
+
+/// Runs the script that a reader gives, read through a buffer, on a network of this genesis.
 fn run_reader<R: Read, W: Write>(
     alloc: Global,
+    genesis: Genesis,
     reader: &mut R,
     out: &mut W,
 ) -> Result<(), ScenarioFault>
     ensures ok { OnOk result (IfSome (R.remaining reader.old)
-        (λ text. EndsWell script_genesis text (W.contents out.old) (W.contents out.new))) }
+        (λ text. EndsWell (script_network genesis) text (W.contents out.old) (W.contents out.new))) }
     ensures fault { IfErr result (λ why. IfSome (R.remaining reader.old)
-        (λ text. EndsBySome text (W.contents out.old) (W.contents out.new) why)) }
+        (λ text. EndsBySome (script_network genesis) text (W.contents out.old) (W.contents out.new) why)) }
 {
     let Ok(mut reader) = BufReader::new(alloc, reader) else {
         return Err(ScenarioFault::OutOfMemory);
     };
-    scenario::run(alloc, &mut reader, out)
+    scenario::run(alloc, genesis, &mut reader, out)
 }
 
-/// Runs the script of a file.
+/// Runs the script of a file on a network of this genesis.
 fn run_file<'a, R: Files + AllocGlobal, W: Write>(
     rt: &R,
+    genesis: Genesis,
     path: &'a str,
     out: &mut W,
 ) -> Result<(), Failure<'a>> {
@@ -55,10 +89,22 @@ fn run_file<'a, R: Files + AllocGlobal, W: Write>(
     };
     // One byte more than a script may have makes its line a bad one, so a line without end takes no more memory.
     let mut script = file.take(scenario::MAX_SCRIPT_SIZE + 1);
-    match run_reader(rt.alloc(), &mut script, out) {
+    match run_reader(rt.alloc(), genesis, &mut script, out) {
         Ok(()) => Ok(()),
         Err(fault) => Err(Failure::Scenario(fault)),
     }
+}
+
+/// Runs the script of a file under the genesis of another. The genesis is read first, and where it is none the script
+/// isn't opened.
+fn run_files<'a, R: Files + AllocGlobal, W: Write>(
+    rt: &R,
+    genesis: &'a str,
+    script: &'a str,
+    out: &mut W,
+) -> Result<(), Failure<'a>> {
+    let genesis = genesis_of_file(rt, genesis)?;
+    run_file(rt, genesis, script, out)
 }
 
 /// Tells why a command line is no job, and answers the status.
@@ -96,7 +142,7 @@ fn do_job<R: Files + AllocGlobal, O: Write, E: Write>(
     ensures quiet { result ≡ 0 → err.new ≡ err.old }
 {
     match job {
-        Job::Run { genesis: _, script } => match run_file(rt, *script, out) {
+        Job::Run { genesis, script } => match run_files(rt, *genesis, *script, out) {
             Ok(()) => 0,
             Err(failure) => {
                 let _ = write!(err, "{failure}\n");

@@ -67,18 +67,137 @@ fn help_and_version(rt: HostRuntime) {
     assert!(rt; err.is_empty());
 }
 
+/// Makes a folder that this test alone writes to: the first of these names that is free.
+fn own_folder(rt: &(impl Files + AllocGlobal)) -> Result<String, Fail> {
+    for number in 0..1000u64 {
+        let path = format!(in rt.alloc(); "/tmp/node_tests_{number}")?;
+        if fs::create_dir(rt, path.as_str()).is_ok() {
+            return Ok(path);
+        }
+    }
+    let none: Option<String> = None;
+    Ok(none.ok_or("no folder is free")?)
+}
+
+/// The lines of a genesis behind its network and k.
+const OTHER_NUMBERS: &str = "min_fee_a = 1
+min_fee_b = 100
+min_utxo = 10
+max_tx_size = 4096
+max_body_size = 65536
+max_volatile = 100
+max_mempool = 100
+";
+
+/// Its outputs: 1,200 lovelace to the key of 32 bytes 01.
+const OUTPUT: &str = "[[output]]
+key = \"0101010101010101010101010101010101010101010101010101010101010101\"
+coin = 1200
+";
+
+/// A genesis.
+const GENESIS: &[&str] = &["network = 0\nk = 2\n", OTHER_NUMBERS, OUTPUT];
+
+/// Writes parts to the file of this name in a folder, and answers its path.
+fn write_file(
+    rt: &(impl Files + AllocGlobal),
+    folder: &str,
+    name: &str,
+    parts: &[&str],
+) -> Result<String, Fail> {
+    let mut text = String::new(rt.alloc());
+    for part in parts {
+        text.push_str(part)?;
+    }
+    let path = format!(in rt.alloc(); "{folder}/{name}")?;
+    fs::write(rt, path.as_str(), text.as_bytes())?;
+    Ok(path)
+}
+
+/// The script of a file is run under the genesis of another, with this status, and this is printed and told.
+fn runs(
+    rt: &(impl Abort + Files + AllocGlobal),
+    genesis: &str,
+    script: &str,
+    (status, printed, told): (u8, &str, &str),
+) {
+    let words = ["node", "run", "--script", script, "--genesis", genesis];
+    let (answer, out, err) = started(rt, words.as_slice());
+    assert_eq!(rt; err.as_slice(), told.as_bytes());
+    assert_eq!(rt; out.as_slice(), printed.as_bytes());
+    assert_eq!(rt; answer, status);
+}
+
 #[test]
-fn files_that_cannot_be_read(rt: HostRuntime) {
+fn files_that_cannot_be_read(rt: HostRuntime) -> Result<(), Fail> {
+    let folder = own_folder(&rt)?;
+    let genesis = write_file(&rt, &folder, "genesis.toml", GENESIS)?;
     for (path, told) in [
         ("no/such.script", "cannot read no/such.script\n"),
         ("/", "read failed\n"),
     ] {
-        let words = ["node", "run", "--genesis", "g", "--script", path];
-        let (status, out, err) = started(&rt, words.as_slice());
-        assert_eq!(rt; status, 1);
-        assert_eq!(rt; err.as_slice(), told.as_bytes());
-        assert!(rt; out.is_empty());
+        runs(&rt, &genesis, path, (1, "", told));
     }
+    // The genesis is read first. A folder and a file without end can't be read as one.
+    for (path, told) in [
+        ("no/such.toml", "cannot read no/such.toml\n"),
+        ("/", "cannot read /\n"),
+        ("/dev/zero", "cannot read /dev/zero\n"),
+    ] {
+        runs(&rt, path, "no/such.script", (1, "", told));
+    }
+    fs::remove_dir_all(&rt, folder.as_str())?;
+    Ok(())
+}
+
+/// Texts of genesis files with a fault, in parts, and what is told of them.
+const FAULTS: &[(&[&str], &str)] = &[
+    (
+        &["network = 0\nk =\n", OTHER_NUMBERS, OUTPUT],
+        "genesis: 1 NotToml\n",
+    ),
+    (&[], "genesis: 2 BadShape\n"),
+    (&["k = 0\n", OTHER_NUMBERS, OUTPUT], "genesis: 2 BadShape\n"),
+    (
+        &["network = 0\nk = 0\n", OTHER_NUMBERS, OUTPUT],
+        "genesis: 3 OutOfRange\n",
+    ),
+    (
+        &[
+            "network = 0\nk = 2\n",
+            OTHER_NUMBERS,
+            "[[output]]\nkey = \"01010101010101010101010101010101010101010101010101010101010101\"\ncoin = 0\n",
+        ],
+        "genesis: 4 BadAddress\n",
+    ),
+    (
+        &[
+            "network = 0\nk = 2\n",
+            OTHER_NUMBERS,
+            "[[output]]\nkey = \"0101010101010101010101010101010101010101010101010101010101010101\"\ncoin = 0\n",
+        ],
+        "genesis: 5 BadCoin\n",
+    ),
+    (
+        &["network = 0\nk = 2\n", OTHER_NUMBERS, "output = []\n"],
+        "genesis: 6 BadOutputs\n",
+    ),
+];
+
+// The first fault of the genesis is told, and no script is opened.
+#[test]
+fn faults_of_the_genesis(rt: HostRuntime) -> Result<(), Fail> {
+    let folder = own_folder(&rt)?;
+    for (parts, told) in FAULTS {
+        let genesis = write_file(&rt, &folder, "genesis.toml", parts)?;
+        runs(&rt, &genesis, "no/such.script", (1, "", told));
+    }
+    let genesis = format!(in rt.alloc(); "{folder}/bytes")?;
+    fs::write(&rt, genesis.as_str(), b"# \xff\n".as_slice())?;
+    let told = "genesis: 1 NotToml\n";
+    runs(&rt, &genesis, "no/such.script", (1, "", told));
+    fs::remove_dir_all(&rt, folder.as_str())?;
+    Ok(())
 }
 
 /// A writer that takes nothing.
@@ -95,59 +214,63 @@ impl Write for Closed {
     }
 }
 
+/// Scripts of files with the status, what is printed and what is told.
+const SCRIPTS: &[(&str, (u8, &str, &str))] = &[
+    (
+        "block A1 genesis 1\narrive A1\ntip",
+        (0, "arrive A1: kept back 0 added 1\ntip: 1 A1\n", ""),
+    ),
+    (
+        "tip\ntip tip\ntip\n",
+        (1, "tip: 0 genesis\n", "line 2: BadLine\n"),
+    ),
+    (
+        "tip\narrive A1\n",
+        (1, "tip: 0 genesis\n", "line 2: UnknownName\n"),
+    ),
+    ("raw A1 80\n\nraw A1 80\n", (1, "", "line 3: NameTaken\n")),
+    (
+        "block A1 genesis 9223372036854775808\n",
+        (1, "", "line 1: NotBuilt\n"),
+    ),
+];
+
 #[test]
 fn scripts_of_files(rt: HostRuntime) -> Result<(), Fail> {
-    let path = "/tmp/node_scripts_of_files.script";
-    let run = [
+    let folder = own_folder(&rt)?;
+    let genesis = write_file(&rt, &folder, "genesis.toml", GENESIS)?;
+    for (text, end) in SCRIPTS {
+        let script = write_file(&rt, &folder, "some.script", &[*text])?;
+        runs(&rt, &genesis, &script, *end);
+    }
+    fs::remove_dir_all(&rt, folder.as_str())?;
+    Ok(())
+}
+
+/// These words end with status 1 where standard output takes nothing, and that is told.
+fn fails_to_write(rt: &(impl Abort + Files + AllocGlobal), words: &[&str]) {
+    let words = words_of(rt, words);
+    let mut err = Vec::new(rt.alloc());
+    let status = start(rt, words.as_slice(), &mut Closed {}, &mut err);
+    assert_eq!(rt; status, 1);
+    assert_eq!(rt; err.as_slice(), b"write failed\n".as_slice());
+}
+
+#[test]
+fn output_that_is_closed(rt: HostRuntime) -> Result<(), Fail> {
+    let folder = own_folder(&rt)?;
+    let genesis = write_file(&rt, &folder, "genesis.toml", GENESIS)?;
+    let script = write_file(&rt, &folder, "some.script", &["tip\n"])?;
+    let words = [
         "node",
         "run",
-        "--script",
-        path,
         "--genesis",
-        "no_genesis.toml",
+        genesis.as_str(),
+        "--script",
+        script.as_str(),
     ];
-    for (script, status, printed, told) in [
-        (
-            "block A1 genesis 1\narrive A1\ntip",
-            0,
-            "arrive A1: kept back 0 added 1\ntip: 1 A1\n",
-            "",
-        ),
-        (
-            "tip\ntip tip\ntip\n",
-            1,
-            "tip: 0 genesis\n",
-            "line 2: BadLine\n",
-        ),
-        (
-            "tip\narrive A1\n",
-            1,
-            "tip: 0 genesis\n",
-            "line 2: UnknownName\n",
-        ),
-        ("raw A1 80\n\nraw A1 80\n", 1, "", "line 3: NameTaken\n"),
-        (
-            "block A1 genesis 9223372036854775808\n",
-            1,
-            "",
-            "line 1: NotBuilt\n",
-        ),
-    ] {
-        fs::write(&rt, path, script)?;
-        let (answer, out, err) = started(&rt, run.as_slice());
-        assert_eq!(rt; answer, status);
-        assert_eq!(rt; out.as_slice(), printed.as_bytes());
-        assert_eq!(rt; err.as_slice(), told.as_bytes());
-    }
-    fs::write(&rt, path, "tip\n")?;
-    let words = words_of(&rt, run.as_slice());
-    let mut err = Vec::new(rt.alloc());
-    assert_eq!(rt; start(&rt, words.as_slice(), &mut Closed {}, &mut err), 1);
-    assert_eq!(rt; err.as_slice(), b"write failed\n".as_slice());
-    fs::remove_file(&rt, path)?;
-    let help = words_of(&rt, ["node", "--help"].as_slice());
-    let mut err = Vec::new(rt.alloc());
-    assert_eq!(rt; start(&rt, help.as_slice(), &mut Closed {}, &mut err), 1);
-    assert_eq!(rt; err.as_slice(), b"write failed\n".as_slice());
+    fails_to_write(&rt, words.as_slice());
+    fails_to_write(&rt, ["node", "--help"].as_slice());
+    fs::remove_dir_all(&rt, folder.as_str())?;
     Ok(())
 }

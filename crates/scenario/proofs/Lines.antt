@@ -3,7 +3,7 @@ use Rattle.std.proofs.Common.{◌≡◌, ◌≢◌, ℕ, ◌+◌, Bool, true, fa
 use Rattle.std.proofs.lemmas.Bool.Decides.{nat_tests}
 use Rattle.std.specs.List.{concat, onto_first}
 use Rattle.std.specs.Io.BufRead.{take_through, drop_through}
-use Rattle.model.specs.Chain.{Genesis}
+use Rattle.model.specs.Ledger.{Network}
 use Rattle.model.specs.History.{Entry}
 use Rattle.scenario.specs.Text.{lines_of}
 use Rattle.scenario.specs.Run.{Scene, Obeys, Prints}
@@ -41,27 +41,27 @@ line_and_rest [] = refl
 line_and_rest (x ∷ xs) = rest_bit x xs (nat_eq x 10) (line_and_rest xs)
 
 -- no line is read yet
-at_start : (genesis : Genesis) (before : ℕ) (s t : Scene) (line first : List ℕ) (entries : List Entry) (u : Scene) → t ≡ s → Obeys genesis (before + 0) t line first entries u → Obeys genesis before s line first entries u
-at_start genesis before s t line first entries u same obeys = subst (λ (n : ℕ). Obeys genesis n s line first entries u) (omega arith) (subst (λ (x : Scene). Obeys genesis (before + 0) x line first entries u) same obeys)
+at_start : (network : Network) (before : ℕ) (s t : Scene) (line first : List ℕ) (entries : List Entry) (u : Scene) → t ≡ s → Obeys network (before + 0) t line first entries u → Obeys network before s line first entries u
+at_start network before s t line first entries u same obeys = subst (λ (n : ℕ). Obeys network n s line first entries u) (omega arith) (subst (λ (x : Scene). Obeys network (before + 0) x line first entries u) same obeys)
 
 -- bytes before the last line, counted with those of the first
 size_of_first : (before : ℕ) (l : List ℕ) (ls : List (List ℕ)) → before + length (concat (l ∷ ls)) ≡ (before + length l) + length (concat ls)
 size_of_first before l ls = omega (arith, length-append l (concat ls))
 
 -- one more line
-pub prints_more : (genesis : Genesis) (before : ℕ) (s : Scene) (lines : List (List ℕ)) (out : List ℕ) (history : List Entry) (t : Scene) (line first : List ℕ) (entries : List Entry) (u : Scene) → Prints genesis before s lines out history t
-    → Obeys genesis (before + length (concat lines)) t line first entries u → Prints genesis before s (lines ++ line ∷ []) (out ++ first) (history ++ entries) u
-prints_more genesis before s [] out history t line first entries u (empty, none, same) obeys =
-    (first, [], entries, [], u, at_start genesis before s t line first entries u same obeys, (refl, refl, refl), ap (λ (l : List ℕ). l ++ first) empty ∙ sym (append-nil first), ap (λ (l : List Entry). l ++ entries) none ∙ sym (append-nil entries))
-prints_more genesis before s (l ∷ ls) out history t line first entries u (one, rest, told, later, mid, obeys_one, prints, is, all) obeys =
-    let after : Obeys genesis ((before + length l) + length (concat ls)) t line first entries u = subst (λ (n : ℕ). Obeys genesis n t line first entries u) (size_of_first before l ls) obeys in (
+pub prints_more : (network : Network) (before : ℕ) (s : Scene) (lines : List (List ℕ)) (out : List ℕ) (history : List Entry) (t : Scene) (line first : List ℕ) (entries : List Entry) (u : Scene) → Prints network before s lines out history t
+    → Obeys network (before + length (concat lines)) t line first entries u → Prints network before s (lines ++ line ∷ []) (out ++ first) (history ++ entries) u
+prints_more network before s [] out history t line first entries u (empty, none, same) obeys =
+    (first, [], entries, [], u, at_start network before s t line first entries u same obeys, (refl, refl, refl), ap (λ (l : List ℕ). l ++ first) empty ∙ sym (append-nil first), ap (λ (l : List Entry). l ++ entries) none ∙ sym (append-nil entries))
+prints_more network before s (l ∷ ls) out history t line first entries u (one, rest, told, later, mid, obeys_one, prints, is, all) obeys =
+    let after : Obeys network ((before + length l) + length (concat ls)) t line first entries u = subst (λ (n : ℕ). Obeys network n t line first entries u) (size_of_first before l ls) obeys in (
       one,
       rest ++ first,
       told,
       later ++ entries,
       mid,
       obeys_one,
-      prints_more genesis (before + length l) mid ls rest later t line first entries u prints after,
+      prints_more network (before + length l) mid ls rest later t line first entries u prints after,
       ap (λ (l : List ℕ). l ++ first) is ∙ append_assoc one rest first,
       ap (λ (l : List Entry). l ++ entries) all ∙ append_assoc told later entries,
     )

@@ -1,7 +1,7 @@
 -- A line in which a follower is told what comes next.
 use Rattle.std.proofs.Common.{◌≡◌, List, [], ◌++◌, ℕ, Option, Some, Result, Ok, Err, refl, sym, ap, subst, ◌∙◌}
 use Rattle.std.specs.Prelude.{IfOk, IfErr}
-use Rattle.model.specs.Chain.{Genesis}
+use Rattle.model.specs.Ledger.{Network}
 use Rattle.model.specs.Block.{Block}
 use Rattle.model.specs.Follower.{Followers, Instruction, told_by, IsDue, IsNextInstruction}
 use Rattle.model.specs.History.{State, Next, Instructed, OutOfMemory, Step}
@@ -33,25 +33,25 @@ same_instruction : (a b : Instruction) → Instructed a ≡ Instructed b → a �
 same_instruction a b e = cc
 
 -- what a follower is told is what is due
-next_at : (held : Held) (s : State) (id : ℕ) (result : Result (Option code.Instruction) NextFault) → Stands held s → IfOk result (λ i. core.IsNextFor held.chain held.followers id (instruction_of i)) → (instruction : Instruction)
+next_at : {S : Type 0} (held : Held) (s : State) (id : ℕ) (result : Result (Option (code.Instruction S)) NextFault) → Stands held s → IfOk result (λ i. core.IsNextFor held.chain held.followers id (instruction_of i)) → (instruction : Instruction)
     → next_reply_of result ≡ Instructed instruction → IsNextFor s id instruction
 next_at held s id (Ok i) stands next instruction is = subst (IsNextFor s id) (same_instruction (instruction_of i) instruction is) (next_in held s id (instruction_of i) stands next)
 next_at held s id (Err next.UnknownFollower) stands next instruction is = cc
 next_at held s id (Err next.OutOfMemory) stands next instruction is = cc
 
 -- memory runs out only where a block is due
-due_at : (held : Held) (s : State) (id : ℕ) (result : Result (Option code.Instruction) NextFault) → Stands held s → IfErr result (λ e. e ≡ next.OutOfMemory → core.HasDue held.chain held.followers id) → next_reply_of result ≡ OutOfMemory → HasDue s id
+due_at : {S : Type 0} (held : Held) (s : State) (id : ℕ) (result : Result (Option (code.Instruction S)) NextFault) → Stands held s → IfErr result (λ e. e ≡ next.OutOfMemory → core.HasDue held.chain held.followers id) → next_reply_of result ≡ OutOfMemory → HasDue s id
 due_at held s id (Ok i) stands memory is = cc
 due_at held s id (Err next.UnknownFollower) stands memory is = cc
 due_at held s id (Err next.OutOfMemory) stands memory is = due_in held s id stands (memory refl)
 
-pub telling_acted : (genesis : Genesis) (s : Scene) (name : List ℕ) (id : ℕ) (result : Result (Option code.Instruction) NextFault) (old out : List ℕ) (held : Held) (new : Session) → Some id ≡ follower_named name s.names.of_followers
+pub telling_acted : {S : Type 0} (network : Network) (s : Scene) (name : List ℕ) (id : ℕ) (result : Result (Option (code.Instruction S)) NextFault) (old out : List ℕ) (held : Held) (new : Session) → Some id ≡ follower_named name s.names.of_followers
     → old ≡ [] → (text : List ℕ) × IsNextText s.names.of_bytes name (next_reply_of result) text × (out ≡ old ++ text) → Stands held s.state → IfOk result (λ i. core.IsNextFor held.chain held.followers id (instruction_of i))
     → IfErr result (λ e. e ≡ next.OutOfMemory → core.HasDue held.chain held.followers id)
     → AreBound new.names s.names.of_bytes → AreNamed new.followers s.names.of_followers
-    → (t : State) × Step genesis s.state (Next id) (next_reply_of result) t × Stands new.core t
-    → Acted genesis s (next_meaning name (follower_named name s.names.of_followers)) out new
-telling_acted genesis s name id result old out held new is empty (text, is_text, printed) held_stands next memory names followers (t, step, stands) = record {
+    → (t : State) × Step network s.state (Next id) (next_reply_of result) t × Stands new.core t
+    → Acted network s (next_meaning name (follower_named name s.names.of_followers)) out new
+telling_acted network s name id result old out held new is empty (text, is_text, printed) held_stands next memory names followers (t, step, stands) = record {
   meaning = TellsFollower name id;
   is_said = ap (next_meaning name) (sym is);
   entries = entry (Next id) (next_reply_of result);

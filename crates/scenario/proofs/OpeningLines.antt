@@ -1,6 +1,6 @@
 -- A line that opens a follower.
 use Rattle.std.proofs.Common.{◌≡◌, List, [], ◌++◌, ℕ, false, Option, Some, None, option_map, is_some, Result, Err, refl, sym, ap, ◌∙◌}
-use Rattle.model.specs.Chain.{Genesis}
+use Rattle.model.specs.Ledger.{Network}
 use Rattle.model.specs.History.{State, Open, Reply, Step}
 use Rattle.chain_core.specs.declared.follower.FollowerId.{FollowerId}
 use Rattle.chain_core.specs.declared.follower.OpenFault.{OpenFault}
@@ -31,11 +31,11 @@ pub opening_printed : (out old name : List ℕ) (printed result : Result Followe
 opening_printed out old name printed result is empty same =
     is ∙ ap (λ (l : List ℕ). l ++ opening_text name (open_reply_of printed)) empty ∙ ap (λ (r : Result FollowerId OpenFault). opening_text name (open_reply_of r)) same
 
-pub opening_acted : (genesis : Genesis) (s : Scene) (name : List ℕ) (reply : Reply) (out : List ℕ) (new : Session) → follower_named name s.names.of_followers ≡ None → out ≡ opening_text name reply
+pub opening_acted : (network : Network) (s : Scene) (name : List ℕ) (reply : Reply) (out : List ℕ) (new : Session) → follower_named name s.names.of_followers ≡ None → out ≡ opening_text name reply
     → AreBound new.names s.names.of_bytes → AreNamed new.followers (names_opened s.names.of_followers name reply)
-    → (t : State) × Step genesis s.state Open reply t × Stands new.core t
-    → Acted genesis s (opening_meaning name (follower_named name s.names.of_followers)) out new
-opening_acted genesis s name reply out new free printed names followers (t, step, stands) = record {
+    → (t : State) × Step network s.state Open reply t × Stands new.core t
+    → Acted network s (opening_meaning name (follower_named name s.names.of_followers)) out new
+opening_acted network s name reply out new free printed names followers (t, step, stands) = record {
   meaning = OpensFollower name;
   entries = entry Open reply;
   is_said = ap (opening_meaning name) free;

@@ -7,7 +7,7 @@ use Rattle.std.specs.Io.KnownBytes.{Appends, Consumes}
 use Rattle.std.specs.Io.{appended_bytes}
 use Rattle.std.proofs.lemmas.Bool.Decides.{nat_tests}
 use Rattle.std.proofs.lemmas.List.Folds.{concat-append}
-use Rattle.model.specs.Chain.{Genesis}
+use Rattle.model.specs.Genesis.{Genesis}
 use Rattle.model.specs.History.{Entry}
 use Rattle.scenario.specs.declared.fault.LineFault.{LineFault}
 use Rattle.scenario.specs.declared.session.Session.{Session}
@@ -17,7 +17,7 @@ use Rattle.scenario.specs.declared.fault.ScenarioFault.{ScenarioFault}
 use Rattle.scenario.specs.declared.fault.ScenarioFault.TheVariants as fault
 use Rattle.scenario.specs.Text.{lines_of}
 use Rattle.scenario.specs.Meaning.{Meaning, meaning_of}
-use Rattle.scenario.specs.Run.{Scene, opening_scene, Obeys, Prints, AreObeyed, script_genesis, BreaksOff, EndsWell, EndsBy}
+use Rattle.scenario.specs.Run.{Scene, opening_scene, Obeys, Prints, AreObeyed, script_network, BreaksOff, EndsWell, EndsBy}
 use Rattle.scenario.specs.Ending.{fault_of}
 use Rattle.scenario.specs.SessionView.{Holds, Acted, IsObeyed}
 use Rattle.scenario.specs.Written.{AppendsPart}
@@ -34,14 +34,14 @@ abbrev pub HasLine : Option (List ℕ) → Option (List ℕ) → List (List ℕ)
 HasLine old new done line = IfSome old (λ text. (rest : List ℕ) × (new ≡ Some (drop_through 10 rest)) × (line ≡ take_through 10 rest) × (lines_of text ≡ done ++ lines_of rest) × (text ≡ concat done ++ rest))
 
 -- before the line of this number: these lines were read and obeyed, and what they print is written
-pub record Running (session : Session) (before number : ℕ) (old_text text old_out out : Option (List ℕ)) : Type 0 where
+pub record Running (genesis : Genesis) (session : Session) (before number : ℕ) (old_text text old_out out : Option (List ℕ)) : Type 0 where
   pub done : List (List ℕ)
   pub scene : Scene
   pub history : List Entry
   pub printed : List ℕ
-  pub prints : Prints script_genesis 0 opening_scene done printed history scene
+  pub prints : Prints (script_network genesis) 0 opening_scene done printed history scene
   pub holds : Holds session scene
-  pub genesis : session.core.genesis ≡ script_genesis
+  pub same_genesis : session.core.genesis ≡ genesis
   pub size : before ≡ length (concat done)
   pub limit : before ≤ 4194304
   pub counted : length done + 1 ≡ number
@@ -113,15 +113,15 @@ has_bytes [] some = absurd (some refl)
 has_bytes (x ∷ xs) some = omega arith
 
 -- before the first line
-pub opened : (session : Session) (text out : Option (List ℕ)) → Holds session opening_scene → session.core.genesis ≡ script_genesis → Appends out out [] → Running session 0 1 text text out out
-opened session text out holds genesis none = record {
+pub opened : (genesis : Genesis) (session : Session) (text out : Option (List ℕ)) → Holds session opening_scene → session.core.genesis ≡ genesis → Appends out out [] → Running genesis session 0 1 text text out out
+opened genesis session text out holds is_genesis none = record {
   done = [];
   scene = opening_scene;
   history = [];
   printed = [];
   prints = (refl, refl, refl);
   holds = holds;
-  genesis = genesis;
+  same_genesis = is_genesis;
   size = refl;
   limit = omega arith;
   counted = refl;
@@ -130,18 +130,18 @@ opened session text out holds genesis none = record {
   read = none_read text;
 }
 
-obeyed_so : (before : ℕ) (s : Scene) (line out : List ℕ) (new : Session) (acted : Acted script_genesis s (meaning_of before s.names line) out new) → Obeys script_genesis before s line out acted.entries acted.scene
-obeyed_so before s line out new acted = record { meaning = acted.meaning; is_meant = acted.is_said; acts = acted.acts }
+obeyed_so : (genesis : Genesis) (before : ℕ) (s : Scene) (line out : List ℕ) (new : Session) (acted : Acted (script_network genesis) s (meaning_of before s.names line) out new) → Obeys (script_network genesis) before s line out acted.entries acted.scene
+obeyed_so genesis before s line out new acted = record { meaning = acted.meaning; is_meant = acted.is_said; acts = acted.acts }
 
 -- a line was read, obeyed and written
-pub stepped : (old new : Session) (before number : ℕ) (old_text mid_text text old_out mid_out out : Option (List ℕ)) (line printed : List ℕ) (so_far : Running old before number old_text mid_text old_out mid_out)
-    → HasLine old_text text so_far.done line → line ≢ [] → Acted old.core.genesis so_far.scene (meaning_of before so_far.scene.names line) printed new → new.core.genesis ≡ old.core.genesis
-    → before + length line ≤ 4194304 → Appends mid_out out printed → Running new (before + length line) (number + 1) old_text text old_out out
-stepped old new before number old_text mid_text text old_out mid_out out line printed so_far read some acted_then same limit written =
-    let acted : Acted script_genesis so_far.scene (meaning_of before so_far.scene.names line) printed new =
-    subst (λ (g : Genesis). Acted g so_far.scene (meaning_of before so_far.scene.names line) printed new) so_far.genesis acted_then in
-    let obeys : Obeys script_genesis (0 + length (concat so_far.done)) so_far.scene line printed acted.entries acted.scene =
-    subst (λ (n : ℕ). Obeys script_genesis n so_far.scene line printed acted.entries acted.scene) (omega (arith, so_far.size)) (obeyed_so before so_far.scene line printed new acted) in
+pub stepped : (genesis : Genesis) (old new : Session) (before number : ℕ) (old_text mid_text text old_out mid_out out : Option (List ℕ)) (line printed : List ℕ) (so_far : Running genesis old before number old_text mid_text old_out mid_out)
+    → HasLine old_text text so_far.done line → line ≢ [] → Acted (script_network old.core.genesis) so_far.scene (meaning_of before so_far.scene.names line) printed new → new.core.genesis ≡ old.core.genesis
+    → before + length line ≤ 4194304 → Appends mid_out out printed → Running genesis new (before + length line) (number + 1) old_text text old_out out
+stepped genesis old new before number old_text mid_text text old_out mid_out out line printed so_far read some acted_then same limit written =
+    let acted : Acted (script_network genesis) so_far.scene (meaning_of before so_far.scene.names line) printed new =
+    subst (λ (g : Genesis). Acted (script_network g) so_far.scene (meaning_of before so_far.scene.names line) printed new) so_far.same_genesis acted_then in
+    let obeys : Obeys (script_network genesis) (0 + length (concat so_far.done)) so_far.scene line printed acted.entries acted.scene =
+    subst (λ (n : ℕ). Obeys (script_network genesis) n so_far.scene line printed acted.entries acted.scene) (omega (arith, so_far.size)) (obeyed_so genesis before so_far.scene line printed new acted) in
     let more : length (concat (so_far.done ++ line ∷ [])) ≡ length (concat so_far.done) + length line = ap length (concat_more so_far.done line) ∙ length-append (concat so_far.done) line in
     let count : length (so_far.done ++ line ∷ []) ≡ length so_far.done + 1 = length-append so_far.done (line ∷ []) in
     let filled_line : 0 < length line = has_bytes line some in
@@ -150,9 +150,9 @@ stepped old new before number old_text mid_text text old_out mid_out out line pr
       scene = acted.scene;
       history = so_far.history ++ acted.entries;
       printed = so_far.printed ++ printed;
-      prints = prints_more script_genesis 0 opening_scene so_far.done so_far.printed so_far.history so_far.scene line printed acted.entries acted.scene so_far.prints obeys;
+      prints = prints_more (script_network genesis) 0 opening_scene so_far.done so_far.printed so_far.history so_far.scene line printed acted.entries acted.scene so_far.prints obeys;
       holds = acted.holds;
-      genesis = same ∙ so_far.genesis;
+      same_genesis = same ∙ so_far.same_genesis;
       size = omega (arith, more, so_far.size);
       limit = limit;
       counted = omega (arith, count, so_far.counted);
@@ -170,13 +170,13 @@ at_end text rest line done lines is none =
     lines ∙ ap (λ (l : List ℕ). done ++ lines_of l) empty ∙ append-nil done
 
 -- the run ended well
-pub ended : (session : Session) (before number : ℕ) (old_text mid_text text old_out out : Option (List ℕ)) (line : List ℕ) (so_far : Running session before number old_text mid_text old_out out)
-    → HasLine old_text text so_far.done line → line ≡ [] → IfSome old_text (λ t. EndsWell script_genesis t old_out out)
-ended session before number None mid_text text old_out out line so_far read none = tt
-ended session before number (Some t) mid_text text old_out out line so_far (rest, remains, is, lines, all) none = record {
+pub ended : (genesis : Genesis) (session : Session) (before number : ℕ) (old_text mid_text text old_out out : Option (List ℕ)) (line : List ℕ) (so_far : Running genesis session before number old_text mid_text old_out out)
+    → HasLine old_text text so_far.done line → line ≡ [] → IfSome old_text (λ t. EndsWell (script_network genesis) t old_out out)
+ended genesis session before number None mid_text text old_out out line so_far read none = tt
+ended genesis session before number (Some t) mid_text text old_out out line so_far (rest, remains, is, lines, all) none = record {
   out = so_far.printed;
   written = so_far.written;
-  obeyed = subst (λ (ls : List (List ℕ)). AreObeyed script_genesis ls so_far.printed) (sym (at_end t rest line so_far.done lines is none)) (obeyed script_genesis so_far.done so_far.printed so_far.history so_far.scene so_far.prints);
+  obeyed = subst (λ (ls : List (List ℕ)). AreObeyed (script_network genesis) ls so_far.printed) (sym (at_end t rest line so_far.done lines is none)) (obeyed (script_network genesis) so_far.done so_far.printed so_far.history so_far.scene so_far.prints);
 }
 
 -- the text behind a line that was read
@@ -184,15 +184,15 @@ text_behind : (text rest line : List ℕ) (done : List (List ℕ)) → text ≡ 
 text_behind text rest line done all is = all ∙ ap (λ (l : List ℕ). concat done ++ l) (line_and_rest rest ∙ ap (λ (l : List ℕ). l ++ drop_through 10 rest) (sym is))
 
 -- nothing of a line is printed
-abbrev breaks_off_before : (text rest left more : List ℕ) (done : List (List ℕ)) (printed : List ℕ) (history : List Entry) (scene : Scene) → Prints script_genesis 0 opening_scene done printed history scene → lines_of text ≡ done ++ lines_of rest → text ≡ concat done ++ (more ++ left)
-    → BreaksOff script_genesis text left printed
-breaks_off_before text rest left more done printed history scene prints lines all = record {
+abbrev breaks_off_before : (genesis : Genesis) (text rest left more : List ℕ) (done : List (List ℕ)) (printed : List ℕ) (history : List Entry) (scene : Scene) → Prints (script_network genesis) 0 opening_scene done printed history scene → lines_of text ≡ done ++ lines_of rest → text ≡ concat done ++ (more ++ left)
+    → BreaksOff (script_network genesis) text left printed
+breaks_off_before genesis text rest left more done printed history scene prints lines all = record {
   lines = done;
   after = lines_of rest;
   begins = lines;
   more = more;
   read = all;
-  obeyed = obeyed script_genesis done printed history scene prints;
+  obeyed = obeyed (script_network genesis) done printed history scene prints;
 }
 
 -- what is meant has a meaning
@@ -201,11 +201,11 @@ meant_so (Ok meaning) is = (meaning, refl)
 meant_so (Err e) is = cc
 
 -- a line was not run
-pub stopped : (session new : Session) (before number : ℕ) (old_text mid_text text old_out out : Option (List ℕ)) (line : List ℕ) (why : Stop) (so_far : Running session before number old_text mid_text old_out out)
-    → HasLine old_text text so_far.done line → line ≢ [] → IsObeyed session.core.genesis so_far.scene (meaning_of before so_far.scene.names line) (Err why) new
-    → IfSome old_text (λ t. EndsBy script_genesis t text old_out out (fault_of number why))
-stopped session new before number None mid_text text old_out out line why so_far read some said = tt
-stopped session new before number (Some t) mid_text text old_out out line (stop.Fault why) so_far (rest, remains, is, lines, all) some said = record {
+pub stopped : (genesis : Genesis) (session new : Session) (before number : ℕ) (old_text mid_text text old_out out : Option (List ℕ)) (line : List ℕ) (why : Stop) (so_far : Running genesis session before number old_text mid_text old_out out)
+    → HasLine old_text text so_far.done line → line ≢ [] → IsObeyed (script_network session.core.genesis) so_far.scene (meaning_of before so_far.scene.names line) (Err why) new
+    → IfSome old_text (λ t. EndsBy (script_network genesis) t text old_out out (fault_of number why))
+stopped genesis session new before number None mid_text text old_out out line why so_far read some said = tt
+stopped genesis session new before number (Some t) mid_text text old_out out line (stop.Fault why) so_far (rest, remains, is, lines, all) some said = record {
   left = drop_through 10 rest;
   remains = remains;
   out = so_far.printed;
@@ -216,31 +216,31 @@ stopped session new before number (Some t) mid_text text old_out out line (stop.
     after = lines_of (drop_through 10 rest);
     lines = one_line_more t rest line so_far.done lines is some;
     counted = so_far.counted;
-    obeyed = obeyed script_genesis so_far.done so_far.printed so_far.history so_far.scene so_far.prints;
+    obeyed = obeyed (script_network genesis) so_far.done so_far.printed so_far.history so_far.scene so_far.prints;
     is_fault = subst (λ (n : ℕ). meaning_of n so_far.scene.names line ≡ Err why) so_far.size said;
   };
 }
-stopped session new before number (Some t) mid_text text old_out out line stop.OutOfMemory so_far (rest, remains, is, lines, all) some said = record {
+stopped genesis session new before number (Some t) mid_text text old_out out line stop.OutOfMemory so_far (rest, remains, is, lines, all) some said = record {
   left = drop_through 10 rest;
   remains = remains;
   out = so_far.printed;
   written = so_far.written;
   is_fault = record {
-    broken = breaks_off_before t rest (drop_through 10 rest) line so_far.done so_far.printed so_far.history so_far.scene so_far.prints lines (text_behind t rest line so_far.done all is);
+    broken = breaks_off_before genesis t rest (drop_through 10 rest) line so_far.done so_far.printed so_far.history so_far.scene so_far.prints lines (text_behind t rest line so_far.done all is);
     has_no_fault = λ content whole. subst (λ (n : ℕ). (meaning : Meaning) × (meaning_of n so_far.scene.names line ≡ Ok meaning)) so_far.size (meant_so (meaning_of before so_far.scene.names line) said);
   };
 }
 
 -- of what a line prints a part was written
-pub not_written : (old new : Session) (before number : ℕ) (old_text mid_text text old_out mid_out out : Option (List ℕ)) (line printed : List ℕ) (so_far : Running old before number old_text mid_text old_out mid_out)
-    → HasLine old_text text so_far.done line → line ≢ [] → Acted old.core.genesis so_far.scene (meaning_of before so_far.scene.names line) printed new
-    → AppendsPart mid_out out printed → IfSome old_text (λ t. EndsBy script_genesis t text old_out out fault.WriteFailed)
-not_written old new before number None mid_text text old_out mid_out out line printed so_far read some acted_then written = tt
-not_written old new before number (Some t) mid_text text old_out mid_out out line printed so_far (rest, remains, is, lines, all) some acted_then (unwritten, not_all, some_written) =
-    let acted : Acted script_genesis so_far.scene (meaning_of before so_far.scene.names line) printed new =
-    subst (λ (g : Genesis). Acted g so_far.scene (meaning_of before so_far.scene.names line) printed new) so_far.genesis acted_then in
-    let obeys : Obeys script_genesis (0 + length (concat so_far.done)) so_far.scene line printed acted.entries acted.scene =
-    subst (λ (n : ℕ). Obeys script_genesis n so_far.scene line printed acted.entries acted.scene) (omega (arith, so_far.size)) (obeyed_so before so_far.scene line printed new acted) in
+pub not_written : (genesis : Genesis) (old new : Session) (before number : ℕ) (old_text mid_text text old_out mid_out out : Option (List ℕ)) (line printed : List ℕ) (so_far : Running genesis old before number old_text mid_text old_out mid_out)
+    → HasLine old_text text so_far.done line → line ≢ [] → Acted (script_network old.core.genesis) so_far.scene (meaning_of before so_far.scene.names line) printed new
+    → AppendsPart mid_out out printed → IfSome old_text (λ t. EndsBy (script_network genesis) t text old_out out fault.WriteFailed)
+not_written genesis old new before number None mid_text text old_out mid_out out line printed so_far read some acted_then written = tt
+not_written genesis old new before number (Some t) mid_text text old_out mid_out out line printed so_far (rest, remains, is, lines, all) some acted_then (unwritten, not_all, some_written) =
+    let acted : Acted (script_network genesis) so_far.scene (meaning_of before so_far.scene.names line) printed new =
+    subst (λ (g : Genesis). Acted (script_network g) so_far.scene (meaning_of before so_far.scene.names line) printed new) so_far.same_genesis acted_then in
+    let obeys : Obeys (script_network genesis) (0 + length (concat so_far.done)) so_far.scene line printed acted.entries acted.scene =
+    subst (λ (n : ℕ). Obeys (script_network genesis) n so_far.scene line printed acted.entries acted.scene) (omega (arith, so_far.size)) (obeyed_so genesis before so_far.scene line printed new acted) in
     record {
       left = drop_through 10 rest;
       remains = remains;
@@ -254,9 +254,9 @@ not_written old new before number (Some t) mid_text text old_out mid_out out lin
         read = text_behind t rest line so_far.done all is;
         before = so_far.printed;
         printed = printed;
-        obeyed_before = obeyed script_genesis so_far.done so_far.printed so_far.history so_far.scene so_far.prints;
-        obeyed = obeyed script_genesis (so_far.done ++ line ∷ []) (so_far.printed ++ printed) (so_far.history ++ acted.entries) acted.scene
-            (prints_more script_genesis 0 opening_scene so_far.done so_far.printed so_far.history so_far.scene line printed acted.entries acted.scene so_far.prints obeys);
+        obeyed_before = obeyed (script_network genesis) so_far.done so_far.printed so_far.history so_far.scene so_far.prints;
+        obeyed = obeyed (script_network genesis) (so_far.done ++ line ∷ []) (so_far.printed ++ printed) (so_far.history ++ acted.entries) acted.scene
+            (prints_more (script_network genesis) 0 opening_scene so_far.done so_far.printed so_far.history so_far.scene line printed acted.entries acted.scene so_far.prints obeys);
         part = some_written.part;
         unwritten = unwritten;
         parts = some_written.begins;
@@ -276,27 +276,27 @@ abbrev pub IsReadFault : List ℕ → ScenarioFault → Type 0
 IsReadFault part why = (why ≡ fault.ReadFailed) ⊎ ((why ≡ fault.OutOfMemory) × ((content : List ℕ) → part ≡ content ++ 10 ∷ [] → ⊥))
 
 -- no line was read
-breaks_at : (t : List ℕ) (text old_out out : Option (List ℕ)) (rest left part : List ℕ) (done : List (List ℕ)) (printed : List ℕ) (history : List Entry) (scene : Scene) → Prints script_genesis 0 opening_scene done printed history scene → Appends old_out out printed
-    → lines_of t ≡ done ++ lines_of rest → t ≡ concat done ++ rest → text ≡ Some left → rest ≡ part ++ left → (why : ScenarioFault) → IsReadFault part why → EndsBy script_genesis t text old_out out why
-breaks_at t text old_out out rest left part done printed history scene prints written lines all remains parts why is =
-    let broken : BreaksOff script_genesis t left printed = breaks_off_before t rest left part done printed history scene prints lines (all ∙ ap (λ (l : List ℕ). concat done ++ l) parts) in
+breaks_at : (genesis : Genesis) (t : List ℕ) (text old_out out : Option (List ℕ)) (rest left part : List ℕ) (done : List (List ℕ)) (printed : List ℕ) (history : List Entry) (scene : Scene) → Prints (script_network genesis) 0 opening_scene done printed history scene → Appends old_out out printed
+    → lines_of t ≡ done ++ lines_of rest → t ≡ concat done ++ rest → text ≡ Some left → rest ≡ part ++ left → (why : ScenarioFault) → IsReadFault part why → EndsBy (script_network genesis) t text old_out out why
+breaks_at genesis t text old_out out rest left part done printed history scene prints written lines all remains parts why is =
+    let broken : BreaksOff (script_network genesis) t left printed = breaks_off_before genesis t rest left part done printed history scene prints lines (all ∙ ap (λ (l : List ℕ). concat done ++ l) parts) in
     elim is [
-      | inl e ↦ subst (EndsBy script_genesis t text old_out out) (sym e) (record { left = left; remains = remains; out = printed; written = written; is_fault = broken })
-      | inr e ↦ subst (EndsBy script_genesis t text old_out out) (sym e.0)
+      | inl e ↦ subst (EndsBy (script_network genesis) t text old_out out) (sym e) (record { left = left; remains = remains; out = printed; written = written; is_fault = broken })
+      | inr e ↦ subst (EndsBy (script_network genesis) t text old_out out) (sym e.0)
           (record { left = left; remains = remains; out = printed; written = written; is_fault = record { broken = broken; has_no_fault = λ content whole. absurd (e.1 content whole) } })
     ]
 
-not_read_at : (session : Session) (before number : ℕ) (old_text mid_text text old_out out : Option (List ℕ)) (part : List ℕ) (so_far : Running session before number old_text mid_text old_out out)
-    → HasRead old_text mid_text so_far.done → Consumes mid_text text part → (why : ScenarioFault) → IsReadFault part why → IfSome old_text (λ t. EndsBy script_genesis t text old_out out why)
-not_read_at session before number None mid_text text old_out out part so_far read taken why is = tt
-not_read_at session before number (Some t) mid_text text old_out out part so_far (rest, remains, lines, all) taken why is =
+not_read_at : (genesis : Genesis) (session : Session) (before number : ℕ) (old_text mid_text text old_out out : Option (List ℕ)) (part : List ℕ) (so_far : Running genesis session before number old_text mid_text old_out out)
+    → HasRead old_text mid_text so_far.done → Consumes mid_text text part → (why : ScenarioFault) → IsReadFault part why → IfSome old_text (λ t. EndsBy (script_network genesis) t text old_out out why)
+not_read_at genesis session before number None mid_text text old_out out part so_far read taken why is = tt
+not_read_at genesis session before number (Some t) mid_text text old_out out part so_far (rest, remains, lines, all) taken why is =
     let left = still_left rest part mid_text text remains taken in
-    breaks_at t text old_out out rest left.0 part so_far.done so_far.printed so_far.history so_far.scene so_far.prints so_far.written lines all left.1 left.2 why is
+    breaks_at genesis t text old_out out rest left.0 part so_far.done so_far.printed so_far.history so_far.scene so_far.prints so_far.written lines all left.1 left.2 why is
 
-pub not_read : (session : Session) (before number : ℕ) (old_text mid_text text old_out out : Option (List ℕ)) (part : List ℕ) (so_far : Running session before number old_text mid_text old_out out)
-    → Consumes mid_text text part → (why : ScenarioFault) → IsReadFault part why → IfSome old_text (λ t. EndsBy script_genesis t text old_out out why)
-not_read session before number old_text mid_text text old_out out part so_far taken why is =
-    not_read_at session before number old_text mid_text text old_out out part so_far so_far.read taken why is
+pub not_read : (genesis : Genesis) (session : Session) (before number : ℕ) (old_text mid_text text old_out out : Option (List ℕ)) (part : List ℕ) (so_far : Running genesis session before number old_text mid_text old_out out)
+    → Consumes mid_text text part → (why : ScenarioFault) → IsReadFault part why → IfSome old_text (λ t. EndsBy (script_network genesis) t text old_out out why)
+not_read genesis session before number old_text mid_text text old_out out part so_far taken why is =
+    not_read_at genesis session before number old_text mid_text text old_out out part so_far so_far.read taken why is
 
 -- the part of a line that was read into a buffer that was empty
 pub part_into : (start buf line : List ℕ) (why : ScenarioFault) → start ≡ [] → line ≡ buf → IsReadFault line why → IsReadFault (appended_bytes start buf) why

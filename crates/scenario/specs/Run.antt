@@ -3,7 +3,10 @@ use Rattle.std.specs.Prelude.{◌≡◌, ◌≢◌, ℕ, ◌+◌, List, [], ◌�
 use Rattle.std.specs.List.{concat}
 use Rattle.std.specs.Io.KnownBytes.{Appends}
 use Rattle.model.specs.Block.{Block}
-use Rattle.model.specs.Chain.{Genesis, tip_point}
+use Rattle.model.specs.Signature.{test_verifies}
+use Rattle.model.specs.Genesis.{Genesis}
+use Rattle.model.specs.Ledger.{Network, network_of}
+use Rattle.model.specs.Chain.{tip_point}
 use Rattle.model.specs.Follower.{told_by, IsDue, IsNextInstruction, Instruction}
 use Rattle.model.specs.History.{State, opening, Event, Arrive, Open, Next, Reply, Opened, Instructed, OutOfMemory, Step}
 use Rattle.model.specs.History.{Entry, ChainTheorem}
@@ -24,13 +27,13 @@ pub record Scene : Type 0 where
 abbrev pub opening_scene : Scene
 opening_scene = record { state = opening; names = record { of_bytes = []; of_followers = [] } }
 
--- what a genesis file will say
-abbrev pub script_genesis : Genesis
-script_genesis = record { k = 2; max_volatile = 100; max_body_size = 65536 }
+-- the network that a script runs on: of this genesis, with signatures of the scheme for tests
+abbrev pub script_network : Genesis → Network
+script_network genesis = network_of genesis test_verifies
 
 -- bytes that arrived were answered so, by a step of the definitions
-pub record Arrived (genesis : Genesis) (s : Scene) (bytes : List ℕ) (reply : Reply) (t : Scene) : Type 0 where
-  pub step : Step genesis s.state (Arrive bytes) reply t.state
+pub record Arrived (network : Network) (s : Scene) (bytes : List ℕ) (reply : Reply) (t : Scene) : Type 0 where
+  pub step : Step network s.state (Arrive bytes) reply t.state
   pub names : t.names ≡ s.names
 
 -- once an opening was answered, the new follower has the name. Where none was opened, no name is bound
@@ -39,8 +42,8 @@ names_opened names name (Opened id) = names ++ record { name = name; id = id } �
 names_opened names name reply = names
 
 -- the opening of a follower of this name was answered so, by a step of the definitions
-pub record WasOpened (genesis : Genesis) (s : Scene) (name : List ℕ) (reply : Reply) (t : Scene) : Type 0 where
-  pub step : Step genesis s.state Open reply t.state
+pub record WasOpened (network : Network) (s : Scene) (name : List ℕ) (reply : Reply) (t : Scene) : Type 0 where
+  pub step : Step network s.state Open reply t.state
   pub names : t.names ≡ record s.names { of_followers = names_opened s.names.of_followers name reply }
 
 -- for what the follower of this number was told the instruction is the one that is due
@@ -54,8 +57,8 @@ HasDue s id = (told : List Block) × (b : Block) × (told_by s.followers id ≡ 
 
 -- a follower that asked what comes next was answered so, by a step of the definitions. It is told exactly what is
 -- due, and memory runs out only where a block is
-pub record WasTold (genesis : Genesis) (s : Scene) (id : ℕ) (reply : Reply) (t : Scene) : Type 0 where
-  pub step : Step genesis s.state (Next id) reply t.state
+pub record WasTold (network : Network) (s : Scene) (id : ℕ) (reply : Reply) (t : Scene) : Type 0 where
+  pub step : Step network s.state (Next id) reply t.state
   pub next : (instruction : Instruction) → reply ≡ Instructed instruction → IsNextFor s.state id instruction
   pub due : reply ≡ OutOfMemory → HasDue s.state id
   pub names : t.names ≡ s.names
@@ -66,75 +69,75 @@ entry event reply = record { event = event; reply = reply } ∷ []
 
 -- From one scene a line that means this prints so, and leaves the other; these are its event and the reply that is
 -- printed, if it has an event. Each event may be answered that memory ran out, which is a step too.
-abbrev pub Acts : Genesis → Scene → Meaning → (out : List ℕ) → List Entry → Scene → Type 0
-Acts genesis s DoesNothing out entries t = (out ≡ []) × (entries ≡ []) × (t ≡ s)
-Acts genesis s (Binds binding) out entries t =
+abbrev pub Acts : Network → Scene → Meaning → (out : List ℕ) → List Entry → Scene → Type 0
+Acts network s DoesNothing out entries t = (out ≡ []) × (entries ≡ []) × (t ≡ s)
+Acts network s (Binds binding) out entries t =
     (out ≡ []) × (entries ≡ []) × (t ≡ record s { names = with_binding s.names binding })
-Acts genesis s (Arrives form name bytes) out entries t = (reply : Reply) × Arrived genesis s (formed form bytes) reply t
+Acts network s (Arrives form name bytes) out entries t = (reply : Reply) × Arrived network s (formed form bytes) reply t
     × (out ≡ arrival_text form name reply) × (entries ≡ entry (Arrive (formed form bytes)) reply)
-Acts genesis s (OpensFollower name) out entries t = (reply : Reply) × WasOpened genesis s name reply t
+Acts network s (OpensFollower name) out entries t = (reply : Reply) × WasOpened network s name reply t
     × (out ≡ opening_text name reply) × (entries ≡ entry Open reply)
-Acts genesis s (TellsFollower name id) out entries t = (reply : Reply) × WasTold genesis s id reply t
+Acts network s (TellsFollower name id) out entries t = (reply : Reply) × WasTold network s id reply t
     × IsNextText s.names.of_bytes name reply out × (entries ≡ entry (Next id) reply)
-Acts genesis s PrintsTip out entries t = (out ≡ tip_text s.names.of_bytes (tip_point s.state.chain)) × (entries ≡ [])
+Acts network s PrintsTip out entries t = (out ≡ tip_text s.names.of_bytes (tip_point s.state.chain)) × (entries ≡ [])
     × (t ≡ s)
 
 -- a line after so many bytes has no fault, and prints so
-pub record Obeys (genesis : Genesis) (before : ℕ) (s : Scene) (line out : List ℕ) (entries : List Entry)
+pub record Obeys (network : Network) (before : ℕ) (s : Scene) (line out : List ℕ) (entries : List Entry)
     (t : Scene) : Type 0 where
   pub meaning : Meaning
   pub is_meant : meaning_of before s.names line ≡ Ok meaning
-  pub acts : Acts genesis s meaning out entries t
+  pub acts : Acts network s meaning out entries t
 
 -- lines after so many bytes print so, one after the other, and this is the history of their events with the replies
 -- that are printed
-abbrev pub Prints : Genesis → ℕ → Scene → List (List ℕ) → List ℕ → List Entry → Scene → Type 0
-Prints genesis before s [] out history t = (out ≡ []) × (history ≡ []) × (t ≡ s)
-Prints genesis before s (line ∷ lines) out history t = (first rest : List ℕ) × (entries later : List Entry)
+abbrev pub Prints : Network → ℕ → Scene → List (List ℕ) → List ℕ → List Entry → Scene → Type 0
+Prints network before s [] out history t = (out ≡ []) × (history ≡ []) × (t ≡ s)
+Prints network before s (line ∷ lines) out history t = (first rest : List ℕ) × (entries later : List Entry)
     × (mid : Scene)
-    × Obeys genesis before s line first entries mid × Prints genesis (before + length line) mid lines rest later t
+    × Obeys network before s line first entries mid × Prints network (before + length line) mid lines rest later t
     × (out ≡ first ++ rest) × (history ≡ entries ++ later)
 
 -- Lines from the beginning of a script are obeyed and print so. The chain theorem holds of their events with the
 -- replies that are printed: they are a legal history, it leaves the state whose tip and followers are printed, the
 -- selected chain is valid, and none is longer.
-pub record AreObeyed (genesis : Genesis) (lines : List (List ℕ)) (out : List ℕ) : Type 0 where
+pub record AreObeyed (network : Network) (lines : List (List ℕ)) (out : List ℕ) : Type 0 where
   pub scene : Scene
   pub history : List Entry
-  pub prints : Prints genesis 0 opening_scene lines out history scene
-  pub theorem : ChainTheorem genesis history scene.state
+  pub prints : Prints network 0 opening_scene lines out history scene
+  pub theorem : ChainTheorem network history scene.state
 
 -- ---- ends
 
 -- the line of this number is the first one with a fault, and the lines before it print so
-pub record StopsAt (genesis : Genesis) (text : List ℕ) (number : ℕ) (fault : LineFault) (out : List ℕ) : Type 0 where
+pub record StopsAt (network : Network) (text : List ℕ) (number : ℕ) (fault : LineFault) (out : List ℕ) : Type 0 where
   pub before : List (List ℕ)
   pub line : List ℕ
   pub after : List (List ℕ)
   pub lines : lines_of text ≡ before ++ line ∷ after
   pub counted : length before + 1 ≡ number
-  pub obeyed : AreObeyed genesis before out
+  pub obeyed : AreObeyed network before out
   pub is_fault : meaning_of (length (concat before)) obeyed.scene.names line ≡ Err fault
 
 -- of a text of which this is left some first lines were read, and these bytes more; what was written is exactly what
 -- the lines print
-pub record BreaksOff (genesis : Genesis) (text left out : List ℕ) : Type 0 where
+pub record BreaksOff (network : Network) (text left out : List ℕ) : Type 0 where
   pub lines : List (List ℕ)
   pub after : List (List ℕ)
   pub begins : lines_of text ≡ lines ++ after
   pub more : List ℕ
   pub read : text ≡ concat lines ++ (more ++ left)
-  pub obeyed : AreObeyed genesis lines out
+  pub obeyed : AreObeyed network lines out
 
 -- the same where memory ran out: if the bytes more are a line with its line feed, that line has no fault
-pub record RunsShort (genesis : Genesis) (text left out : List ℕ) : Type 0 where
-  pub broken : BreaksOff genesis text left out
+pub record RunsShort (network : Network) (text left out : List ℕ) : Type 0 where
+  pub broken : BreaksOff network text left out
   pub has_no_fault : (content : List ℕ) → broken.more ≡ content ++ 10 ∷ []
       → (meaning : Meaning)
       × (meaning_of (length (concat broken.lines)) broken.obeyed.scene.names broken.more ≡ Ok meaning)
 
 -- of what the last line prints that was read a part was written, and not all; of those before it all
-pub record StopsWriting (genesis : Genesis) (text left out : List ℕ) : Type 0 where
+pub record StopsWriting (network : Network) (text left out : List ℕ) : Type 0 where
   pub lines : List (List ℕ)
   pub line : List ℕ
   pub after : List (List ℕ)
@@ -142,8 +145,8 @@ pub record StopsWriting (genesis : Genesis) (text left out : List ℕ) : Type 0 
   pub read : text ≡ concat lines ++ (line ++ left)
   pub before : List ℕ
   pub printed : List ℕ
-  pub obeyed_before : AreObeyed genesis lines before
-  pub obeyed : AreObeyed genesis (lines ++ line ∷ []) (before ++ printed)
+  pub obeyed_before : AreObeyed network lines before
+  pub obeyed : AreObeyed network (lines ++ line ∷ []) (before ++ printed)
   pub part : List ℕ
   pub unwritten : List ℕ
   pub parts : printed ≡ part ++ unwritten
@@ -151,23 +154,23 @@ pub record StopsWriting (genesis : Genesis) (text left out : List ℕ) : Type 0 
   pub written : out ≡ before ++ part
 
 -- the end of a run without fault: what all lines of the text print was written
-pub record EndsWell (genesis : Genesis) (text : List ℕ) (old new : Option (List ℕ)) : Type 0 where
+pub record EndsWell (network : Network) (text : List ℕ) (old new : Option (List ℕ)) : Type 0 where
   pub out : List ℕ
   pub written : Appends old new out
-  pub obeyed : AreObeyed genesis (lines_of text) out
+  pub obeyed : AreObeyed network (lines_of text) out
 
 -- what was written at a fault, where this is left of the text
-abbrev pub IsFaultOf : Genesis → List ℕ → List ℕ → List ℕ → ScenarioFault → Type 0
-IsFaultOf genesis text left out (fault.Line number why) = StopsAt genesis text number why out
-IsFaultOf genesis text left out fault.ReadFailed = BreaksOff genesis text left out
-IsFaultOf genesis text left out fault.WriteFailed = StopsWriting genesis text left out
-IsFaultOf genesis text left out fault.OutOfMemory = RunsShort genesis text left out
+abbrev pub IsFaultOf : Network → List ℕ → List ℕ → List ℕ → ScenarioFault → Type 0
+IsFaultOf network text left out (fault.Line number why) = StopsAt network text number why out
+IsFaultOf network text left out fault.ReadFailed = BreaksOff network text left out
+IsFaultOf network text left out fault.WriteFailed = StopsWriting network text left out
+IsFaultOf network text left out fault.OutOfMemory = RunsShort network text left out
 
 -- the end of a run by a fault
-pub record EndsBy (genesis : Genesis) (text : List ℕ) (remaining old new : Option (List ℕ))
+pub record EndsBy (network : Network) (text : List ℕ) (remaining old new : Option (List ℕ))
     (why : ScenarioFault) : Type 0 where
   pub left : List ℕ
   pub remains : remaining ≡ Some left
   pub out : List ℕ
   pub written : Appends old new out
-  pub is_fault : IsFaultOf genesis text left out why
+  pub is_fault : IsFaultOf network text left out why

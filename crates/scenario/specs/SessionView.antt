@@ -1,7 +1,7 @@
 -- Which scenes of the definitions a session stands for, and what it answers to a line.
 use Rattle.std.specs.Prelude.{◌≡◌, ℕ, List, Result, Ok, Err, IsOk}
 use Rattle.std.specs.Global.{Vec}
-use Rattle.model.specs.Chain.{Genesis}
+use Rattle.model.specs.Ledger.{Network}
 use Rattle.model.specs.History.{Entry}
 use Rattle.chain_core.specs.Held.{Stands}
 use Rattle.scenario.specs.declared.fault.LineFault.{LineFault}
@@ -20,17 +20,17 @@ pub record Holds (session : Session) (s : Scene) : Type 0 where
   pub followers : AreNamed session.followers s.names.of_followers
 
 -- a line that means this was obeyed, and printed so
-pub record Acted (genesis : Genesis) (s : Scene) (said : Result Meaning LineFault) (out : List ℕ)
+pub record Acted (network : Network) (s : Scene) (said : Result Meaning LineFault) (out : List ℕ)
     (new : Session) : Type 0 where
   pub meaning : Meaning
   pub is_said : said ≡ Ok meaning
   pub entries : List Entry
   pub scene : Scene
-  pub acts : Acts genesis s meaning out entries scene
+  pub acts : Acts network s meaning out entries scene
   pub holds : Holds new scene
 
 -- what was answered to a line: what it prints, its fault, or that memory ran out, which says that it has none
-abbrev pub IsObeyed : Genesis → Scene → Result Meaning LineFault → Result (Vec ℕ) Stop → Session → Type 0
-IsObeyed genesis s said (Ok out) new = Acted genesis s said out.items new
-IsObeyed genesis s said (Err (Fault fault)) new = said ≡ Err fault
-IsObeyed genesis s said (Err OutOfMemory) new = IsOk said
+abbrev pub IsObeyed : Network → Scene → Result Meaning LineFault → Result (Vec ℕ) Stop → Session → Type 0
+IsObeyed network s said (Ok out) new = Acted network s said out.items new
+IsObeyed network s said (Err (Fault fault)) new = said ≡ Err fault
+IsObeyed network s said (Err OutOfMemory) new = IsOk said

@@ -31,7 +31,7 @@ pub enum ScenarioFault {
     /// The writer failed.
     #[error("write failed")]
     WriteFailed,
-    /// There is no memory for the script's lines or names.
+    /// There is no memory for the outputs of the genesis, or for the script's lines or names.
     #[error("out of memory")]
     OutOfMemory,
 }

@@ -1,19 +1,22 @@
 //! The lines that a script prints.
 
 ghost use Rattle.std.specs.Prelude.{◌≡◌, ◌++◌, ℕ, List, OnOk, Some};
+ghost use Rattle.model.specs.Block.{SpellsBlock, block_text, block_hash_of};
 ghost use Rattle.ident.specs.PointView.{point_of};
 ghost use Rattle.chain_core.specs.Views.{instruction_of, arrive_reply_of, open_reply_of, next_reply_of};
-ghost use Rattle.scenario.specs.Names.{Binding};
+ghost use Rattle.scenario.specs.Names.{Binding, printed_name};
 ghost use Rattle.scenario.specs.NamesView.{AreBound};
 ghost use Rattle.scenario.specs.Print.{arrival_text, opening_reply_text, opening_text, point_name, IsInstructionText};
 ghost use Rattle.scenario.specs.Print.{IsNextReplyText, IsNextText, tip_text};
 
 use crate::line::Form;
 use crate::names::Names;
+use block::CheckedBlock;
 use chain_core::{ArriveReply, FollowerId, Instruction, NextFault, OpenFault};
 use ident::Point;
 use std::alloc::AllocError;
 use std::io::Write;
+use witness_pool::TestScheme;
 
 /// Appends what an arrival prints.
 pub fn print_arrival(
@@ -75,11 +78,23 @@ fn point_name<'a>(names: &'a Names, point: &Point) -> &'a [u8]
     }
 }
 
+/// The name of a block that was read.
+fn block_name<'a>(names: &'a Names, block: &CheckedBlock<TestScheme>) -> &'a [u8]
+    ensures name { (bound : List Binding) → AreBound names.entry.now bound
+        → result.now ≡ printed_name (block_hash_of block.now) bound }
+    // It is that of the one block that has this text.
+    ensures spelled { SpellsBlock block.now (block_text block.now) }
+{
+    // What says that a block was read is the clause on its bytes.
+    let _text = block.bytes();
+    names.printed_name(&block.hash())
+}
+
 /// Appends what a follower is told.
 fn print_instruction(
     line: &mut Vec<u8>,
     names: &Names,
-    instruction: &Option<Instruction>,
+    instruction: &Option<Instruction<TestScheme>>,
 ) -> Result<(), AllocError>
     ensures { OnOk result ((bound : List Binding) → AreBound names.now bound → (text : List ℕ)
         × IsInstructionText bound (instruction_of instruction.now) text × (line.new.items ≡ line.old.items ++ text)) }
@@ -88,7 +103,7 @@ fn print_instruction(
         None => line.extend_from_slice(b"none"),
         Some(Instruction::AddBlock(block)) => {
             line.extend_from_slice(b"add ")?;
-            line.extend_from_slice(names.printed_name(&block.point().hash))
+            line.extend_from_slice(block_name(names, block))
         }
         Some(Instruction::RollBack(point)) => {
             line.extend_from_slice(b"rollback ")?;
@@ -101,7 +116,7 @@ fn print_instruction(
 fn print_next_reply(
     line: &mut Vec<u8>,
     names: &Names,
-    reply: &Result<Option<Instruction>, NextFault>,
+    reply: &Result<Option<Instruction<TestScheme>>, NextFault>,
 ) -> Result<(), AllocError>
     ensures { OnOk result ((bound : List Binding) → AreBound names.now bound → (text : List ℕ)
         × IsNextReplyText bound (next_reply_of reply.now) text × (line.new.items ≡ line.old.items ++ text)) }
@@ -118,7 +133,7 @@ pub fn print_next(
     line: &mut Vec<u8>,
     names: &Names,
     name: &[u8],
-    reply: &Result<Option<Instruction>, NextFault>,
+    reply: &Result<Option<Instruction<TestScheme>>, NextFault>,
 ) -> Result<(), AllocError>
     ensures { OnOk result ((bound : List Binding) → AreBound names.now bound → (out : List ℕ)
         × IsNextText bound name.now (next_reply_of reply.now) out × (line.new.items ≡ line.old.items ++ out)) }

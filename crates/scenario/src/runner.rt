@@ -1,11 +1,10 @@
 //! The run of a script.
 
 ghost use Rattle.std.specs.Prelude.{◌≡◌, ℕ, ◌+◌, ◌≤◌, ◌⊎◌, List, [], ◌∷◌, ◌++◌, length, OnOk, IfErr, IfSome};
-ghost use Rattle.chain_core.specs.Views.{genesis_of};
 ghost use Rattle.scenario.specs.Line.{parse_line};
 ghost use Rattle.scenario.specs.LineView.{line_of};
 ghost use Rattle.scenario.specs.Meaning.{meaning_of};
-ghost use Rattle.scenario.specs.Run.{Scene, script_genesis, EndsWell, EndsBy};
+ghost use Rattle.scenario.specs.Run.{Scene, script_network, EndsWell, EndsBy};
 ghost use Rattle.scenario.specs.Text.{script_size_limit};
 ghost use Rattle.scenario.specs.Ending.{fault_of};
 ghost use Rattle.scenario.specs.SessionView.{Holds, IsObeyed};
@@ -15,25 +14,18 @@ use crate::line::parse_line;
 use crate::output::{WriteStopped, write_all};
 use crate::session::Session;
 use crate::stop::Stop;
-use chain_core::Genesis;
+use genesis::Genesis;
 use std::alloc::Global;
 use std::io::{BufRead, Error, ErrorKind, Write};
 
 /// The most bytes that a script may have. The line of the first byte past them is a [`LineFault::BadLine`].
 pub const MAX_SCRIPT_SIZE: u64 = 4_194_304;
 
-/// What a network of a script agrees on.
-const GENESIS: Genesis = Genesis {
-    k: 2,
-    max_volatile: 100,
-    max_body_size: 65_536,
-};
-
 /// Does what a line says that comes after so many bytes, and answers what it prints.
 fn play(session: &mut Session, before: u64, line: &[u8]) -> Result<Vec<u8>, Stop>
     requires { before ≤ script_size_limit }
     ensures obeyed { (s : Scene) → Holds session.old s
-        → IsObeyed session.old.core.genesis s (meaning_of before s.names line.now) result session.new }
+        → IsObeyed (script_network session.old.core.genesis) s (meaning_of before s.names line.now) result session.new }
     ensures genesis { session.new.core.genesis ≡ session.old.core.genesis }
     ensures size { OnOk result (before + length line.now ≤ script_size_limit) }
 {
@@ -73,32 +65,36 @@ fn line_fault(number: u64, stop: Stop) -> ScenarioFault
     }
 }
 
-/// Runs a script line by line. What each line prints is written before the next line is read, and the first
-/// fault ends the run; what was written before stands.
+/// Runs a script line by line on a new network of this genesis, whose signatures are those of the scheme for tests.
+/// What each line prints is written before the next line is read, and the first fault ends the run; what was written
+/// before stands. Where there is no memory for the outputs of the genesis, nothing is read.
 ///
 /// ```text
 /// let mut script = b"block A1 genesis 1\narrive A1\ntip\n".as_slice();
 /// let mut out = Vec::new(alloc);
-/// scenario::run(alloc, &mut script, &mut out)?; // arrive A1: kept back 0 added 1, and then tip: 1 A1
+/// scenario::run(alloc, genesis, &mut script, &mut out)?; // arrive A1: kept back 0 added 1, and then tip: 1 A1
 /// ```
 ///
 /// A line is read whole before it is looked at. A reader whose lines may have no end is given by
 /// [`Read::take`](std::io::Read::take) with one byte more than [`MAX_SCRIPT_SIZE`], which makes such a line a bad one.
 pub fn run<R: BufRead, W: Write>(
     alloc: Global,
+    genesis: Genesis,
     reader: &mut R,
     writer: &mut W,
 ) -> Result<(), ScenarioFault>
     // Without a fault, what was written is what all lines of the text print, and the chain theorem holds of their
     // events.
     ensures ok { OnOk result (IfSome (R.remaining reader.old)
-        (λ text. EndsWell script_genesis text (W.contents writer.old) (W.contents writer.new))) }
+        (λ text. EndsWell (script_network genesis) text (W.contents writer.old) (W.contents writer.new))) }
     // At a fault of the script it is the first one. In each case the chain theorem holds of the lines that were obeyed.
     ensures fault { IfErr result (λ why. IfSome (R.remaining reader.old)
-        (λ text. EndsBy script_genesis text (R.remaining reader.new) (W.contents writer.old)
+        (λ text. EndsBy (script_network genesis) text (R.remaining reader.new) (W.contents writer.old)
         (W.contents writer.new) why)) }
 {
-    let mut session = Session::new(alloc, GENESIS);
+    let Ok(mut session) = Session::new(alloc, genesis) else {
+        return Err(ScenarioFault::OutOfMemory);
+    };
     let mut before: u64 = 0;
     for number in 1..4_194_306u64 {
         let mut line = Vec::new(alloc);

@@ -3,14 +3,14 @@
 ghost use Rattle.std.specs.Prelude.{◌≡◌, [], Ok, None, IfOk, IfErr, is_some};
 ghost use Rattle.model.specs.History.{State, Arrive, Step};
 ghost use Rattle.chain_core.specs.Held.{Stands};
-ghost use Rattle.chain_core.specs.Views.{genesis_of, arrive_reply_of};
+ghost use Rattle.chain_core.specs.Views.{arrive_reply_of};
 ghost use Rattle.scenario.specs.Names.{bound_to, follower_named};
 ghost use Rattle.scenario.specs.NamesView.{bound_of};
 ghost use Rattle.scenario.specs.Line.{said_bytes};
 ghost use Rattle.scenario.specs.LineView.{line_of, parent_of};
 ghost use Rattle.scenario.specs.Meaning.{formed, meaning_in, binds_free, block_meaning, base_after, bound_raw};
 ghost use Rattle.scenario.specs.Meaning.{arrival_meaning, opening_meaning, next_meaning, Binds, PrintsTip};
-ghost use Rattle.scenario.specs.Run.{Scene, opening_scene};
+ghost use Rattle.scenario.specs.Run.{Scene, opening_scene, script_network};
 ghost use Rattle.scenario.specs.SessionView.{Holds, IsObeyed};
 
 use crate::building::{base_after, build};
@@ -22,8 +22,10 @@ use crate::name::Name;
 use crate::names::{Bound, Names};
 use crate::print::{print_arrival, print_next, print_opening, print_tip};
 use crate::stop::Stop;
-use chain_core::{ArriveReply, Core, Genesis};
+use chain_core::{ArriveReply, Core};
+use genesis::Genesis;
 use std::alloc::{AllocError, Global};
+use witness_pool::TestScheme;
 
 /// What a line prints is at most its own name longer than this, whose numbers are the greatest ones. A name that a
 /// follower is told has at most 16 letters, and is shorter than these numbers.
@@ -34,7 +36,7 @@ const LONGEST_LINE: &[u8] =
 #[derive(Drop)]
 pub struct Session {
     alloc: Global,
-    core: Core,
+    core: Core<TestScheme>,
     names: Names,
     followers: FollowerNames,
 }
@@ -68,12 +70,13 @@ fn line_room(alloc: Global, name: Name<'_>) -> Result<Vec<u8>, Stop>
 /// Bytes arrive at the core.
 fn arrive(
     alloc: Global,
-    core: &mut Core,
+    core: &mut Core<TestScheme>,
     form: Form,
     bytes: &[u8],
 ) -> Result<ArriveReply, AllocError>
     ensures step { (s : State) → Stands core.old s → (t : State)
-        × Step core.old.genesis s (Arrive (formed form bytes.now)) (arrive_reply_of result) t × Stands core.new t }
+        × Step (script_network core.old.genesis) s (Arrive (formed form bytes.now)) (arrive_reply_of result) t
+        × Stands core.new t }
     ensures genesis { core.new.genesis ≡ core.old.genesis }
 {
     let bytes = formed(alloc, form, bytes)?;
@@ -81,17 +84,17 @@ fn arrive(
 }
 
 impl Session {
-    /// A session before the first line.
-    pub fn new(alloc: Global, genesis: Genesis) -> Session
-        ensures holds { Holds result opening_scene }
-        ensures genesis { result.core.genesis ≡ genesis_of genesis }
+    /// A session before the first line. Err where there is no memory for the outputs of the genesis.
+    pub fn new(alloc: Global, genesis: Genesis) -> Result<Session, AllocError>
+        ensures holds { IfOk result (λ session. Holds session opening_scene) }
+        ensures genesis { IfOk result (λ session. session.core.genesis ≡ genesis) }
     {
-        Session {
+        Ok(Session {
             alloc,
-            core: Core::new(alloc, genesis),
+            core: Core::new(alloc, genesis)?,
             names: Names::new(alloc),
             followers: FollowerNames::new(alloc),
-        }
+        })
     }
 
     /// Whether the name is one of bytes.
@@ -104,7 +107,7 @@ impl Session {
     /// Binds a name that is free, and prints nothing.
     fn bind(&mut self, name: Name<'_>, bound: Bound) -> Result<Vec<u8>, Stop>
         ensures obeyed { (s : Scene) → Holds self.old s → bound_to name.entry.text.now s.names.of_bytes ≡ None
-            → IsObeyed self.old.core.genesis s
+            → IsObeyed (script_network self.old.core.genesis) s
             (Ok (Binds (record { name = name.entry.text.now; bound = bound_of bound }))) result self.new }
         ensures genesis { self.new.core.genesis ≡ self.old.core.genesis }
     {
@@ -122,7 +125,7 @@ impl Session {
         slot: u64,
     ) -> Result<Vec<u8>, Stop>
         ensures obeyed { (s : Scene) → Holds self.old s
-            → IsObeyed self.old.core.genesis s (block_meaning s.names.of_bytes name.entry.text.now
+            → IsObeyed (script_network self.old.core.genesis) s (block_meaning s.names.of_bytes name.entry.text.now
             (base_after s.names.of_bytes (parent_of parent.entry)) slot) result self.new }
         ensures genesis { self.new.core.genesis ≡ self.old.core.genesis }
     {
@@ -141,7 +144,7 @@ impl Session {
     /// A line that defines bytes.
     fn define_raw(&mut self, name: Name<'_>, digits: Digits<'_>) -> Result<Vec<u8>, Stop>
         ensures obeyed { (s : Scene) → Holds self.old s
-            → IsObeyed self.old.core.genesis s (binds_free s.names.of_bytes name.entry.text.now
+            → IsObeyed (script_network self.old.core.genesis) s (binds_free s.names.of_bytes name.entry.text.now
             (Ok (bound_raw (said_bytes digits.entry.text.now)))) result self.new }
         ensures genesis { self.new.core.genesis ≡ self.old.core.genesis }
     {
@@ -157,7 +160,7 @@ impl Session {
     /// A line in which the bytes of a name arrive. The room for what it prints is taken first.
     fn arrive(&mut self, form: Form, name: Name<'_>) -> Result<Vec<u8>, Stop>
         ensures obeyed { (s : Scene) → Holds self.old s
-            → IsObeyed self.old.core.genesis s (arrival_meaning form name.entry.text.now
+            → IsObeyed (script_network self.old.core.genesis) s (arrival_meaning form name.entry.text.now
             (bound_to name.entry.text.now s.names.of_bytes)) result self.new }
         ensures genesis { self.new.core.genesis ≡ self.old.core.genesis }
     {
@@ -175,7 +178,7 @@ impl Session {
     /// A line that opens a follower. The room for what it prints and for the name is taken first.
     fn open(&mut self, name: Name<'_>) -> Result<Vec<u8>, Stop>
         ensures obeyed { (s : Scene) → Holds self.old s
-            → IsObeyed self.old.core.genesis s (opening_meaning name.entry.text.now
+            → IsObeyed (script_network self.old.core.genesis) s (opening_meaning name.entry.text.now
             (follower_named name.entry.text.now s.names.of_followers)) result self.new }
         ensures genesis { self.new.core.genesis ≡ self.old.core.genesis }
     {
@@ -199,7 +202,7 @@ impl Session {
     /// The question what a follower is told next. The room for what it prints is taken first.
     fn next(&mut self, name: Name<'_>) -> Result<Vec<u8>, Stop>
         ensures obeyed { (s : Scene) → Holds self.old s
-            → IsObeyed self.old.core.genesis s (next_meaning name.entry.text.now
+            → IsObeyed (script_network self.old.core.genesis) s (next_meaning name.entry.text.now
             (follower_named name.entry.text.now s.names.of_followers)) result self.new }
         ensures genesis { self.new.core.genesis ≡ self.old.core.genesis }
     {
@@ -216,7 +219,8 @@ impl Session {
 
     /// The question where the selected chain ends.
     fn tip(&self) -> Result<Vec<u8>, Stop>
-        ensures { (s : Scene) → Holds self.now s → IsObeyed self.now.core.genesis s (Ok PrintsTip) result self.now }
+        ensures { (s : Scene) → Holds self.now s
+            → IsObeyed (script_network self.now.core.genesis) s (Ok PrintsTip) result self.now }
     {
         let Ok(mut line) = Vec::with_capacity(self.alloc, LONGEST_LINE.len()) else {
             return Err(Stop::OutOfMemory);
@@ -230,7 +234,8 @@ impl Session {
     /// Does what a line says, and answers what it prints.
     pub fn obey(&mut self, line: Line<'_>) -> Result<Vec<u8>, Stop>
         ensures obeyed { (s : Scene) → Holds self.old s
-            → IsObeyed self.old.core.genesis s (meaning_in s.names (line_of line.entry)) result self.new }
+            → IsObeyed (script_network self.old.core.genesis) s (meaning_in s.names (line_of line.entry)) result
+            self.new }
         ensures genesis { self.new.core.genesis ≡ self.old.core.genesis }
     {
         match line {

@@ -1,11 +1,12 @@
 //! Arrivals in one order and another, and the chain that is selected.
 
-use super::fixture::{Made, make, new_core};
-use chain_core::{ArriveReply, Core, Genesis, RawEvent, Refusal, Reply};
+use super::fixture::{Made, ONE_LIVE_BLOCK, core_on, make, new_core};
+use chain_core::{ArriveReply, Core, RawEvent, Refusal, Reply};
 use ident::Point;
 use std::alloc::{AllocError, Global};
 use std::process::Abort;
 use std::test::Fail;
+use witness_pool::TestScheme;
 
 const KEPT_ASIDE: ArriveReply = ArriveReply::Kept { back: 0, added: 0 };
 
@@ -23,7 +24,7 @@ fn point(made: &Made) -> Point {
 /// The core answers these bytes so.
 fn answers(
     rt: &impl Abort,
-    core: &mut Core,
+    core: &mut Core<TestScheme>,
     bytes: &[u8],
     want: ArriveReply,
 ) -> Result<(), AllocError> {
@@ -35,7 +36,7 @@ fn answers(
 /// The blocks arrive in this order, with these answers.
 fn arrives(
     rt: &impl Abort,
-    core: &mut Core,
+    core: &mut Core<TestScheme>,
     rows: &[(&Made, ArriveReply)],
 ) -> Result<(), AllocError> {
     for (made, want) in rows {
@@ -45,7 +46,7 @@ fn arrives(
 }
 
 /// The chain ends in this point.
-fn ends_in(rt: &impl Abort, core: &Core, want: Point) {
+fn ends_in(rt: &impl Abort, core: &Core<TestScheme>, want: Point) {
     assert_eq!(rt; core.tip(), want);
 }
 
@@ -53,7 +54,7 @@ fn ends_in(rt: &impl Abort, core: &Core, want: Point) {
 #[test]
 fn cut_and_extended_bytes(rt: HostRuntime) -> Result<(), Fail> {
     let alloc = rt.alloc();
-    let mut core = new_core(alloc);
+    let mut core = new_core(alloc)?;
     for (bytes, refusal) in [
         (1_048_576usize, Refusal::Malformed),
         (1_048_577, Refusal::TooLarge),
@@ -70,13 +71,8 @@ fn full_store(rt: HostRuntime) -> Result<(), Fail> {
     let alloc = rt.alloc();
     let a1 = make(alloc, None, 1)?;
     let b1 = make(alloc, None, 2)?;
-    let genesis = Genesis {
-        k: 2,
-        max_volatile: 1,
-        max_body_size: 65_536,
-    };
     let full = ArriveReply::Refused(Refusal::VolatileFull);
-    let mut core = Core::new(alloc, genesis);
+    let mut core = core_on(alloc, ONE_LIVE_BLOCK)?;
     arrives(
         &rt,
         &mut core,
@@ -97,9 +93,9 @@ fn flipped(alloc: Global, text: &[u8], bit: usize) -> Result<Vec<u8>, AllocError
 }
 
 /// What a new core answers to the text with one bit flipped.
-fn answer_to_flipped(alloc: Global, text: &[u8], bit: usize) -> Result<ArriveReply, AllocError> {
+fn answer_to_flipped(alloc: Global, text: &[u8], bit: usize) -> Result<ArriveReply, Fail> {
     let other = flipped(alloc, text, bit)?;
-    new_core(alloc).arrive(&other)
+    Ok(new_core(alloc)?.arrive(&other)?)
 }
 
 /// Puts what new cores answer to the text with each of its first so many bits flipped behind other answers.
@@ -108,7 +104,7 @@ fn put_answers(
     replies: &mut Vec<ArriveReply>,
     text: &[u8],
     bits: usize,
-) -> Result<(), AllocError> {
+) -> Result<(), Fail> {
     for bit in 0..bits {
         replies.push(answer_to_flipped(alloc, text, bit)?)?;
     }
@@ -156,7 +152,7 @@ fn three_arrivals(alloc: Global) -> Result<(Vec<RawEvent>, Point), Fail> {
 }
 
 /// The reply is this answer to an arrival.
-fn is_answer(rt: &impl Abort, reply: &Reply, want: ArriveReply) {
+fn is_answer(rt: &impl Abort, reply: &Reply<TestScheme>, want: ArriveReply) {
     match reply {
         Reply::Arrive(Ok(reply)) => assert_eq!(rt; *reply, want),
         other => panic!(rt; "{other:?}"),
@@ -167,7 +163,7 @@ fn is_answer(rt: &impl Abort, reply: &Reply, want: ArriveReply) {
 #[test]
 fn run_of_arrivals(rt: HostRuntime) -> Result<(), Fail> {
     let (events, tip) = three_arrivals(rt.alloc())?;
-    let mut core = new_core(rt.alloc());
+    let mut core = new_core(rt.alloc())?;
     let replies = core.run(&events)?;
     let wants = [kept(0, 1), KEPT_ASIDE, kept(1, 2)];
     assert!(rt; replies.len() == wants.len());

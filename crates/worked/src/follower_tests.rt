@@ -5,10 +5,11 @@ use chain_core::{ArriveReply, FollowerId, Instruction, NextFault, OpenFault, Raw
 use std::alloc::Global;
 use std::process::Abort;
 use std::test::Fail;
+use witness_pool::TestScheme;
 
 #[test]
 fn follower_ids(rt: HostRuntime) -> Result<(), Fail> {
-    let mut core = new_core(rt.alloc());
+    let mut core = new_core(rt.alloc())?;
     let unknown = FollowerId { number: 1024 };
     for number in 0..1024 {
         assert_eq!(rt;
@@ -38,7 +39,7 @@ fn events_of(alloc: Global, text: Vec<u8>) -> Result<Vec<RawEvent>, Fail> {
 }
 
 /// The answers to those are that the follower is told the block of this text.
-fn is_told(rt: &impl Abort, replies: &[Reply], text: &[u8]) {
+fn is_told(rt: &impl Abort, replies: &[Reply<TestScheme>], text: &[u8]) {
     match replies {
         [
             Reply::Next(Err(NextFault::UnknownFollower)),
@@ -55,9 +56,9 @@ fn is_told(rt: &impl Abort, replies: &[Reply], text: &[u8]) {
 }
 
 /// What a new core answers to those.
-fn replies_to(alloc: Global, text: Vec<u8>) -> Result<Vec<Reply>, Fail> {
+fn replies_to(alloc: Global, text: Vec<u8>) -> Result<Vec<Reply<TestScheme>>, Fail> {
     let events = events_of(alloc, text)?;
-    Ok(new_core(alloc).run(&events)?)
+    Ok(new_core(alloc)?.run(&events)?)
 }
 
 // Events in a list are answered as one by one.

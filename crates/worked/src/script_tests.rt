@@ -1,21 +1,38 @@
 //! Scripts whole, with what each of them prints.
 
+use super::fixture::{ONE_LIVE_BLOCK, SMALL_NETWORK};
 use super::flooded::{FLOODED_STORE, FLOODED_STORE_PRINTS};
 use super::long_chain::{LONG_CHAIN_BACKWARDS, LONG_CHAIN_BACKWARDS_PRINTS};
 use super::scripts;
+use genesis::Genesis;
 use scenario::{LineFault, ScenarioFault, run};
 use std::alloc::Global;
 use std::io::{BufRead, Write};
 use std::process::Abort;
 use std::test::Fail;
 
-/// What the script of a reader ends with. It promises nothing, which keeps the proofs of the tests short.
+/// What the script of a reader ends with on the network of this genesis. It promises nothing, which keeps the proofs of
+/// the tests short.
+fn run_script_on<R: BufRead, W: Write>(
+    alloc: Global,
+    network: &str,
+    reader: &mut R,
+    writer: &mut W,
+) -> Result<(), ScenarioFault> {
+    // The text is a genesis, so there is one where there is memory for it.
+    let Ok(genesis) = Genesis::from_toml(alloc, network) else {
+        return Err(ScenarioFault::OutOfMemory);
+    };
+    run(alloc, genesis, reader, writer)
+}
+
+/// The same on the small network.
 pub fn run_script<R: BufRead, W: Write>(
     alloc: Global,
     reader: &mut R,
     writer: &mut W,
 ) -> Result<(), ScenarioFault> {
-    run(alloc, reader, writer)
+    run_script_on(alloc, SMALL_NETWORK, reader, writer)
 }
 
 /// What a script ends with and what it prints.
@@ -127,6 +144,17 @@ fn scripts_to_their_end(rt: HostRuntime) {
     for (script, printed) in RUNS {
         prints(&rt, rt.alloc(), *script, *printed);
     }
+}
+
+// A network that keeps one live block.
+#[test]
+fn full_store(rt: HostRuntime) {
+    let mut reader = scripts::FULL_STORE.as_bytes();
+    let mut out = Vec::new(rt.alloc());
+    let result = run_script_on(rt.alloc(), ONE_LIVE_BLOCK, &mut reader, &mut out);
+    let printed = scripts::FULL_STORE_PRINTS.as_bytes();
+    same_end(&rt, "a full store", result, Ok(()));
+    same_bytes(&rt, "a full store", &out, printed);
 }
 
 /// A comment of so many bytes, and a question.

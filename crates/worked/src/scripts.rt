@@ -17,6 +17,20 @@ arrive B1: kept back 1 added 2
 tip: 2 B2
 ";
 
+/// More live blocks than one.
+pub const FULL_STORE: &str = "block A1 genesis 1
+block B1 genesis 2
+arrive A1
+arrive B1
+arrive B1
+";
+
+/// What it prints where one live block is kept.
+pub const FULL_STORE_PRINTS: &str = "arrive A1: kept back 0 added 1
+arrive B1: refused 7 VolatileFull
+arrive B1: refused 7 VolatileFull
+";
+
 /// Two chains of one length.
 pub const TIE_KEEPS_THE_CHAIN: &str = "block A1 genesis 1
 block B1 genesis 2

@@ -1,7 +1,9 @@
-//! Worked examples of the rules of transactions, of the unspent outputs and of genesis files: each is a test, with what
-//! is to come out written by hand.
+//! Worked examples of the rules of transactions, of the unspent outputs, of genesis files, of blocks that are applied
+//! and of the chains of such blocks: each is a test, with what is to come out written by hand.
 #![tactic(auto)]
 
+#[cfg(test)]
+mod core_tests;
 #[cfg(test)]
 mod documents;
 #[cfg(test)]
@@ -12,6 +14,8 @@ mod genesis_tests;
 mod ledger_tests;
 #[cfg(test)]
 mod minting_tests;
+#[cfg(test)]
+mod payment_blocks;
 #[cfg(test)]
 mod payments;
 #[cfg(test)]

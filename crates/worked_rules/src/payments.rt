@@ -70,6 +70,30 @@ pub const GOOD: Payment = Payment {
     supplied: &[],
 };
 
+/// Another payment of the same output.
+pub const OTHER: Payment = Payment {
+    coin: 900,
+    fee: 300,
+    ..GOOD
+};
+
+/// A payment that may be in a block of a slot before 7 alone.
+pub const EXPIRING: Payment = Payment {
+    coin: 900,
+    fee: 300,
+    until: Some(7),
+    ..GOOD
+};
+
+/// A transaction that spends nothing, which no rules let through.
+pub const IDLE: Payment = Payment {
+    end: 0,
+    outputs: 0,
+    fee: 0,
+    signed: Signed::NotAtAll,
+    ..GOOD
+};
+
 /// The payment that mints 5 of the script that holds, which is supplied.
 pub const MINTING: Payment = Payment {
     coin: 800,

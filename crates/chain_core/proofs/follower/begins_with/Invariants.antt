@@ -3,4 +3,4 @@ use Rattle.chain_core.proofs.follower.begins_with.Given as goal
 
 -- so far the chain is what was told
 abbrev pub invariant-loop-i : goal.invariant-loop-i
-invariant-loop-i l = take l.i l.chain ≡ take l.i l.told
+invariant-loop-i g l = take l.i l.chain ≡ take l.i l.told

@@ -4,4 +4,4 @@ use Rattle.chain_core.proofs.refusal.has_clash.Given as goal
 
 -- none of the blocks so far
 abbrev pub invariant-loop-other : goal.invariant-loop-other
-invariant-loop-other l = All (λ c. IsClash c l.block → ⊥) (take l.other-index l.chain)
+invariant-loop-other g l = All (λ c. IsClash c l.block → ⊥) (take l.other-index l.chain)

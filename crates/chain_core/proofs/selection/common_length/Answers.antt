@@ -11,7 +11,7 @@ one_more old new i a b apart in_old in_new at_old at_new hashes same =
     take_more_same old new i a in_old in_new same (sym at_old ∙ (one ∙ (at_new ∙ get_or_default new i b a in_new)))
 
 pub loop-i-preserved : goal.loop-i-preserved
-loop-i-preserved c =
+loop-i-preserved g c =
     let shorter = c.min-shorter.ensures in
     let below = c.loop-i-test.true in
     one_more c.args.old.now c.args.new.now c.loop-i.i c.index-old-i.result c.index-new-i.result c.requires (omega arith) (omega arith) c.index-old-i.is c.index-new-i.is

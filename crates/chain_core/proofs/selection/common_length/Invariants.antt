@@ -3,4 +3,4 @@ use Rattle.chain_core.proofs.selection.common_length.Given as goal
 
 -- so far the two are the same
 abbrev pub invariant-loop-i : goal.invariant-loop-i
-invariant-loop-i l = take l.i l.old ≡ take l.i l.new
+invariant-loop-i g l = take l.i l.old ≡ take l.i l.new

@@ -4,14 +4,14 @@ use Rattle.model.specs.Chain.{immutable_part}
 use Rattle.model.proofs.histories.immutable_part_grows.Goals as goal
 
 pub returns-clause-begins : goal.returns-clause-begins
-returns-clause-begins c = λ genesis s later t run. (run_goes_on genesis s later t run).begins
+returns-clause-begins c = λ network s later t run. (run_goes_on network s later t run).begins
 
 pub returns-clause-grows : goal.returns-clause-grows
-returns-clause-grows c = λ genesis s later t run.
-    let on = run_goes_on genesis s later t run in
-    begins_earlier genesis s.chain t.chain (immutable_part genesis t.chain) on.not_shorter on.begins (begins_with_whole (immutable_part genesis t.chain))
+returns-clause-grows c = λ network s later t run.
+    let on = run_goes_on network s later t run in
+    begins_earlier network.genesis s.chain t.chain (immutable_part network.genesis t.chain) on.not_shorter on.begins (begins_with_whole (immutable_part network.genesis t.chain))
 
 pub returns-clause-candidates : goal.returns-clause-candidates
-returns-clause-candidates c = λ genesis s later t kept candidate run through.
-    let on = run_goes_on genesis s later t run in
-    older_candidate genesis kept s.chain t.chain candidate on.not_shorter on.begins through
+returns-clause-candidates c = λ network s later t kept candidate run through.
+    let on = run_goes_on network s later t run in
+    older_candidate network kept s.chain t.chain candidate on.not_shorter on.begins through

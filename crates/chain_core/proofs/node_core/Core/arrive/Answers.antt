@@ -1,48 +1,53 @@
-use Rattle.std.proofs.Common.{sym, subst}
+use Rattle.std.proofs.Common.{sym, subst, ◌∙◌}
 use Rattle.block.specs.Read.{IsRead}
 use Rattle.model.specs.Block.{Block}
-use Rattle.chain_core.specs.Views.{followers_of, genesis_of, refusal_of}
+use Rattle.model.specs.Ledger.{network_of}
+use Rattle.chain_core.specs.Views.{followers_of, refusal_of}
 use Rattle.chain_core.proofs.Steps.{sound_with}
 use Rattle.chain_core.proofs.Arrivals.{refused_arrival, not_refused, none_applies, kept_arrival, sound_kept}
 use Rattle.chain_core.proofs.ToldChains.{on_err}
 use Rattle.chain_core.proofs.node_core.Core.arrive.Goals as goal
 
 pub returns-in-Some-clause-step : goal.returns-in-Some-clause-step
-returns-in-Some-clause-step c =
-    refused_arrival (genesis_of c.self.inside.genesis) c.self.inside.kept.items c.self.inside.chain.items c.deref.result.now c.deref-2.result.now (followers_of c.self.inside.followers.items) c.args.self.now c.args.bytes.now c.in-Ok.found (refusal_of c.in-Some.refusal)
+returns-in-Some-clause-step g c =
+    refused_arrival (network_of c.self.inside.genesis g.S.SigScheme.verifies) c.self.inside.kept.items c.self.inside.selected.chain.items c.deref.result.now c.deref-2.result.now (followers_of c.self.inside.followers.items) c.args.self.now c.args.bytes.now c.in-Ok.found (refusal_of c.in-Some.refusal)
     c.self.view_is c.deref.ensures.value c.deref-2.ensures.value c.in-Ok.ensures.ok c.in-Some.ensures
 
-pub keep-requires : goal.keep-requires
-keep-requires c =
-    let none = not_refused (genesis_of c.self.inside.genesis) c.self.inside.kept.items c.self.inside.chain.items c.deref.result.now c.deref-2.result.now c.args.bytes.now c.in-Ok.found
+pub keep-requires-clause-sound : goal.keep-requires-clause-sound
+keep-requires-clause-sound g c =
+    let none = not_refused c.self.inside.genesis c.self.inside.kept.items c.self.inside.selected.chain.items c.deref.result.now c.deref-2.result.now c.args.bytes.now c.in-Ok.found
     c.deref.ensures.value c.deref-2.ensures.value c.in-Ok.ensures.ok c.in_default.ensures in
     let read : IsRead c.in_ok-block.block c.args.bytes.now = subst (λ (b : Block). IsRead b c.args.bytes.now) (sym c.in_ok-block.ensures) c.in-Ok.ensures.ok in
-    sound_with (genesis_of c.self.inside.genesis) c.self.inside.kept.items c.self.inside.chain.items c.args.bytes.now c.in_ok-block.block c.self.invariant read.read none
+    sound_with (network_of c.self.inside.genesis g.S.SigScheme.verifies) c.self.inside.kept.items c.self.inside.selected.chain.items c.args.bytes.now c.in_ok-block.block c.self.invariant.sound read.read none
 
 pub invariant_of-self-2 : goal.invariant_of-self-2
-invariant_of-self-2 c =
-    let none = not_refused (genesis_of c.self.inside.genesis) c.self.inside.kept.items c.self.inside.chain.items c.deref.result.now c.deref-2.result.now c.args.bytes.now c.in-Ok.found
+invariant_of-self-2 g c =
+    let none = not_refused c.self.inside.genesis c.self.inside.kept.items c.self.inside.selected.chain.items c.deref.result.now c.deref-2.result.now c.args.bytes.now c.in-Ok.found
     c.deref.ensures.value c.deref-2.ensures.value c.in-Ok.ensures.ok c.in_default.ensures in
     let read : IsRead c.in_ok-block.block c.args.bytes.now = subst (λ (b : Block). IsRead b c.args.bytes.now) (sym c.in_ok-block.ensures) c.in-Ok.ensures.ok in
-    sound_kept (genesis_of c.self.inside.genesis) c.self.inside.kept.items c.self.inside.chain.items c.keep.new.kept.items c.keep.new.chain.items c.args.bytes.now c.in_ok-block.block c.self.invariant read none
-    c.in_ok-change.ensures.kept c.in_ok-change.ensures.selected
+    record {
+      sound = sound_kept (network_of c.self.inside.genesis g.S.SigScheme.verifies) c.self.inside.kept.items c.self.inside.selected.chain.items c.keep.new.kept.items c.keep.new.selected.chain.items c.args.bytes.now c.in_ok-block.block c.self.invariant.sound read none
+          c.in_ok-change.ensures.kept c.in_ok-change.ensures.selected;
+      opening = c.keep.ensures.opening ∙ c.self.invariant.opening;
+      states = c.in_ok-change.ensures.states;
+    }
 
 pub returns-clause-step : goal.returns-clause-step
-returns-clause-step c =
-    let none = not_refused (genesis_of c.self.inside.genesis) c.self.inside.kept.items c.self.inside.chain.items c.deref.result.now c.deref-2.result.now c.args.bytes.now c.in-Ok.found
+returns-clause-step g c =
+    let none = not_refused c.self.inside.genesis c.self.inside.kept.items c.self.inside.selected.chain.items c.deref.result.now c.deref-2.result.now c.args.bytes.now c.in-Ok.found
     c.deref.ensures.value c.deref-2.ensures.value c.in-Ok.ensures.ok c.in_default.ensures in
     let read : IsRead c.in_ok-block.block c.args.bytes.now = subst (λ (b : Block). IsRead b c.args.bytes.now) (sym c.in_ok-block.ensures) c.in-Ok.ensures.ok in
-    kept_arrival (genesis_of c.self.inside.genesis) c.self.inside.kept.items c.self.inside.chain.items c.keep.new.kept.items c.keep.new.chain.items (followers_of c.self.inside.followers.items) c.args.self.now c.args.bytes.now c.in_ok-block.block
-    c.in_ok-change.change.back c.in_ok-change.change.added c.self.view_is c.self.invariant read none c.in_ok-change.ensures.kept c.in_ok-change.ensures.selected c.in_ok-change.ensures.change
+    kept_arrival (network_of c.self.inside.genesis g.S.SigScheme.verifies) c.self.inside.kept.items c.self.inside.selected.chain.items c.keep.new.kept.items c.keep.new.selected.chain.items (followers_of c.self.inside.followers.items) c.args.self.now c.args.bytes.now c.in_ok-block.block
+    c.in_ok-change.change.back c.in_ok-change.change.added c.self.view_is c.self.invariant.sound read none c.in_ok-change.ensures.kept c.in_ok-change.ensures.selected c.in_ok-change.ensures.change
 
 pub returns-in_err-block-clause-memory : goal.returns-in_err-block-clause-memory
-returns-in_err-block-clause-memory c =
-    let none = not_refused (genesis_of c.self.inside.genesis) c.self.inside.kept.items c.self.inside.chain.items c.deref.result.now c.deref-2.result.now c.args.bytes.now c.in-Ok.found
+returns-in_err-block-clause-memory g c =
+    let none = not_refused c.self.inside.genesis c.self.inside.kept.items c.self.inside.selected.chain.items c.deref.result.now c.deref-2.result.now c.args.bytes.now c.in-Ok.found
     c.deref.ensures.value c.deref-2.ensures.value c.in-Ok.ensures.ok c.in_default.ensures in
-    on_err c.from_residual.result _ (λ b spells empty. none_applies (genesis_of c.self.inside.genesis) c.self.inside.kept.items c.self.inside.chain.items (followers_of c.self.inside.followers.items) c.args.self.now c.args.bytes.now c.self.view_is none)
+    on_err c.from_residual.result _ (λ b spells empty. none_applies c.self.inside.genesis c.self.inside.kept.items c.self.inside.selected.chain.items (followers_of c.self.inside.followers.items) c.args.self.now c.args.bytes.now c.self.view_is none)
 
 pub returns-in_err-change-clause-memory : goal.returns-in_err-change-clause-memory
-returns-in_err-change-clause-memory c =
-    let none = not_refused (genesis_of c.self.inside.genesis) c.self.inside.kept.items c.self.inside.chain.items c.deref.result.now c.deref-2.result.now c.args.bytes.now c.in-Ok.found
+returns-in_err-change-clause-memory g c =
+    let none = not_refused c.self.inside.genesis c.self.inside.kept.items c.self.inside.selected.chain.items c.deref.result.now c.deref-2.result.now c.args.bytes.now c.in-Ok.found
     c.deref.ensures.value c.deref-2.ensures.value c.in-Ok.ensures.ok c.in_default.ensures in
-    on_err c.from_residual-in_err-change.result _ (λ b spells empty. none_applies (genesis_of c.self.inside.genesis) c.self.inside.kept.items c.self.inside.chain.items (followers_of c.self.inside.followers.items) c.args.self.now c.args.bytes.now c.self.view_is none)
+    on_err c.from_residual-in_err-change.result _ (λ b spells empty. none_applies c.self.inside.genesis c.self.inside.kept.items c.self.inside.selected.chain.items (followers_of c.self.inside.followers.items) c.args.self.now c.args.bytes.now c.self.view_is none)

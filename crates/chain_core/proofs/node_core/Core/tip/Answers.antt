@@ -8,7 +8,7 @@ use Rattle.chain_core.proofs.Tips.{point_of_last}
 use Rattle.chain_core.proofs.node_core.Core.tip.Goals as goal
 
 pub returns-in-Some : goal.returns-in-Some
-returns-in-Some c =
+returns-in-Some g c =
     let shown : c.deref.result.now ≡ c.args.self.now.chain = c.deref.ensures.value ∙ ap (λ (h : Held). h.chain) c.self.view_is in
     let last : slice_get c.args.self.now.chain (length c.args.self.now.chain - 1) ≡ Some c.in-Some.block.now =
     subst (λ (bs : List Block). slice_get bs (length bs - 1) ≡ Some c.in-Some.block.now) shown (sym c.in-Some.ensures.value) in
