@@ -3,7 +3,7 @@ use Rattle.std.proofs.Common.{◌≡◌, ℕ, List, [], ◌∷◌, ◌++◌, Opt
 use Rattle.std.specs.Prelude.{IfSome}
 use Rattle.model.specs.Ledger.{Network}
 use Rattle.scenario.specs.declared.fault.ScenarioFault.TheVariants.{OutOfMemory}
-use Rattle.scenario.specs.Text.{lines_of}
+use Rattle.script.specs.Text.{lines_of}
 use Rattle.scenario.specs.Run.{opening_scene, EndsBy}
 use Rattle.scenario.proofs.Histories.{obeyed}
 use Rattle.scenario.proofs.WrittenParts.{appends_none}

@@ -1,14 +1,9 @@
-pub mod Numbers
-pub mod WordLists
-pub mod HexDigits
-pub mod Bindings
-pub mod FollowerBindings
 pub mod OpeningLines
 pub mod NextLines
-pub mod BuiltBlocks
 pub mod ArrivalLines
+pub mod AskedLines
+pub mod UtxoLines
 pub mod WrittenParts
-pub mod LineMeanings
 pub mod Lines
 pub mod Histories
 pub mod Runs

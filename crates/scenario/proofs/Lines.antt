@@ -5,7 +5,7 @@ use Rattle.std.specs.List.{concat, onto_first}
 use Rattle.std.specs.Io.BufRead.{take_through, drop_through}
 use Rattle.model.specs.Ledger.{Network}
 use Rattle.model.specs.History.{Entry}
-use Rattle.scenario.specs.Text.{lines_of}
+use Rattle.script.specs.Text.{lines_of}
 use Rattle.scenario.specs.Run.{Scene, Obeys, Prints}
 
 is_ten : (x : ℕ) → nat_eq x 10 ≡ true → x ≡ 10

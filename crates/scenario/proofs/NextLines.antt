@@ -1,5 +1,5 @@
 -- A line in which a follower is told what comes next.
-use Rattle.std.proofs.Common.{◌≡◌, List, [], ◌++◌, ℕ, Option, Some, Result, Ok, Err, refl, sym, ap, subst, ◌∙◌}
+use Rattle.std.proofs.Common.{◌≡◌, List, [], ◌++◌, ℕ, Option, Result, Ok, Err, refl, sym, ap, subst, ◌∙◌}
 use Rattle.std.specs.Prelude.{IfOk, IfErr}
 use Rattle.model.specs.Ledger.{Network}
 use Rattle.model.specs.Block.{Block}
@@ -12,10 +12,8 @@ use Rattle.chain_core.specs.Views.{instruction_of, next_reply_of}
 use Rattle.chain_core.specs.FollowerCalls as core
 use Rattle.chain_core.specs.Held.{Held, Stands}
 use Rattle.scenario.specs.declared.session.Session.{Session}
-use Rattle.scenario.specs.Names.{follower_named}
-use Rattle.scenario.specs.NamesView.{AreBound}
-use Rattle.scenario.specs.FollowerNamesView.{AreNamed}
-use Rattle.scenario.specs.Meaning.{TellsFollower, next_meaning}
+use Rattle.script.specs.RequestView.{AreNamed}
+use Rattle.script.specs.Meaning.{TellsFollower}
 use Rattle.scenario.specs.Print.{IsNextText}
 use Rattle.scenario.specs.Run.{Scene, IsNextFor, HasDue, entry}
 use Rattle.scenario.specs.SessionView.{Acted}
@@ -45,15 +43,15 @@ due_at held s id (Ok i) stands memory is = cc
 due_at held s id (Err next.UnknownFollower) stands memory is = cc
 due_at held s id (Err next.OutOfMemory) stands memory is = due_in held s id stands (memory refl)
 
-pub telling_acted : {S : Type 0} (network : Network) (s : Scene) (name : List ℕ) (id : ℕ) (result : Result (Option (code.Instruction S)) NextFault) (old out : List ℕ) (held : Held) (new : Session) → Some id ≡ follower_named name s.names.of_followers
+pub telling_acted : {S : Type 0} (network : Network) (s : Scene) (name : List ℕ) (id : ℕ) (result : Result (Option (code.Instruction S)) NextFault) (old out : List ℕ) (held : Held) (new : Session)
     → old ≡ [] → (text : List ℕ) × IsNextText s.names.of_bytes name (next_reply_of result) text × (out ≡ old ++ text) → Stands held s.state → IfOk result (λ i. core.IsNextFor held.chain held.followers id (instruction_of i))
     → IfErr result (λ e. e ≡ next.OutOfMemory → core.HasDue held.chain held.followers id)
-    → AreBound new.names s.names.of_bytes → AreNamed new.followers s.names.of_followers
+    → AreNamed new.names s.names
     → (t : State) × Step network s.state (Next id) (next_reply_of result) t × Stands new.core t
-    → Acted network s (next_meaning name (follower_named name s.names.of_followers)) out new
-telling_acted network s name id result old out held new is empty (text, is_text, printed) held_stands next memory names followers (t, step, stands) = record {
+    → Acted network s (Ok (TellsFollower name id)) out new
+telling_acted network s name id result old out held new empty (text, is_text, printed) held_stands next memory names (t, step, stands) = record {
   meaning = TellsFollower name id;
-  is_said = ap (next_meaning name) (sym is);
+  is_said = refl;
   entries = entry (Next id) (next_reply_of result);
   scene = record { state = t; names = s.names };
   acts = (
@@ -62,5 +60,5 @@ telling_acted network s name id result old out held new is empty (text, is_text,
     subst (IsNextText s.names.of_bytes name (next_reply_of result)) (sym (printed ∙ ap (λ (l : List ℕ). l ++ text) empty)) is_text,
     refl,
   );
-  holds = record { stands = stands; names = names; followers = followers };
+  holds = record { stands = stands; names = names };
 }

@@ -9,14 +9,14 @@ use Rattle.std.proofs.lemmas.Bool.Decides.{nat_tests}
 use Rattle.std.proofs.lemmas.List.Folds.{concat-append}
 use Rattle.model.specs.Genesis.{Genesis}
 use Rattle.model.specs.History.{Entry}
-use Rattle.scenario.specs.declared.fault.LineFault.{LineFault}
+use Rattle.script.specs.declared.fault.LineFault.{LineFault}
 use Rattle.scenario.specs.declared.session.Session.{Session}
-use Rattle.scenario.specs.declared.stop.Stop.{Stop}
-use Rattle.scenario.specs.declared.stop.Stop.TheVariants as stop
+use Rattle.script.specs.declared.stop.Stop.{Stop}
+use Rattle.script.specs.declared.stop.Stop.TheVariants as stop
 use Rattle.scenario.specs.declared.fault.ScenarioFault.{ScenarioFault}
 use Rattle.scenario.specs.declared.fault.ScenarioFault.TheVariants as fault
-use Rattle.scenario.specs.Text.{lines_of}
-use Rattle.scenario.specs.Meaning.{Meaning, meaning_of}
+use Rattle.script.specs.Text.{lines_of}
+use Rattle.script.specs.Meaning.{Meaning, meaning_of}
 use Rattle.scenario.specs.Run.{Scene, opening_scene, Obeys, Prints, AreObeyed, script_network, BreaksOff, EndsWell, EndsBy}
 use Rattle.scenario.specs.Ending.{fault_of}
 use Rattle.scenario.specs.SessionView.{Holds, Acted, IsObeyed}

@@ -1,7 +1,7 @@
 -- The faults of a run, by what stopped a line.
 use Rattle.std.specs.Prelude.{ℕ}
-use Rattle.scenario.specs.declared.stop.Stop.{Stop}
-use Rattle.scenario.specs.declared.stop.Stop.TheVariants as stop
+use Rattle.script.specs.declared.stop.Stop.{Stop}
+use Rattle.script.specs.declared.stop.Stop.TheVariants as stop
 use Rattle.scenario.specs.declared.fault.ScenarioFault.{ScenarioFault}
 use Rattle.scenario.specs.declared.fault.ScenarioFault.TheVariants as fault
 

@@ -1,13 +1,16 @@
 -- The lines that a script prints.
 use Rattle.std.specs.Prelude.{◌≡◌, ℕ, List, [], ◌∷◌, ◌++◌, decimal, codes, ◌==◌, if◌then◌else◌}
 use Rattle.model.specs.Block.{Block, SpellsBlock, block_hash_of}
+use Rattle.std.specs.FinMap as finite
+use Rattle.model.specs.Utxo.{outputs_of, coin_of}
+use Rattle.model.specs.Ledger.{Ledger}
 use Rattle.model.specs.Chain.{Point}
 use Rattle.model.specs.Follower.{Instruction, Stay, AddBlock, RollBack}
 use Rattle.model.specs.History.{Reply, Opened, TooManyFollowers, Instructed, UnknownFollower, OutOfMemory}
 use Rattle.chain_core.specs.Texts.{arrive_reply_text}
-use Rattle.scenario.specs.declared.line.Form.{Form}
-use Rattle.scenario.specs.Line.{word_of}
-use Rattle.scenario.specs.Names.{Binding, printed_name}
+use Rattle.script.specs.declared.line.Form.{Form}
+use Rattle.script.specs.Line.{word_of}
+use Rattle.script.specs.Names.{Binding, printed_name}
 
 -- what an arrival prints: the line's first word, the name and the reply
 abbrev pub arrival_text : Form → List ℕ → Reply → List ℕ
@@ -32,6 +35,16 @@ point_name names point = if point.number == 0 then codes "genesis" else printed_
 -- what the question `tip` prints
 abbrev pub tip_text : List Binding → Point → List ℕ
 tip_text names point = codes "tip: " ++ decimal point.number ++ codes " " ++ point_name names point ++ 10 ∷ []
+
+-- what the question `utxo` prints: so many outputs are unspent, and hold so much lovelace together, beside the fees
+abbrev pub unspent_text : (pairs coin fees : ℕ) → List ℕ
+unspent_text pairs coin fees =
+    codes "utxo: pairs " ++ (decimal pairs ++ (codes " coin " ++ (decimal coin ++ (codes " fees " ++ (decimal fees
+    ++ 10 ∷ [])))))
+
+-- the same of a chain's ledger
+abbrev pub utxo_text : Ledger → List ℕ
+utxo_text ledger = unspent_text (finite.len ledger.utxo) (coin_of (outputs_of ledger.utxo)) ledger.fees
 
 -- what a follower is told: nothing, the name of the block whose bytes it is to put on, or of the place to go back to
 abbrev pub IsInstructionText : List Binding → Instruction → List ℕ → Type 0

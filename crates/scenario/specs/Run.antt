@@ -5,19 +5,20 @@ use Rattle.std.specs.Io.KnownBytes.{Appends}
 use Rattle.model.specs.Block.{Block}
 use Rattle.model.specs.Signature.{test_verifies}
 use Rattle.model.specs.Genesis.{Genesis}
-use Rattle.model.specs.Ledger.{Network, network_of}
+use Rattle.model.specs.Ledger.{Network, Ledger, network_of, ledger_of}
 use Rattle.model.specs.Chain.{tip_point}
 use Rattle.model.specs.Follower.{told_by, IsDue, IsNextInstruction, Instruction}
 use Rattle.model.specs.History.{State, opening, Event, Arrive, Open, Next, Reply, Opened, Instructed, OutOfMemory, Step}
 use Rattle.model.specs.History.{Entry, ChainTheorem}
-use Rattle.scenario.specs.declared.fault.LineFault.{LineFault}
+use Rattle.script.specs.declared.fault.LineFault.{LineFault}
 use Rattle.scenario.specs.declared.fault.ScenarioFault.{ScenarioFault}
 use Rattle.scenario.specs.declared.fault.ScenarioFault.TheVariants as fault
-use Rattle.scenario.specs.Text.{lines_of}
-use Rattle.scenario.specs.Names.{FollowerName, AllNames, with_binding}
-use Rattle.scenario.specs.Meaning.{Meaning, DoesNothing, Binds, Arrives, OpensFollower, TellsFollower, PrintsTip}
-use Rattle.scenario.specs.Meaning.{formed, meaning_of}
-use Rattle.scenario.specs.Print.{arrival_text, opening_text, tip_text, IsNextText}
+use Rattle.script.specs.Text.{lines_of}
+use Rattle.script.specs.Names.{FollowerName, AllNames, no_names, with_binding}
+use Rattle.script.specs.Meaning.{Meaning, DoesNothing, Binds, Arrives, OpensFollower, TellsFollower, PrintsTip}
+use Rattle.script.specs.Meaning.{PrintsUtxo}
+use Rattle.script.specs.Meaning.{formed, meaning_of}
+use Rattle.scenario.specs.Print.{arrival_text, opening_text, tip_text, utxo_text, IsNextText}
 
 -- the node's state with the names that are bound
 pub record Scene : Type 0 where
@@ -25,7 +26,7 @@ pub record Scene : Type 0 where
   pub names : AllNames
 
 abbrev pub opening_scene : Scene
-opening_scene = record { state = opening; names = record { of_bytes = []; of_followers = [] } }
+opening_scene = record { state = opening; names = no_names }
 
 -- the network that a script runs on: of this genesis, with signatures of the scheme for tests
 abbrev pub script_network : Genesis → Network
@@ -81,6 +82,8 @@ Acts network s (TellsFollower name id) out entries t = (reply : Reply) × WasTol
     × IsNextText s.names.of_bytes name reply out × (entries ≡ entry (Next id) reply)
 Acts network s PrintsTip out entries t = (out ≡ tip_text s.names.of_bytes (tip_point s.state.chain)) × (entries ≡ [])
     × (t ≡ s)
+Acts network s PrintsUtxo out entries t = (ledger : Ledger) × (ledger_of network s.state.chain ≡ Some ledger)
+    × (out ≡ utxo_text ledger) × (entries ≡ []) × (t ≡ s)
 
 -- a line after so many bytes has no fault, and prints so
 pub record Obeys (network : Network) (before : ℕ) (s : Scene) (line out : List ℕ) (entries : List Entry)

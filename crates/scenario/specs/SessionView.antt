@@ -4,20 +4,18 @@ use Rattle.std.specs.Global.{Vec}
 use Rattle.model.specs.Ledger.{Network}
 use Rattle.model.specs.History.{Entry}
 use Rattle.chain_core.specs.Held.{Stands}
-use Rattle.scenario.specs.declared.fault.LineFault.{LineFault}
-use Rattle.scenario.specs.declared.stop.Stop.{Stop}
-use Rattle.scenario.specs.declared.stop.Stop.TheVariants.{Fault, OutOfMemory}
+use Rattle.script.specs.declared.fault.LineFault.{LineFault}
+use Rattle.script.specs.declared.stop.Stop.{Stop}
+use Rattle.script.specs.declared.stop.Stop.TheVariants.{Fault, OutOfMemory}
 use Rattle.scenario.specs.declared.session.Session.{Session}
-use Rattle.scenario.specs.NamesView.{AreBound}
-use Rattle.scenario.specs.FollowerNamesView.{AreNamed}
-use Rattle.scenario.specs.Meaning.{Meaning}
+use Rattle.script.specs.RequestView.{AreNamed}
+use Rattle.script.specs.Meaning.{Meaning}
 use Rattle.scenario.specs.Run.{Scene, Acts}
 
--- the core stands for the state, and the names of both kinds for the names
+-- the core stands for the state, and the names for the names
 pub record Holds (session : Session) (s : Scene) : Type 0 where
   pub stands : Stands session.core s.state
-  pub names : AreBound session.names s.names.of_bytes
-  pub followers : AreNamed session.followers s.names.of_followers
+  pub names : AreNamed session.names s.names
 
 -- a line that means this was obeyed, and printed so
 pub record Acted (network : Network) (s : Scene) (said : Result Meaning LineFault) (out : List ℕ)

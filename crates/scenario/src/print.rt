@@ -4,16 +4,15 @@ ghost use Rattle.std.specs.Prelude.{◌≡◌, ◌++◌, ℕ, List, OnOk, Some};
 ghost use Rattle.model.specs.Block.{SpellsBlock, block_text, block_hash_of};
 ghost use Rattle.ident.specs.PointView.{point_of};
 ghost use Rattle.chain_core.specs.Views.{instruction_of, arrive_reply_of, open_reply_of, next_reply_of};
-ghost use Rattle.scenario.specs.Names.{Binding, printed_name};
-ghost use Rattle.scenario.specs.NamesView.{AreBound};
+ghost use Rattle.script.specs.Names.{AllNames, printed_name};
+ghost use Rattle.script.specs.RequestView.{AreNamed};
 ghost use Rattle.scenario.specs.Print.{arrival_text, opening_reply_text, opening_text, point_name, IsInstructionText};
-ghost use Rattle.scenario.specs.Print.{IsNextReplyText, IsNextText, tip_text};
+ghost use Rattle.scenario.specs.Print.{IsNextReplyText, IsNextText, tip_text, unspent_text};
 
-use crate::line::Form;
-use crate::names::Names;
 use block::CheckedBlock;
 use chain_core::{ArriveReply, FollowerId, Instruction, NextFault, OpenFault};
 use ident::Point;
+use script::{Form, Names};
 use std::alloc::AllocError;
 use std::io::Write;
 use witness_pool::TestScheme;
@@ -68,8 +67,8 @@ pub fn print_opening(
 
 /// The name of a place on a chain.
 fn point_name<'a>(names: &'a Names, point: &Point) -> &'a [u8]
-    ensures { (bound : List Binding) → AreBound names.entry.now bound
-        → result.now ≡ point_name bound (point_of point.now) }
+    ensures { (all : AllNames) → AreNamed names.entry.now all
+        → result.now ≡ point_name all.of_bytes (point_of point.now) }
 {
     if point.number == 0 {
         b"genesis".as_slice()
@@ -80,8 +79,8 @@ fn point_name<'a>(names: &'a Names, point: &Point) -> &'a [u8]
 
 /// The name of a block that was read.
 fn block_name<'a>(names: &'a Names, block: &CheckedBlock<TestScheme>) -> &'a [u8]
-    ensures name { (bound : List Binding) → AreBound names.entry.now bound
-        → result.now ≡ printed_name (block_hash_of block.now) bound }
+    ensures name { (all : AllNames) → AreNamed names.entry.now all
+        → result.now ≡ printed_name (block_hash_of block.now) all.of_bytes }
     // It is that of the one block that has this text.
     ensures spelled { SpellsBlock block.now (block_text block.now) }
 {
@@ -96,8 +95,9 @@ fn print_instruction(
     names: &Names,
     instruction: &Option<Instruction<TestScheme>>,
 ) -> Result<(), AllocError>
-    ensures { OnOk result ((bound : List Binding) → AreBound names.now bound → (text : List ℕ)
-        × IsInstructionText bound (instruction_of instruction.now) text × (line.new.items ≡ line.old.items ++ text)) }
+    ensures { OnOk result ((all : AllNames) → AreNamed names.now all → (text : List ℕ)
+        × IsInstructionText all.of_bytes (instruction_of instruction.now) text
+        × (line.new.items ≡ line.old.items ++ text)) }
 {
     match instruction {
         None => line.extend_from_slice(b"none"),
@@ -118,8 +118,8 @@ fn print_next_reply(
     names: &Names,
     reply: &Result<Option<Instruction<TestScheme>>, NextFault>,
 ) -> Result<(), AllocError>
-    ensures { OnOk result ((bound : List Binding) → AreBound names.now bound → (text : List ℕ)
-        × IsNextReplyText bound (next_reply_of reply.now) text × (line.new.items ≡ line.old.items ++ text)) }
+    ensures { OnOk result ((all : AllNames) → AreNamed names.now all → (text : List ℕ)
+        × IsNextReplyText all.of_bytes (next_reply_of reply.now) text × (line.new.items ≡ line.old.items ++ text)) }
 {
     match reply {
         Ok(instruction) => print_instruction(line, names, instruction),
@@ -135,8 +135,8 @@ pub fn print_next(
     name: &[u8],
     reply: &Result<Option<Instruction<TestScheme>>, NextFault>,
 ) -> Result<(), AllocError>
-    ensures { OnOk result ((bound : List Binding) → AreBound names.now bound → (out : List ℕ)
-        × IsNextText bound name.now (next_reply_of reply.now) out × (line.new.items ≡ line.old.items ++ out)) }
+    ensures { OnOk result ((all : AllNames) → AreNamed names.now all → (out : List ℕ)
+        × IsNextText all.of_bytes name.now (next_reply_of reply.now) out × (line.new.items ≡ line.old.items ++ out)) }
 {
     line.extend_from_slice(b"next ")?;
     line.extend_from_slice(name)?;
@@ -148,8 +148,8 @@ pub fn print_next(
 
 /// Appends what the question `tip` prints.
 pub fn print_tip(line: &mut Vec<u8>, names: &Names, point: &Point) -> Result<(), AllocError>
-    ensures { OnOk result ((bound : List Binding) → AreBound names.now bound → line.new.items ≡ line.old.items
-        ++ tip_text bound (point_of point.now)) }
+    ensures { OnOk result ((all : AllNames) → AreNamed names.now all → line.new.items ≡ line.old.items
+        ++ tip_text all.of_bytes (point_of point.now)) }
 {
     let number = point.number;
     let name = point_name(names, point);
@@ -159,4 +159,14 @@ pub fn print_tip(line: &mut Vec<u8>, names: &Names, point: &Point) -> Result<(),
     line.extend_from_slice(name)?;
     line.push(b'\n')?;
     Ok(())
+}
+
+/// Appends what the question `utxo` prints.
+pub fn print_utxo(line: &mut Vec<u8>, pairs: usize, coin: u128, fees: u64) -> Result<(), AllocError>
+    ensures { OnOk result (line.new.items ≡ line.old.items ++ unspent_text pairs coin fees) }
+{
+    match write!(line, "utxo: pairs {pairs} coin {coin} fees {fees}\n") {
+        Ok(()) => Ok(()),
+        Err(_) => Err(AllocError),
+    }
 }

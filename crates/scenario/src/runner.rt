@@ -1,42 +1,16 @@
 //! The run of a script.
 
 ghost use Rattle.std.specs.Prelude.{◌≡◌, ℕ, ◌+◌, ◌≤◌, ◌⊎◌, List, [], ◌∷◌, ◌++◌, length, OnOk, IfErr, IfSome};
-ghost use Rattle.scenario.specs.Line.{parse_line};
-ghost use Rattle.scenario.specs.LineView.{line_of};
-ghost use Rattle.scenario.specs.Meaning.{meaning_of};
-ghost use Rattle.scenario.specs.Run.{Scene, script_network, EndsWell, EndsBy};
-ghost use Rattle.scenario.specs.Text.{script_size_limit};
+ghost use Rattle.scenario.specs.Run.{script_network, EndsWell, EndsBy};
 ghost use Rattle.scenario.specs.Ending.{fault_of};
-ghost use Rattle.scenario.specs.SessionView.{Holds, IsObeyed};
 
-use crate::fault::{LineFault, ScenarioFault};
-use crate::line::parse_line;
+use crate::fault::ScenarioFault;
 use crate::output::{WriteStopped, write_all};
 use crate::session::Session;
-use crate::stop::Stop;
 use genesis::Genesis;
+use script::Stop;
 use std::alloc::Global;
 use std::io::{BufRead, Error, ErrorKind, Write};
-
-/// The most bytes that a script may have. The line of the first byte past them is a [`LineFault::BadLine`].
-pub const MAX_SCRIPT_SIZE: u64 = 4_194_304;
-
-/// Does what a line says that comes after so many bytes, and answers what it prints.
-fn play(session: &mut Session, before: u64, line: &[u8]) -> Result<Vec<u8>, Stop>
-    requires { before ≤ script_size_limit }
-    ensures obeyed { (s : Scene) → Holds session.old s
-        → IsObeyed (script_network session.old.core.genesis) s (meaning_of before s.names line.now) result session.new }
-    ensures genesis { session.new.core.genesis ≡ session.old.core.genesis }
-    ensures size { OnOk result (before + length line.now ≤ script_size_limit) }
-{
-    if line.len() as u64 > MAX_SCRIPT_SIZE - before {
-        return Err(Stop::Fault(LineFault::BadLine));
-    }
-    match parse_line(line) {
-        Some(line) => session.obey(line),
-        None => Err(Stop::Fault(LineFault::BadLine)),
-    }
-}
 
 /// Why no line was read, of which these bytes were. That memory ran out is said only where they are no whole line.
 fn read_fault(error: &Error, line: &[u8]) -> ScenarioFault
@@ -76,7 +50,8 @@ fn line_fault(number: u64, stop: Stop) -> ScenarioFault
 /// ```
 ///
 /// A line is read whole before it is looked at. A reader whose lines may have no end is given by
-/// [`Read::take`](std::io::Read::take) with one byte more than [`MAX_SCRIPT_SIZE`], which makes such a line a bad one.
+/// [`Read::take`](std::io::Read::take) with one byte more than [`MAX_SCRIPT_SIZE`](script::MAX_SCRIPT_SIZE), which
+/// makes such a line a bad one.
 pub fn run<R: BufRead, W: Write>(
     alloc: Global,
     genesis: Genesis,
@@ -104,7 +79,7 @@ pub fn run<R: BufRead, W: Write>(
         if line.is_empty() {
             return Ok(());
         }
-        let printed = match play(&mut session, before, &line) {
+        let printed = match session.obey(before, &line) {
             Ok(printed) => printed,
             Err(stop) => return Err(line_fault(number, stop)),
         };

@@ -1,29 +1,21 @@
 //! The node with the names of a script.
 
-ghost use Rattle.std.specs.Prelude.{◌≡◌, [], Ok, None, IfOk, IfErr, is_some};
+ghost use Rattle.std.specs.Prelude.{◌≡◌, ◌+◌, ◌≤◌, [], None, Ok, Some, IfOk, IfErr, OnOk, length};
 ghost use Rattle.model.specs.History.{State, Arrive, Step};
 ghost use Rattle.chain_core.specs.Held.{Stands};
 ghost use Rattle.chain_core.specs.Views.{arrive_reply_of};
-ghost use Rattle.scenario.specs.Names.{bound_to, follower_named};
-ghost use Rattle.scenario.specs.NamesView.{bound_of};
-ghost use Rattle.scenario.specs.Line.{said_bytes};
-ghost use Rattle.scenario.specs.LineView.{line_of, parent_of};
-ghost use Rattle.scenario.specs.Meaning.{formed, meaning_in, binds_free, block_meaning, base_after, bound_raw};
-ghost use Rattle.scenario.specs.Meaning.{arrival_meaning, opening_meaning, next_meaning, Binds, PrintsTip};
+ghost use Rattle.script.specs.Names.{AllNames, Bound, bound_to, follower_named};
+ghost use Rattle.script.specs.Meaning.{Arrives, OpensFollower, PrintsTip, PrintsUtxo, TellsFollower};
+ghost use Rattle.script.specs.Meaning.{formed, meaning_of};
+ghost use Rattle.script.specs.RequestView.{AreNamed, HasFollowerRoom};
+ghost use Rattle.script.specs.Text.{script_size_limit};
 ghost use Rattle.scenario.specs.Run.{Scene, opening_scene, script_network};
 ghost use Rattle.scenario.specs.SessionView.{Holds, IsObeyed};
 
-use crate::building::{base_after, build};
-use crate::digits::Digits;
-use crate::fault::LineFault;
-use crate::follower_names::FollowerNames;
-use crate::line::{Form, Line, Parent};
-use crate::name::Name;
-use crate::names::{Bound, Names};
-use crate::print::{print_arrival, print_next, print_opening, print_tip};
-use crate::stop::Stop;
-use chain_core::{ArriveReply, Core};
+use crate::print::{print_arrival, print_next, print_opening, print_tip, print_utxo};
+use chain_core::{ArriveReply, Core, FollowerId};
 use genesis::Genesis;
+use script::{Form, Name, Names, Request, Stop};
 use std::alloc::{AllocError, Global};
 use witness_pool::TestScheme;
 
@@ -38,7 +30,6 @@ pub struct Session {
     alloc: Global,
     core: Core<TestScheme>,
     names: Names,
-    followers: FollowerNames,
 }
 
 /// The bytes that arrive.
@@ -64,6 +55,17 @@ fn line_room(alloc: Global, name: Name<'_>) -> Result<Vec<u8>, Stop>
     match Vec::with_capacity(alloc, LONGEST_LINE.len() + name.text.len()) {
         Ok(line) => Ok(line),
         Err(AllocError) => Err(Stop::OutOfMemory),
+    }
+}
+
+/// The bytes of a name that has some.
+fn bytes_named<'a>(names: &'a Names, name: &[u8]) -> &'a [u8]
+    ensures { (all : AllNames) → AreNamed names.entry.now all → (bound : Bound)
+        → bound_to name.now all.of_bytes ≡ Some bound → result.now ≡ bound.bytes }
+{
+    match names.bytes_of(name) {
+        Some(bytes) => bytes,
+        None => b"".as_slice(),
     }
 }
 
@@ -93,105 +95,38 @@ impl Session {
             alloc,
             core: Core::new(alloc, genesis)?,
             names: Names::new(alloc),
-            followers: FollowerNames::new(alloc),
         })
     }
 
-    /// Whether the name is one of bytes.
-    fn is_taken(&self, name: Name<'_>) -> bool
-        ensures { (s : Scene) → Holds self.now s → result ≡ is_some (bound_to name.entry.text.now s.names.of_bytes) }
-    {
-        self.names.get(name.text).is_some()
-    }
-
-    /// Binds a name that is free, and prints nothing.
-    fn bind(&mut self, name: Name<'_>, bound: Bound) -> Result<Vec<u8>, Stop>
-        ensures obeyed { (s : Scene) → Holds self.old s → bound_to name.entry.text.now s.names.of_bytes ≡ None
-            → IsObeyed (script_network self.old.core.genesis) s
-            (Ok (Binds (record { name = name.entry.text.now; bound = bound_of bound }))) result self.new }
-        ensures genesis { self.new.core.genesis ≡ self.old.core.genesis }
-    {
-        match self.names.bind(name.text, bound) {
-            Ok(()) => Ok(Vec::new(self.alloc)),
-            Err(AllocError) => Err(Stop::OutOfMemory),
-        }
-    }
-
-    /// A line that defines a block.
-    fn define_block(
-        &mut self,
-        name: Name<'_>,
-        parent: Parent<'_>,
-        slot: u64,
-    ) -> Result<Vec<u8>, Stop>
-        ensures obeyed { (s : Scene) → Holds self.old s
-            → IsObeyed (script_network self.old.core.genesis) s (block_meaning s.names.of_bytes name.entry.text.now
-            (base_after s.names.of_bytes (parent_of parent.entry)) slot) result self.new }
-        ensures genesis { self.new.core.genesis ≡ self.old.core.genesis }
-    {
-        let Some(base) = base_after(&self.names, parent) else {
-            return Err(Stop::Fault(LineFault::UnknownName));
-        };
-        if self.is_taken(name) {
-            return Err(Stop::Fault(LineFault::NameTaken));
-        }
-        match build(self.alloc, base, slot) {
-            Ok(bound) => self.bind(name, bound),
-            Err(stop) => Err(stop),
-        }
-    }
-
-    /// A line that defines bytes.
-    fn define_raw(&mut self, name: Name<'_>, digits: Digits<'_>) -> Result<Vec<u8>, Stop>
-        ensures obeyed { (s : Scene) → Holds self.old s
-            → IsObeyed (script_network self.old.core.genesis) s (binds_free s.names.of_bytes name.entry.text.now
-            (Ok (bound_raw (said_bytes digits.entry.text.now)))) result self.new }
-        ensures genesis { self.new.core.genesis ≡ self.old.core.genesis }
-    {
-        if self.is_taken(name) {
-            return Err(Stop::Fault(LineFault::NameTaken));
-        }
-        match digits.bytes(self.alloc) {
-            Ok(bytes) => self.bind(name, Bound { bytes, place: None }),
-            Err(AllocError) => Err(Stop::OutOfMemory),
-        }
-    }
-
-    /// A line in which the bytes of a name arrive. The room for what it prints is taken first.
+    /// The bytes of a name arrive. The room for what it prints is taken first.
     fn arrive(&mut self, form: Form, name: Name<'_>) -> Result<Vec<u8>, Stop>
-        ensures obeyed { (s : Scene) → Holds self.old s
-            → IsObeyed (script_network self.old.core.genesis) s (arrival_meaning form name.entry.text.now
-            (bound_to name.entry.text.now s.names.of_bytes)) result self.new }
+        ensures obeyed { (s : Scene) → Holds self.old s → (bound : Bound)
+            → bound_to name.entry.text.now s.names.of_bytes ≡ Some bound
+            → IsObeyed (script_network self.old.core.genesis) s (Ok (Arrives form name.entry.text.now bound.bytes))
+            result self.new }
         ensures genesis { self.new.core.genesis ≡ self.old.core.genesis }
     {
-        let Some(bound) = self.names.get(name.text) else {
-            return Err(Stop::Fault(LineFault::UnknownName));
-        };
         let mut line = line_room(self.alloc, name)?;
-        let reply = arrive(self.alloc, &mut self.core, form, &bound.bytes);
+        let bytes = bytes_named(&self.names, name.text);
+        let reply = arrive(self.alloc, &mut self.core, form, bytes);
         match print_arrival(&mut line, form, name.text, reply) {
             Ok(()) => Ok(line),
             Err(AllocError) => Err(Stop::OutOfMemory),
         }
     }
 
-    /// A line that opens a follower. The room for what it prints and for the name is taken first.
+    /// A follower is opened, and gets its name. The room for what it prints is taken first.
     fn open(&mut self, name: Name<'_>) -> Result<Vec<u8>, Stop>
-        ensures obeyed { (s : Scene) → Holds self.old s
-            → IsObeyed (script_network self.old.core.genesis) s (opening_meaning name.entry.text.now
-            (follower_named name.entry.text.now s.names.of_followers)) result self.new }
+        ensures obeyed { HasFollowerRoom self.old.names name.entry.text.now → (s : Scene) → Holds self.old s
+            → follower_named name.entry.text.now s.names.of_followers ≡ None
+            → IsObeyed (script_network self.old.core.genesis) s (Ok (OpensFollower name.entry.text.now)) result
+            self.new }
         ensures genesis { self.new.core.genesis ≡ self.old.core.genesis }
     {
-        if self.followers.get(name.text).is_some() {
-            return Err(Stop::Fault(LineFault::NameTaken));
-        }
         let mut line = line_room(self.alloc, name)?;
-        let Ok(()) = self.followers.take_room(name.text) else {
-            return Err(Stop::OutOfMemory);
-        };
         let reply = self.core.open();
         if let Ok(id) = reply {
-            self.followers.bind(name.text, id);
+            self.names.bind_follower(name.text, id.number);
         }
         match print_opening(&mut line, name.text, reply) {
             Ok(()) => Ok(line),
@@ -199,18 +134,14 @@ impl Session {
         }
     }
 
-    /// The question what a follower is told next. The room for what it prints is taken first.
-    fn next(&mut self, name: Name<'_>) -> Result<Vec<u8>, Stop>
-        ensures obeyed { (s : Scene) → Holds self.old s
-            → IsObeyed (script_network self.old.core.genesis) s (next_meaning name.entry.text.now
-            (follower_named name.entry.text.now s.names.of_followers)) result self.new }
+    /// The follower of a number is told what comes next. The room for what it prints is taken first.
+    fn next(&mut self, name: Name<'_>, id: u64) -> Result<Vec<u8>, Stop>
+        ensures obeyed { (s : Scene) → Holds self.old s → IsObeyed (script_network self.old.core.genesis) s
+            (Ok (TellsFollower name.entry.text.now id)) result self.new }
         ensures genesis { self.new.core.genesis ≡ self.old.core.genesis }
     {
-        let Some(id) = self.followers.get(name.text) else {
-            return Err(Stop::Fault(LineFault::UnknownName));
-        };
         let mut line = line_room(self.alloc, name)?;
-        let reply = self.core.next(id);
+        let reply = self.core.next(FollowerId { number: id });
         match print_next(&mut line, &self.names, name.text, &reply) {
             Ok(()) => Ok(line),
             Err(AllocError) => Err(Stop::OutOfMemory),
@@ -231,21 +162,37 @@ impl Session {
         }
     }
 
-    /// Does what a line says, and answers what it prints.
-    pub fn obey(&mut self, line: Line<'_>) -> Result<Vec<u8>, Stop>
-        ensures obeyed { (s : Scene) → Holds self.old s
-            → IsObeyed (script_network self.old.core.genesis) s (meaning_in s.names (line_of line.entry)) result
-            self.new }
-        ensures genesis { self.new.core.genesis ≡ self.old.core.genesis }
+    /// The question what is unspent on the selected chain.
+    fn utxo(&self) -> Result<Vec<u8>, Stop>
+        ensures { (s : Scene) → Holds self.now s
+            → IsObeyed (script_network self.now.core.genesis) s (Ok PrintsUtxo) result self.now }
     {
-        match line {
-            Line::Nothing => Ok(Vec::new(self.alloc)),
-            Line::Block { name, parent, slot } => self.define_block(name, parent, slot),
-            Line::Raw { name, digits } => self.define_raw(name, digits),
-            Line::Arrive { form, name } => self.arrive(form, name),
-            Line::Open { name } => self.open(name),
-            Line::Next { name } => self.next(name),
-            Line::Tip => self.tip(),
+        let utxo = self.core.utxo();
+        let Ok(coin) = utxo.coin() else {
+            return Err(Stop::OutOfMemory);
+        };
+        let mut line = Vec::new(self.alloc);
+        match print_utxo(&mut line, utxo.len(), coin, self.core.fees()) {
+            Ok(()) => Ok(line),
+            Err(AllocError) => Err(Stop::OutOfMemory),
+        }
+    }
+
+    /// Obeys a line that comes after so many bytes, and answers what it prints.
+    pub fn obey(&mut self, before: u64, line: &[u8]) -> Result<Vec<u8>, Stop>
+        ensures obeyed { (s : Scene) → Holds self.old s
+            → IsObeyed (script_network self.old.core.genesis) s (meaning_of before s.names line.now) result self.new }
+        ensures genesis { self.new.core.genesis ≡ self.old.core.genesis }
+        ensures size { OnOk result (before + length line.now ≤ script_size_limit) }
+    {
+        match self.names.obey(before, line) {
+            Ok(Request::Nothing) => Ok(Vec::new(self.alloc)),
+            Ok(Request::Arrive { form, name }) => self.arrive(form, name),
+            Ok(Request::Open { name }) => self.open(name),
+            Ok(Request::Next { name, id }) => self.next(name, id),
+            Ok(Request::Tip) => self.tip(),
+            Ok(Request::Utxo) => self.utxo(),
+            Err(stop) => Err(stop),
         }
     }
 }

@@ -25,3 +25,5 @@ mod script_tests;
 mod scripts;
 #[cfg(test)]
 mod text_tests;
+#[cfg(test)]
+mod utxo_scripts;

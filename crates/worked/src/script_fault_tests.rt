@@ -57,6 +57,7 @@ const WORDS: &[(&str, LineFault)] = &[
     (" tip", LineFault::BadLine),
     ("tip ", LineFault::BadLine),
     ("tip now", LineFault::BadLine),
+    ("utxo A", LineFault::BadLine),
     ("Tip", LineFault::BadLine),
     ("arrive", LineFault::BadLine),
     ("arrive  A", LineFault::BadLine),

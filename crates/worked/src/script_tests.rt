@@ -3,7 +3,7 @@
 use super::fixture::{ONE_LIVE_BLOCK, SMALL_NETWORK};
 use super::flooded::{FLOODED_STORE, FLOODED_STORE_PRINTS};
 use super::long_chain::{LONG_CHAIN_BACKWARDS, LONG_CHAIN_BACKWARDS_PRINTS};
-use super::scripts;
+use super::{scripts, utxo_scripts};
 use genesis::Genesis;
 use scenario::{LineFault, ScenarioFault, run};
 use std::alloc::Global;
@@ -117,6 +117,15 @@ const RUNS: &[(&str, &str)] = &[
     // scripts of many blocks
     (LONG_CHAIN_BACKWARDS, LONG_CHAIN_BACKWARDS_PRINTS),
     (FLOODED_STORE, FLOODED_STORE_PRINTS),
+    // scripts of transactions
+    (
+        utxo_scripts::UTXO_AFTER_A_SWITCH,
+        utxo_scripts::UTXO_AFTER_A_SWITCH_PRINTS,
+    ),
+    (
+        utxo_scripts::UTXO_WITHOUT_A_SWITCH,
+        utxo_scripts::UTXO_WITHOUT_A_SWITCH_PRINTS,
+    ),
     // lines that are read
     ("", ""),
     (

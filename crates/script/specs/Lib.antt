@@ -1,0 +1,11 @@
+pub mod Text
+pub mod Line
+pub mod LineView
+pub mod Answer
+pub mod WordsView
+pub mod Names
+pub mod NamesView
+pub mod FollowerNamesView
+pub mod Meaning
+pub mod BaseView
+pub mod RequestView

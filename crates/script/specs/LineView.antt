@@ -1,0 +1,20 @@
+-- What a line of the code stands for.
+use Rattle.script.specs.declared.line.Parent.{Parent}
+use Rattle.script.specs.declared.line.Parent.TheVariants as parent
+use Rattle.script.specs.declared.line.Line.{Line}
+use Rattle.script.specs.declared.line.Line.TheVariants as line
+use Rattle.script.specs.Line as spec
+
+abbrev pub parent_of : Parent → spec.Parent
+parent_of parent.Genesis = spec.Genesis
+parent_of (parent.After name) = spec.After name.text.now
+
+abbrev pub line_of : Line → spec.Line
+line_of line.Nothing = spec.Nothing
+line_of (line.Block name parent slot) = spec.DefineBlock name.text.now (parent_of parent) slot
+line_of (line.Raw name digits) = spec.DefineRaw name.text.now (spec.said_bytes digits.text.now)
+line_of (line.Arrive form name) = spec.Arrive form name.text.now
+line_of (line.Open name) = spec.OpenFollower name.text.now
+line_of (line.Next name) = spec.AskNext name.text.now
+line_of line.Tip = spec.AskTip
+line_of line.Utxo = spec.AskUtxo

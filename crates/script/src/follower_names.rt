@@ -1,0 +1,63 @@
+//! What names of followers are bound to.
+
+ghost use Rattle.std.specs.Prelude.{◌≡◌, [], ◌∷◌, ◌++◌, List, OnOk, None};
+ghost use Rattle.script.specs.Names.{FollowerName, follower_named};
+ghost use Rattle.script.specs.FollowerNamesView.{AreFollowersNamed, HasRoom};
+
+use std::alloc::{AllocError, Global};
+use std::collections::BTreeMap;
+
+/// The names of followers.
+#[derive(Drop)]
+pub struct FollowerNames {
+    alloc: Global,
+    /// A name that only has its room isn't bound, and has None.
+    by_name: BTreeMap<Vec<u8>, Option<u64>>,
+}
+
+impl FollowerNames {
+    /// No names.
+    pub fn new(alloc: Global) -> FollowerNames
+        ensures { AreFollowersNamed result [] }
+    {
+        FollowerNames {
+            alloc,
+            by_name: BTreeMap::new(alloc),
+        }
+    }
+
+    /// The follower that has a name.
+    pub fn get(&self, name: &[u8]) -> Option<u64>
+        ensures { (names : List FollowerName) → AreFollowersNamed self.now names
+            → result ≡ follower_named name.now names }
+    {
+        match self.by_name.get(name) {
+            Some(Some(id)) => Some(*id),
+            _ => None,
+        }
+    }
+
+    /// Takes the room for a name, and binds nothing.
+    pub fn take_room(&mut self, name: &[u8]) -> Result<(), AllocError>
+        ensures names { (names : List FollowerName) → AreFollowersNamed self.old names
+            → AreFollowersNamed self.new names }
+        ensures room { OnOk result (HasRoom self.new name.now) }
+    {
+        if !self.by_name.contains_key(name) {
+            let key = Vec::from_slice(self.alloc, name)?;
+            self.by_name.insert(key, None)?;
+        }
+        Ok(())
+    }
+
+    /// Binds a name that is free and has its room. Without its room it isn't bound. Takes no memory.
+    pub fn bind(&mut self, name: &[u8], id: u64)
+        ensures { HasRoom self.old name.now → (names : List FollowerName) → AreFollowersNamed self.old names
+            → follower_named name.now names ≡ None
+            → AreFollowersNamed self.new (names ++ record { name = name.now; id = id } ∷ []) }
+    {
+        if let Some(place) = self.by_name.get_mut(name) {
+            *place = Some(id);
+        }
+    }
+}

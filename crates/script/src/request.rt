@@ -1,0 +1,21 @@
+//! What a line asks of the node.
+
+use crate::line::Form;
+use crate::name::Name;
+
+/// What a line asks of the node, once its definition is made. Its names are parts of the line.
+#[derive(Clone, Copy, Debug)]
+pub enum Request<'a> {
+    /// Nothing: the line is empty, a comment or a definition.
+    Nothing,
+    /// The bytes of a name arrive.
+    Arrive { form: Form, name: Name<'a> },
+    /// A follower is opened. Its name is free, and has its room.
+    Open { name: Name<'a> },
+    /// What is the follower of this name and number told next?
+    Next { name: Name<'a>, id: u64 },
+    /// Where does the selected chain end?
+    Tip,
+    /// What is unspent on the selected chain?
+    Utxo,
+}
