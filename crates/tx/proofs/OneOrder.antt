@@ -51,7 +51,7 @@ module _ {A : Type 0} (cmp : A → A → Ordering) (total : IsTotalOrder cmp) wh
       λ i. heads i ∷ rests i
 
   -- of the same members there is one list that rises
-  one_order : (told xs ys : List A) → IsStrictlySortedBy cmp xs → IsStrictlySortedBy cmp ys → IsPermutation told xs → IsPermutation told ys → xs ≡ ys
+  pub one_order : (told xs ys : List A) → IsStrictlySortedBy cmp xs → IsStrictlySortedBy cmp ys → IsPermutation told xs → IsPermutation told ys → xs ≡ ys
   one_order told xs ys up also same too =
       let moved = IsPermutation-trans xs told ys (IsPermutation-sym told xs same) too in
       same_list xs ys up also (moved_in xs ys moved) (moved_in ys xs (IsPermutation-sym xs ys moved))

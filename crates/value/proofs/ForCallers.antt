@@ -12,3 +12,5 @@ pub use Rattle.value.proofs.Walks.{none_bad, any_moved, any_here, any_there, IsW
 pub use Rattle.value.proofs.Nesting.{some_seen}
 -- Members, in whatever order they stand.
 pub use Rattle.value.proofs.OneMaking.{IsIn, moved_in, from_all}
+-- Assets of which a name is too long, a quantity is 0, or one is told twice are those of no value.
+pub use Rattle.value.proofs.Making.{no_value}

@@ -5,6 +5,8 @@
 #[cfg(test)]
 mod blocks;
 #[cfg(test)]
+mod drafts;
+#[cfg(test)]
 mod fixture;
 #[cfg(test)]
 mod full_blocks;

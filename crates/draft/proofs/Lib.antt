@@ -1,0 +1,8 @@
+mod Holding
+mod Soundness
+mod Adding
+mod Copying
+mod Identity
+mod Assets
+mod Faults
+mod Finishing

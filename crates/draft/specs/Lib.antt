@@ -1,0 +1,5 @@
+pub mod Draft
+pub mod SignerView
+pub mod UnsignedView
+pub mod Refusal
+pub mod View

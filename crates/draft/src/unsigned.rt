@@ -1,0 +1,123 @@
+//! What a transaction has beside its witnesses.
+
+ghost use Rattle.std.specs.Prelude.{◌≡◌, ℕ, List, map, IfOk};
+ghost use Rattle.model.specs.Script as model;
+ghost use Rattle.model.specs.Cbor.{text_of};
+ghost use Rattle.model.specs.Transaction.{KeyWitness as Witness, Transaction, SpellsTransaction, item_of_transaction};
+ghost use Rattle.model.specs.Transaction.{transaction_id_of};
+ghost use Rattle.value.specs.Parts.{IsMintOf};
+ghost use Rattle.value.specs.View.{asset_of};
+ghost use Rattle.tx.specs.Making.{parts_of};
+ghost use Rattle.tx.specs.Parts.{IsTxOf};
+ghost use Rattle.tx.specs.View.{output_of, witness_of};
+ghost use Rattle.draft.specs.Draft.{witness_by};
+ghost use Rattle.draft.specs.SignerView.{signer_of};
+ghost use Rattle.draft.specs.UnsignedView.{parts_of_unsigned};
+
+use crate::signer::Signer;
+use ident::TxId;
+use std::alloc::{AllocError, Global};
+use timelock::{Interval, Script};
+use tx::{Input, KeyWitness, Output, Tx, TxParts};
+use value::{AssetQuantity, Mint};
+
+/// The parts that the identifier of a transaction is made of.
+#[derive(Drop)]
+pub struct Unsigned {
+    pub inputs: Vec<Input>,
+    pub outputs: Vec<Output>,
+    pub fee: u64,
+    pub interval: Interval,
+    pub mint: Mint,
+}
+
+/// The same outputs once more.
+fn clone_outputs(alloc: Global, outputs: &[Output]) -> Result<Vec<Output>, AllocError>
+    ensures { IfOk result (λ copies. map output_of copies.items ≡ map output_of outputs.now) }
+{
+    let mut copies = Vec::with_capacity(alloc, outputs.len())?;
+    for output in outputs {
+        let copy = output.try_clone()?;
+        copies.push(copy)?;
+    }
+    Ok(copies)
+}
+
+/// What the signers make of an identifier.
+fn witnesses_by(
+    alloc: Global,
+    signers: &[Signer],
+    id: &[u8; 32],
+) -> Result<Vec<KeyWitness>, AllocError>
+    ensures { IfOk result (λ made. map witness_of made.items ≡ map (witness_by id.now) (map signer_of signers.now)) }
+{
+    let mut made = Vec::with_capacity(alloc, signers.len())?;
+    for signer in signers {
+        made.push(signer.witness(id))?;
+    }
+    Ok(made)
+}
+
+/// The transaction of these parts. Err where they are at fault, or memory ran out. Those of a draft have no fault, with
+/// or without witnesses (`Draft::finish`), so for them Err tells want of memory alone.
+fn tx_of(alloc: Global, parts: TxParts) -> Result<Tx, AllocError>
+    ensures { IfOk result (λ tx. IsTxOf tx (parts_of parts)) }
+{
+    Tx::new(alloc, parts).map_err(|_| AllocError)
+}
+
+/// The mint of these assets. Err where they are at fault, or memory ran out. Those of a draft have no fault, as above.
+pub fn mint_of(alloc: Global, assets: Vec<AssetQuantity<i64>>) -> Result<Mint, AllocError>
+    ensures { IfOk result (λ mint. IsMintOf mint (map asset_of assets.items)) }
+{
+    Mint::new(alloc, assets).map_err(|_| AllocError)
+}
+
+impl Unsigned {
+    /// The identifier of each transaction with these parts, whatever its witnesses are. Copies the parts, and writes
+    /// their text once.
+    fn id(&self, alloc: Global) -> Result<TxId, AllocError>
+        ensures { IfOk result (λ id. (tx : Transaction) (text : List ℕ) (signatures : List Witness)
+            (scripts : List model.Script) → SpellsTransaction tx text
+            → IsTxOf tx (parts_of_unsigned self.now signatures scripts) → transaction_id_of tx ≡ id.bytes) }
+    {
+        let parts = TxParts {
+            inputs: Vec::from_slice(alloc, &self.inputs)?,
+            outputs: clone_outputs(alloc, &self.outputs)?,
+            fee: self.fee,
+            interval: self.interval,
+            mint: self.mint.try_clone()?,
+            signatures: Vec::new(alloc),
+            scripts: Vec::new(alloc),
+        };
+        let tx = tx_of(alloc, parts)?;
+        Ok(tx.id())
+    }
+
+    /// The transaction of these parts with scripts, whose own identifier the signers signed.
+    pub fn signed(
+        self,
+        alloc: Global,
+        signers: &[Signer],
+        scripts: Vec<Script>,
+    ) -> Result<Tx, AllocError>
+        ensures tx { IfOk result (λ tx. IsTxOf tx (parts_of_unsigned self
+            (map (witness_by (transaction_id_of tx)) (map signer_of signers.now)) scripts.items)) }
+        ensures spelled { IfOk result (λ tx. SpellsTransaction tx (text_of (item_of_transaction tx))) }
+    {
+        let id = self.id(alloc)?;
+        let parts = TxParts {
+            inputs: self.inputs,
+            outputs: self.outputs,
+            fee: self.fee,
+            interval: self.interval,
+            mint: self.mint,
+            signatures: witnesses_by(alloc, signers, &id.bytes)?,
+            scripts,
+        };
+        let tx = tx_of(alloc, parts)?;
+        // The identifier does not depend on the signatures.
+        let _id = tx.id();
+        Ok(tx)
+    }
+}
