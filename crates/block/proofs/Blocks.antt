@@ -3,7 +3,6 @@ use Rattle.std.proofs.Common.{◌≡◌, ◌≢◌, ℕ, zero, suc, ◌-◌, con
 use Rattle.std.proofs.lemmas.Bool.{eqb-true}
 use Rattle.std.proofs.lemmas.List.{append-nil, nil_from_length, length-append, take_at}
 use Rattle.model.specs.Cbor.{nesting, text_of, HasText, IsInRange, HasRisingKeys}
-use Rattle.std.specs.List.{AllByRecursion}
 use Rattle.model.specs.Transaction.{Transaction}
 use Rattle.model.specs.Block.{Header, Block, item_of_previous, item_of_header, item_of_transactions, item_of_block, IsHeader, SpellsBlock}
 use Rattle.cbor.proofs.ForCallers.{IsBytes, bind_some, guard_some, some_is, has_text, text_fits, members_takes}

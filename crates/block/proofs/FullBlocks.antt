@@ -10,7 +10,7 @@ use Rattle.ident.specs.declared.block_hash.BlockHash.{BlockHash}
 use Rattle.std.specs.List.{AllByRecursion}
 use Rattle.model.specs.Cbor.{head, text_of, items_of, items_count, nesting, items_nesting, HasText, IsInRange, ItemsAreInRange, ItemsHaveRisingKeys}
 use Rattle.model.specs.Transaction.{Transaction, item_of_transaction, IsTransaction}
-use Rattle.model.specs.Block.{Header, Block, item_of_header, item_of_transactions, item_of_block, IsHeader, SpellsBlock, body_hash_of}
+use Rattle.model.specs.Block.{Header, Block, item_of_header, item_of_transactions, item_of_block, IsHeader, SpellsBlock, body_hash_of, block_hash_of}
 use Rattle.cbor.proofs.ForCallers.{items_counted}
 use Rattle.tx.proofs.ForCallers.{NestsWithin}
 use Rattle.block.specs.declared.header.Header as code
@@ -60,6 +60,14 @@ full_is_written h ts body bytes n m few all spelled hash is =
     let hashed : h.body_hash.bytes ≡ sha256 (text_of (item_of_transactions ts)) = hash ∙ ap sha256 spelled in
     subst (λ (b : List ℕ). SpellsBlock (record { header = record { number = h.number; slot = h.slot; previous = option_map bytes_of h.previous; body_hash = b }; transactions = ts }) bytes) hashed
     (full_spells (header_of h) ts bytes (is_header h n m) (header_in_range h n m) few all text)
+
+-- the hash of the text of a header that names the hash of the body
+pub full_is_hashed : (h : code.Header) (ts : List Transaction) (body hash : List ℕ) → body ≡ text_of (item_of_transactions ts) → h.body_hash.bytes ≡ sha256 body → hash ≡ sha256 (text_of (item_of_header (header_of h)))
+    → hash ≡ block_hash_of (full_block h.number h.slot (option_map bytes_of h.previous) ts)
+unfolding body_hash_of block_hash_of
+full_is_hashed h ts body hash spelled hashed is =
+    let named : h.body_hash.bytes ≡ sha256 (text_of (item_of_transactions ts)) = hashed ∙ ap sha256 spelled in
+    is ∙ ap (λ (b : List ℕ). sha256 (text_of (item_of_header (record { number = h.number; slot = h.slot; previous = option_map bytes_of h.previous; body_hash = b })))) named
 
 -- want of memory, as another fault has it
 pub if_err : {X E : Type 0} (result : Result X E) (is : E) (P : E → Type 0) → IsErrAnd result (λ e. e ≡ is) → P is → IfErr result P

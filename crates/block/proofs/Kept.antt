@@ -7,7 +7,7 @@ use Rattle.sha2.specs.Sha256.{sha256}
 use Rattle.model.specs.Cbor.{head, text_of, items_of, items_count}
 use Rattle.model.specs.Transaction.{Transaction, item_of_transaction}
 use Rattle.model.specs.Limits.{block_size_limit}
-use Rattle.model.specs.Block.{Header, Block, item_of_header, item_of_transactions, block_text, block_hash_of, body_hash_of, body_size_of}
+use Rattle.model.specs.Block.{Block, item_of_header, item_of_transactions, block_text, block_hash_of, body_hash_of, body_size_of}
 use Rattle.model.proofs.BlockTexts.{one_block, block_text_is}
 use Rattle.cbor.proofs.ForCallers.{IsBytes}
 use Rattle.block.specs.View.{header_of}

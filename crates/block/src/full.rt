@@ -3,7 +3,7 @@
 ghost use Rattle.std.specs.Prelude.{◌≡◌, ◌<◌, ◌^◌, ◌++◌, length, None, option_map, IfOk, IfErr, IfSome};
 ghost use Rattle.std.specs.List.{AllByRecursion};
 ghost use Rattle.model.specs.Cbor.{head, text_of};
-ghost use Rattle.model.specs.Block.{SpellsBlock, item_of_header, item_of_transactions};
+ghost use Rattle.model.specs.Block.{SpellsBlock, block_hash_of, item_of_header, item_of_transactions};
 ghost use Rattle.block.specs.View.{bytes_of, header_of};
 ghost use Rattle.block.specs.Written.{full_block, FitsBlock, IsFirstTooDeep, IsNoText, IsUnspelled};
 
@@ -43,16 +43,58 @@ fn body_text(alloc: Global, transactions: &[Tx]) -> Result<Vec<u8>, AllocError>
     Ok(text)
 }
 
-/// The text of the block with this header and the body of this text.
-fn text_with(alloc: Global, header: &Header, body: &[u8]) -> Result<Vec<u8>, AllocError>
-    ensures { IfOk result (λ text.
-        text.items ≡ head 4 2 ++ (text_of (item_of_header (header_of header.now)) ++ body.now)) }
+/// The text of a header.
+fn header_text(alloc: Global, header: &Header) -> Result<Vec<u8>, AllocError>
+    ensures { IfOk result (λ text. text.items ≡ text_of (item_of_header (header_of header.now))) }
+{
+    let mut text = Vec::with_capacity(alloc, LARGEST_FRONT)?;
+    write_header(&mut text, header)?;
+    Ok(text)
+}
+
+/// The text of the block whose header and body have these texts.
+fn text_with(alloc: Global, header: &[u8], body: &[u8]) -> Result<Vec<u8>, AllocError>
+    ensures { IfOk result (λ text. text.items ≡ head 4 2 ++ (header.now ++ body.now)) }
 {
     let mut out = Vec::with_capacity(alloc, body.len().saturating_add(LARGEST_FRONT))?;
     cbor::write_array(&mut out, 2)?;
-    write_header(&mut out, header)?;
+    out.extend_from_slice(header)?;
     out.extend_from_slice(body)?;
     Ok(out)
+}
+
+/// What [`write`] writes, with the hash of the block: the SHA-256 digest (FIPS 180-4) of its header's text, which is
+/// hashed once. Faults and cost are those of [`write`].
+pub fn write_with_hash(
+    alloc: Global,
+    number: u64,
+    slot: u64,
+    previous: Option<BlockHash>,
+    transactions: &[Tx],
+) -> Result<(Vec<u8>, BlockHash), NoText>
+    ensures ok { IfOk result (λ x.
+        SpellsBlock (full_block number slot (option_map bytes_of previous) transactions.now) x.0.items) }
+    ensures hash { IfOk result (λ x.
+        x.1.bytes ≡ block_hash_of (full_block number slot (option_map bytes_of previous) transactions.now)) }
+    ensures fault { IfErr result (IsNoText (full_block number slot (option_map bytes_of previous) transactions.now)) }
+    ensures none { IfErr result (IsUnspelled (full_block number slot (option_map bytes_of previous) transactions.now)) }
+{
+    if number >= NUMBER_LIMIT || slot >= NUMBER_LIMIT {
+        return Err(NoText::OutOfRange);
+    }
+    if let Some(index) = first_too_deep(transactions) {
+        return Err(NoText::TooDeep(index));
+    }
+    let body = body_text(alloc, transactions)?;
+    let header = Header {
+        number,
+        slot,
+        previous,
+        body_hash: BodyHash::of_body(&body),
+    };
+    let header = header_text(alloc, &header)?;
+    let text = text_with(alloc, &header, &body)?;
+    Ok((text, BlockHash::of_header(&header)))
 }
 
 /// The text of the block of these transactions, in this order, with this number and slot, after the block with this
@@ -76,18 +118,6 @@ pub fn write(
     ensures fault { IfErr result (IsNoText (full_block number slot (option_map bytes_of previous) transactions.now)) }
     ensures none { IfErr result (IsUnspelled (full_block number slot (option_map bytes_of previous) transactions.now)) }
 {
-    if number >= NUMBER_LIMIT || slot >= NUMBER_LIMIT {
-        return Err(NoText::OutOfRange);
-    }
-    if let Some(index) = first_too_deep(transactions) {
-        return Err(NoText::TooDeep(index));
-    }
-    let body = body_text(alloc, transactions)?;
-    let header = Header {
-        number,
-        slot,
-        previous,
-        body_hash: BodyHash::of_body(&body),
-    };
-    Ok(text_with(alloc, &header, &body)?)
+    let (text, _hash) = write_with_hash(alloc, number, slot, previous, transactions)?;
+    Ok(text)
 }

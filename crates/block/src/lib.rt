@@ -15,7 +15,7 @@ pub use block::{Block, read};
 pub use block_ref::{BlockRef, MAX_BLOCK_SIZE, look};
 pub use checked_block::CheckedBlock;
 pub use fault::{NoBlock, NoText, ReadFault, WriteFault};
-pub use full::write;
+pub use full::{write, write_with_hash};
 pub use header::Header;
 pub use laws::one_answer;
 pub use writing::{empty_body_hash, write_empty};

@@ -95,7 +95,8 @@ impl Genesis {
 
     /// The network, 0 to 15.
     pub fn network(&self) -> u8
-        ensures { result ≡ self.now.params.network }
+        ensures is { result ≡ self.now.params.network }
+        ensures range { IsWithin 0 15 result }
     {
         self.settings.network
     }
