@@ -6,6 +6,7 @@ mod blocks;
 mod keys;
 mod ledger_states;
 mod maps;
+mod scripts;
 mod telling;
 
 use crate::telling::Telling;
@@ -18,9 +19,10 @@ fn main(rt: HostRuntime) -> io::Result<()> {
             "persistent_map" => return maps::measure(&rt),
             "blocks" => return blocks::measure(&rt, Telling::Times),
             "ledger" => return ledger_states::measure(&rt),
+            "scripts" => return scripts::measure(&rt),
             _ => {}
         }
     }
     blocks::measure(&rt, Telling::Names)?;
-    println!(rt; "to measure: bench persistent_map, bench blocks, bench ledger")
+    println!(rt; "to measure: bench persistent_map, bench blocks, bench ledger, bench scripts")
 }

@@ -1,5 +1,5 @@
 -- A line in which bytes arrive.
-use Rattle.std.proofs.Common.{◌≡◌, ℕ, List, Ok, refl}
+use Rattle.std.proofs.Common.{◌≡◌, ℕ, List, refl}
 use Rattle.model.specs.Ledger.{Network}
 use Rattle.model.specs.History.{State, Arrive, Reply, Step}
 use Rattle.chain_core.specs.Held.{Stands}
@@ -9,14 +9,12 @@ use Rattle.script.specs.RequestView.{AreNamed}
 use Rattle.script.specs.Meaning.{Arrives, formed}
 use Rattle.scenario.specs.Print.{arrival_text}
 use Rattle.scenario.specs.Run.{Scene, entry}
-use Rattle.scenario.specs.SessionView.{Acted}
+use Rattle.scenario.specs.SessionView.{Done}
 
 pub arrival_acted : (network : Network) (s : Scene) (form : Form) (name bytes : List ℕ) (reply : Reply) (out : List ℕ) (new : Session) → out ≡ arrival_text form name reply → AreNamed new.names s.names
     → (t : State) × Step network s.state (Arrive (formed form bytes)) reply t × Stands new.core t
-    → Acted network s (Ok (Arrives form name bytes)) out new
+    → Done network s (Arrives form name bytes) out new
 arrival_acted network s form name bytes reply out new printed names (t, step, stands) = record {
-  meaning = Arrives form name bytes;
-  is_said = refl;
   entries = entry (Arrive (formed form bytes)) reply;
   scene = record { state = t; names = s.names };
   acts = (reply, record { step = step; names = refl }, printed, refl);

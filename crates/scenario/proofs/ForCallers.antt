@@ -20,7 +20,7 @@ not_begun network text written = record {
   out = [];
   written = appends_none written;
   is_fault = record {
-    broken = record { lines = []; after = lines_of text; begins = refl; more = []; read = refl; obeyed = obeyed network [] [] [] opening_scene (refl, refl, refl) };
+    broken = record { lines = []; after = lines_of text; begins = refl; more = []; read = refl; obeyed = obeyed network [] [] [] (opening_scene network.genesis) (refl, refl, refl) };
     has_no_fault = λ content whole. absurd (none_ends content whole);
   };
 }

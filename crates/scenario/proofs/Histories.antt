@@ -3,7 +3,7 @@ use Rattle.std.proofs.Common.{◌≡◌, ℕ, ◌+◌, List, [], ◌∷◌, ◌+
 use Rattle.model.specs.Ledger.{Network}
 use Rattle.model.specs.History.{State, Event, Reply, Entry, Step, IsRun}
 use Rattle.model.proofs.ToldChains.{theorem_of_legal}
-use Rattle.script.specs.Meaning.{Meaning, DoesNothing, Binds, Arrives, OpensFollower, TellsFollower, PrintsTip, PrintsUtxo}
+use Rattle.script.specs.Meaning.{Meaning, Defines, Arrives, OpensFollower, TellsFollower, PrintsTip, PrintsUtxo}
 use Rattle.scenario.specs.Run.{Scene, opening_scene, Acts, Prints, AreObeyed, entry}
 
 -- a run, and another from where it ended
@@ -20,25 +20,24 @@ once : (network : Network) (s t : State) (event : Event) (reply : Reply) (entrie
 once network s t event reply entries step is = subst (λ (es : List Entry). IsRun network s es t) (sym is) (t, step, refl)
 
 pub acts_run : (network : Network) (s : Scene) (meaning : Meaning) (out : List ℕ) (entries : List Entry) (t : Scene) → Acts network s meaning out entries t → IsRun network s.state entries t.state
-acts_run network s DoesNothing out entries t (printed, none, same) = still network s.state t.state entries none (ap (λ (x : Scene). x.state) same)
-acts_run network s (Binds binding) out entries t (printed, none, same) = still network s.state t.state entries none (ap (λ (x : Scene). x.state) same)
+acts_run network s (Defines what) out entries t (printed, none, same, named) = still network s.state t.state entries none same
 acts_run network s (Arrives form name bytes) out entries t (reply, arrived, printed, is) = once network s.state t.state _ reply entries arrived.step is
 acts_run network s (OpensFollower name) out entries t (reply, opened, printed, is) = once network s.state t.state _ reply entries opened.step is
 acts_run network s (TellsFollower name id) out entries t (reply, told, printed, is) = once network s.state t.state _ reply entries told.step is
 acts_run network s PrintsTip out entries t (printed, none, same) = still network s.state t.state entries none (ap (λ (x : Scene). x.state) same)
 acts_run network s PrintsUtxo out entries t (ledger, folded, printed, none, same) = still network s.state t.state entries none (ap (λ (x : Scene). x.state) same)
 
-pub prints_run : (network : Network) (before : ℕ) (s : Scene) (lines : List (List ℕ)) (out : List ℕ) (history : List Entry) (t : Scene) → Prints network before s lines out history t → IsRun network s.state history t.state
-prints_run network before s [] out history t (printed, none, same) = still network s.state t.state history none (ap (λ (x : Scene). x.state) same)
-prints_run network before s (line ∷ lines) out history t (first, rest, entries, later, mid, obeys, prints, printed, is) =
+pub prints_run : (network : Network) (number before : ℕ) (s : Scene) (lines : List (List ℕ)) (out : List ℕ) (history : List Entry) (t : Scene) → Prints network number before s lines out history t → IsRun network s.state history t.state
+prints_run network number before s [] out history t (printed, none, same) = still network s.state t.state history none (ap (λ (x : Scene). x.state) same)
+prints_run network number before s (line ∷ lines) out history t (first, rest, entries, later, mid, obeys, prints, printed, is) =
     subst (λ (es : List Entry). IsRun network s.state es t.state) (sym is)
-    (runs_both network s.state entries mid.state later t.state (acts_run network s obeys.meaning first entries mid obeys.acts) (prints_run network (before + length line) mid lines rest later t prints))
+    (runs_both network s.state entries mid.state later t.state (acts_run network s obeys.meaning first entries mid obeys.acts) (prints_run network (number + 1) (before + length line) mid lines rest later t prints))
 
 -- the chain theorem of a script
-abbrev pub obeyed : (network : Network) (lines : List (List ℕ)) (out : List ℕ) (history : List Entry) (scene : Scene) → Prints network 0 opening_scene lines out history scene → AreObeyed network lines out
+abbrev pub obeyed : (network : Network) (lines : List (List ℕ)) (out : List ℕ) (history : List Entry) (scene : Scene) → Prints network 1 0 (opening_scene network.genesis) lines out history scene → AreObeyed network lines out
 obeyed network lines out history scene prints = record {
   scene = scene;
   history = history;
   prints = prints;
-  theorem = theorem_of_legal network history scene.state (prints_run network 0 opening_scene lines out history scene prints);
+  theorem = theorem_of_legal network history scene.state (prints_run network 1 0 (opening_scene network.genesis) lines out history scene prints);
 }

@@ -16,7 +16,7 @@ use Rattle.script.specs.RequestView.{AreNamed}
 use Rattle.script.specs.Meaning.{TellsFollower}
 use Rattle.scenario.specs.Print.{IsNextText}
 use Rattle.scenario.specs.Run.{Scene, IsNextFor, HasDue, entry}
-use Rattle.scenario.specs.SessionView.{Acted}
+use Rattle.scenario.specs.SessionView.{Done}
 
 -- what the core says of a chain and followers, said of a state that it stands for
 next_in : (held : Held) (s : State) (id : ℕ) (instruction : Instruction) → Stands held s → core.IsNextFor held.chain held.followers id instruction → IsNextFor s id instruction
@@ -48,10 +48,8 @@ pub telling_acted : {S : Type 0} (network : Network) (s : Scene) (name : List �
     → IfErr result (λ e. e ≡ next.OutOfMemory → core.HasDue held.chain held.followers id)
     → AreNamed new.names s.names
     → (t : State) × Step network s.state (Next id) (next_reply_of result) t × Stands new.core t
-    → Acted network s (Ok (TellsFollower name id)) out new
+    → Done network s (TellsFollower name id) out new
 telling_acted network s name id result old out held new empty (text, is_text, printed) held_stands next memory names (t, step, stands) = record {
-  meaning = TellsFollower name id;
-  is_said = refl;
   entries = entry (Next id) (next_reply_of result);
   scene = record { state = t; names = s.names };
   acts = (

@@ -1,5 +1,5 @@
 -- A line that opens a follower.
-use Rattle.std.proofs.Common.{◌≡◌, List, [], ◌++◌, ℕ, Result, Ok, Err, refl, ap, ◌∙◌}
+use Rattle.std.proofs.Common.{◌≡◌, List, [], ◌++◌, ℕ, Result, Err, refl, ap, ◌∙◌}
 use Rattle.model.specs.Ledger.{Network}
 use Rattle.model.specs.History.{State, Open, Reply, Step}
 use Rattle.chain_core.specs.declared.follower.FollowerId.{FollowerId}
@@ -8,15 +8,15 @@ use Rattle.chain_core.specs.declared.follower.OpenFault.TheVariants as open'
 use Rattle.chain_core.specs.Views.{open_reply_of}
 use Rattle.chain_core.specs.Held.{Stands}
 use Rattle.scenario.specs.declared.session.Session.{Session}
-use Rattle.script.specs.Names.{FollowerName}
+use Rattle.script.specs.Names.{Named}
 use Rattle.script.specs.RequestView.{AreNamed}
 use Rattle.script.specs.Meaning.{OpensFollower}
 use Rattle.scenario.specs.Print.{opening_text}
 use Rattle.scenario.specs.Run.{Scene, names_opened, entry}
-use Rattle.scenario.specs.SessionView.{Acted}
+use Rattle.scenario.specs.SessionView.{Done}
 
 -- where no follower was opened no name is bound
-pub none_opened : (names : List FollowerName) (name : List ℕ) (fault : OpenFault) → names ≡ names_opened names name (open_reply_of (Err fault))
+pub none_opened : (names : List (Named ℕ)) (name : List ℕ) (fault : OpenFault) → names ≡ names_opened names name (open_reply_of (Err fault))
 none_opened names name open'.TooManyFollowers = refl
 none_opened names name open'.OutOfMemory = refl
 
@@ -28,11 +28,9 @@ opening_printed out old name printed result is empty same =
 pub opening_acted : (network : Network) (s : Scene) (name : List ℕ) (reply : Reply) (out : List ℕ) (new : Session) → out ≡ opening_text name reply
     → AreNamed new.names (record s.names { of_followers = names_opened s.names.of_followers name reply })
     → (t : State) × Step network s.state Open reply t × Stands new.core t
-    → Acted network s (Ok (OpensFollower name)) out new
+    → Done network s (OpensFollower name) out new
 opening_acted network s name reply out new printed names (t, step, stands) = record {
-  meaning = OpensFollower name;
   entries = entry Open reply;
-  is_said = refl;
   scene = record { state = t; names = record s.names { of_followers = names_opened s.names.of_followers name reply } };
   acts = (reply, record { step = step; names = refl }, printed, refl);
   holds = record { stands = stands; names = names };

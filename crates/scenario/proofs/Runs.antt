@@ -1,6 +1,6 @@
 -- The run of a script, between two lines and at its end.
-use Rattle.std.proofs.Common.{◌≡◌, ◌≢◌, ◌⊎◌, inl, inr, ℕ, ◌+◌, ◌≤◌, ◌<◌, List, [], ◌∷◌, ◌++◌, length, Option, Some, None, refl, sym, ◌∙◌, ap, subst, append_assoc, append-nil, length-append, Result, Ok, Err, nat_eq, true, false, arith}
-use Rattle.std.specs.Prelude.{IfSome, IsOk}
+use Rattle.std.proofs.Common.{◌≡◌, ◌≢◌, ◌⊎◌, inl, inr, ℕ, ◌+◌, ◌≤◌, ◌<◌, List, [], ◌∷◌, ◌++◌, length, Option, Some, None, option_map, refl, sym, ◌∙◌, ap, subst, append_assoc, append-nil, length-append, Err, nat_eq, true, false, arith}
+use Rattle.std.specs.Prelude.{IfSome}
 use Rattle.std.specs.List.{concat}
 use Rattle.std.specs.Io.BufRead.{take_through, drop_through, DropsThrough}
 use Rattle.std.specs.Io.KnownBytes.{Appends, Consumes}
@@ -9,14 +9,15 @@ use Rattle.std.proofs.lemmas.Bool.Decides.{nat_tests}
 use Rattle.std.proofs.lemmas.List.Folds.{concat-append}
 use Rattle.model.specs.Genesis.{Genesis}
 use Rattle.model.specs.History.{Entry}
-use Rattle.script.specs.declared.fault.LineFault.{LineFault}
 use Rattle.scenario.specs.declared.session.Session.{Session}
 use Rattle.script.specs.declared.stop.Stop.{Stop}
 use Rattle.script.specs.declared.stop.Stop.TheVariants as stop
 use Rattle.scenario.specs.declared.fault.ScenarioFault.{ScenarioFault}
 use Rattle.scenario.specs.declared.fault.ScenarioFault.TheVariants as fault
 use Rattle.script.specs.Text.{lines_of}
-use Rattle.script.specs.Meaning.{Meaning, meaning_of}
+use Rattle.script.specs.declared.fault.LineFault.TheVariants.{BadLine}
+use Rattle.script.specs.Names.{OpenTx}
+use Rattle.script.specs.Meaning.{Means, HasNoFault, is_late_line, parse_within}
 use Rattle.scenario.specs.Run.{Scene, opening_scene, Obeys, Prints, AreObeyed, script_network, BreaksOff, EndsWell, EndsBy}
 use Rattle.scenario.specs.Ending.{fault_of}
 use Rattle.scenario.specs.SessionView.{Holds, Acted, IsObeyed}
@@ -39,7 +40,7 @@ pub record Running (genesis : Genesis) (session : Session) (before number : ℕ)
   pub scene : Scene
   pub history : List Entry
   pub printed : List ℕ
-  pub prints : Prints (script_network genesis) 0 opening_scene done printed history scene
+  pub prints : Prints (script_network genesis) 1 0 (opening_scene genesis) done printed history scene
   pub holds : Holds session scene
   pub same_genesis : session.core.genesis ≡ genesis
   pub size : before ≡ length (concat done)
@@ -113,10 +114,10 @@ has_bytes [] some = absurd (some refl)
 has_bytes (x ∷ xs) some = omega arith
 
 -- before the first line
-pub opened : (genesis : Genesis) (session : Session) (text out : Option (List ℕ)) → Holds session opening_scene → session.core.genesis ≡ genesis → Appends out out [] → Running genesis session 0 1 text text out out
+pub opened : (genesis : Genesis) (session : Session) (text out : Option (List ℕ)) → Holds session (opening_scene genesis) → session.core.genesis ≡ genesis → Appends out out [] → Running genesis session 0 1 text text out out
 opened genesis session text out holds is_genesis none = record {
   done = [];
-  scene = opening_scene;
+  scene = opening_scene genesis;
   history = [];
   printed = [];
   prints = (refl, refl, refl);
@@ -130,28 +131,31 @@ opened genesis session text out holds is_genesis none = record {
   read = none_read text;
 }
 
-obeyed_so : (genesis : Genesis) (before : ℕ) (s : Scene) (line out : List ℕ) (new : Session) (acted : Acted (script_network genesis) s (meaning_of before s.names line) out new) → Obeys (script_network genesis) before s line out acted.entries acted.scene
-obeyed_so genesis before s line out new acted = record { meaning = acted.meaning; is_meant = acted.is_said; acts = acted.acts }
+obeyed_so : (genesis : Genesis) (number before : ℕ) (s : Scene) (line out : List ℕ) (new : Session) (done : List (List ℕ)) (acted : Acted (script_network genesis) s (Means number before s.names line) out new) → length done + 1 ≡ number → before ≡ length (concat done)
+    → Obeys (script_network genesis) (1 + length done) (0 + length (concat done)) s line out acted.done.entries acted.done.scene
+obeyed_so genesis number before s line out new done acted counted size =
+    let here : Obeys (script_network genesis) number before s line out acted.done.entries acted.done.scene = record { meaning = acted.meaning; is_meant = acted.is_meant; acts = acted.done.acts } in
+    let there : Obeys (script_network genesis) (1 + length done) before s line out acted.done.entries acted.done.scene = subst (λ (n : ℕ). Obeys (script_network genesis) n before s line out acted.done.entries acted.done.scene) (omega (arith, counted)) here in
+    subst (λ (n : ℕ). Obeys (script_network genesis) (1 + length done) n s line out acted.done.entries acted.done.scene) (omega (arith, size)) there
 
 -- a line was read, obeyed and written
 pub stepped : (genesis : Genesis) (old new : Session) (before number : ℕ) (old_text mid_text text old_out mid_out out : Option (List ℕ)) (line printed : List ℕ) (so_far : Running genesis old before number old_text mid_text old_out mid_out)
-    → HasLine old_text text so_far.done line → line ≢ [] → Acted (script_network old.core.genesis) so_far.scene (meaning_of before so_far.scene.names line) printed new → new.core.genesis ≡ old.core.genesis
+    → HasLine old_text text so_far.done line → line ≢ [] → Acted (script_network old.core.genesis) so_far.scene (Means number before so_far.scene.names line) printed new → new.core.genesis ≡ old.core.genesis
     → before + length line ≤ 4194304 → Appends mid_out out printed → Running genesis new (before + length line) (number + 1) old_text text old_out out
 stepped genesis old new before number old_text mid_text text old_out mid_out out line printed so_far read some acted_then same limit written =
-    let acted : Acted (script_network genesis) so_far.scene (meaning_of before so_far.scene.names line) printed new =
-    subst (λ (g : Genesis). Acted (script_network g) so_far.scene (meaning_of before so_far.scene.names line) printed new) so_far.same_genesis acted_then in
-    let obeys : Obeys (script_network genesis) (0 + length (concat so_far.done)) so_far.scene line printed acted.entries acted.scene =
-    subst (λ (n : ℕ). Obeys (script_network genesis) n so_far.scene line printed acted.entries acted.scene) (omega (arith, so_far.size)) (obeyed_so genesis before so_far.scene line printed new acted) in
+    let acted : Acted (script_network genesis) so_far.scene (Means number before so_far.scene.names line) printed new =
+    subst (λ (g : Genesis). Acted (script_network g) so_far.scene (Means number before so_far.scene.names line) printed new) so_far.same_genesis acted_then in
+    let obeys = obeyed_so genesis number before so_far.scene line printed new so_far.done acted so_far.counted so_far.size in
     let more : length (concat (so_far.done ++ line ∷ [])) ≡ length (concat so_far.done) + length line = ap length (concat_more so_far.done line) ∙ length-append (concat so_far.done) line in
     let count : length (so_far.done ++ line ∷ []) ≡ length so_far.done + 1 = length-append so_far.done (line ∷ []) in
     let filled_line : 0 < length line = has_bytes line some in
     record {
       done = so_far.done ++ line ∷ [];
-      scene = acted.scene;
-      history = so_far.history ++ acted.entries;
+      scene = acted.done.scene;
+      history = so_far.history ++ acted.done.entries;
       printed = so_far.printed ++ printed;
-      prints = prints_more (script_network genesis) 0 opening_scene so_far.done so_far.printed so_far.history so_far.scene line printed acted.entries acted.scene so_far.prints obeys;
-      holds = acted.holds;
+      prints = prints_more (script_network genesis) 1 0 (opening_scene genesis) so_far.done so_far.printed so_far.history so_far.scene line printed acted.done.entries acted.done.scene so_far.prints obeys;
+      holds = acted.done.holds;
       same_genesis = same ∙ so_far.same_genesis;
       size = omega (arith, more, so_far.size);
       limit = limit;
@@ -169,22 +173,71 @@ at_end text rest line done lines is none =
     let empty : rest ≡ [] = no_line rest (sym is ∙ none) in
     lines ∙ ap (λ (l : List ℕ). done ++ lines_of l) empty ∙ append-nil done
 
+-- all lines of a text that is at its end were obeyed
+abbrev all_obeyed : (genesis : Genesis) (session : Session) (before number : ℕ) (old_text mid_text old_out out : Option (List ℕ)) (so_far : Running genesis session before number old_text mid_text old_out out) (lines : List (List ℕ)) → lines ≡ so_far.done
+    → AreObeyed (script_network genesis) lines so_far.printed
+all_obeyed genesis session before number old_text mid_text old_out out so_far lines same =
+    obeyed (script_network genesis) lines so_far.printed so_far.history so_far.scene (subst (λ (ls : List (List ℕ)). Prints (script_network genesis) 1 0 (opening_scene genesis) ls so_far.printed so_far.history so_far.scene) (sym same) so_far.prints)
+
+no_making : (making : Option OpenTx) → None ≡ option_map (λ (made : OpenTx). made.line) making → making ≡ None
+no_making None is = refl
+no_making (Some made) is = cc
+
+some_making : (making : Option OpenTx) (number : ℕ) → Some number ≡ option_map (λ (made : OpenTx). made.line) making → (made : OpenTx) × (making ≡ Some made) × (made.line ≡ number)
+some_making None number is = cc
+some_making (Some made) number is = (made, refl, number_is made.line number (sym is))
+  where
+    number_is : (a b : ℕ) → Some a ≡ Some b → a ≡ b
+    number_is a b e = cc
+
+-- where no line is told there is none
+pub no_line_told : (told line : Option ℕ) → told ≡ line → ((number : ℕ) → told ≡ Some number → ⊥) → None ≡ line
+no_line_told None line is none = is
+no_line_told (Some number) line is none = absurd (none number refl)
+
 -- the run ended well
 pub ended : (genesis : Genesis) (session : Session) (before number : ℕ) (old_text mid_text text old_out out : Option (List ℕ)) (line : List ℕ) (so_far : Running genesis session before number old_text mid_text old_out out)
-    → HasLine old_text text so_far.done line → line ≡ [] → IfSome old_text (λ t. EndsWell (script_network genesis) t old_out out)
-ended genesis session before number None mid_text text old_out out line so_far read none = tt
-ended genesis session before number (Some t) mid_text text old_out out line so_far (rest, remains, is, lines, all) none = record {
+    → HasLine old_text text so_far.done line → line ≡ [] → None ≡ option_map (λ (made : OpenTx). made.line) so_far.scene.names.making → IfSome old_text (λ t. EndsWell (script_network genesis) t old_out out)
+ended genesis session before number None mid_text text old_out out line so_far read none made = tt
+ended genesis session before number (Some t) mid_text text old_out out line so_far (rest, remains, is, lines, all) none made = record {
   out = so_far.printed;
   written = so_far.written;
-  obeyed = subst (λ (ls : List (List ℕ)). AreObeyed (script_network genesis) ls so_far.printed) (sym (at_end t rest line so_far.done lines is none)) (obeyed (script_network genesis) so_far.done so_far.printed so_far.history so_far.scene so_far.prints);
+  obeyed = all_obeyed genesis session before number (Some t) mid_text old_out out so_far (lines_of t) (at_end t rest line so_far.done lines is none);
+  ended = no_making so_far.scene.names.making made;
 }
+
+nothing_left : (rest line : List ℕ) → line ≡ take_through 10 rest → line ≡ [] → drop_through 10 rest ≡ []
+nothing_left rest line is none = ap (drop_through 10) (no_line rest (sym is ∙ none))
+
+-- the run ended within a transaction, whose line has this number
+pub unended : (genesis : Genesis) (session : Session) (before number : ℕ) (old_text mid_text text old_out out : Option (List ℕ)) (line : List ℕ) (begun : ℕ) (so_far : Running genesis session before number old_text mid_text old_out out)
+    → HasLine old_text text so_far.done line → line ≡ [] → Some begun ≡ option_map (λ (made : OpenTx). made.line) so_far.scene.names.making → IfSome old_text (λ t. EndsBy (script_network genesis) t text old_out out (fault.Line begun BadLine))
+unended genesis session before number None mid_text text old_out out line begun so_far read none made = tt
+unended genesis session before number (Some t) mid_text text old_out out line begun so_far (rest, remains, is, lines, all) none made =
+    let making = some_making so_far.scene.names.making begun made in
+    record {
+      left = drop_through 10 rest;
+      remains = remains;
+      out = so_far.printed;
+      written = so_far.written;
+      is_fault = inr (
+        refl,
+        nothing_left rest line is none,
+        record {
+          obeyed = all_obeyed genesis session before number (Some t) mid_text old_out out so_far (lines_of t) (at_end t rest line so_far.done lines is none);
+          made = making.0;
+          is_made = making.1;
+          line = making.2;
+        },
+      );
+    }
 
 -- the text behind a line that was read
 text_behind : (text rest line : List ℕ) (done : List (List ℕ)) → text ≡ concat done ++ rest → line ≡ take_through 10 rest → text ≡ concat done ++ (line ++ drop_through 10 rest)
 text_behind text rest line done all is = all ∙ ap (λ (l : List ℕ). concat done ++ l) (line_and_rest rest ∙ ap (λ (l : List ℕ). l ++ drop_through 10 rest) (sym is))
 
 -- nothing of a line is printed
-abbrev breaks_off_before : (genesis : Genesis) (text rest left more : List ℕ) (done : List (List ℕ)) (printed : List ℕ) (history : List Entry) (scene : Scene) → Prints (script_network genesis) 0 opening_scene done printed history scene → lines_of text ≡ done ++ lines_of rest → text ≡ concat done ++ (more ++ left)
+abbrev breaks_off_before : (genesis : Genesis) (text rest left more : List ℕ) (done : List (List ℕ)) (printed : List ℕ) (history : List Entry) (scene : Scene) → Prints (script_network genesis) 1 0 (opening_scene genesis) done printed history scene → lines_of text ≡ done ++ lines_of rest → text ≡ concat done ++ (more ++ left)
     → BreaksOff (script_network genesis) text left printed
 breaks_off_before genesis text rest left more done printed history scene prints lines all = record {
   lines = done;
@@ -195,14 +248,9 @@ breaks_off_before genesis text rest left more done printed history scene prints 
   obeyed = obeyed (script_network genesis) done printed history scene prints;
 }
 
--- what is meant has a meaning
-meant_so : (said : Result Meaning LineFault) → IsOk said → (meaning : Meaning) × (said ≡ Ok meaning)
-meant_so (Ok meaning) is = (meaning, refl)
-meant_so (Err e) is = cc
-
 -- a line was not run
 pub stopped : (genesis : Genesis) (session new : Session) (before number : ℕ) (old_text mid_text text old_out out : Option (List ℕ)) (line : List ℕ) (why : Stop) (so_far : Running genesis session before number old_text mid_text old_out out)
-    → HasLine old_text text so_far.done line → line ≢ [] → IsObeyed (script_network session.core.genesis) so_far.scene (meaning_of before so_far.scene.names line) (Err why) new
+    → HasLine old_text text so_far.done line → line ≢ [] → IsObeyed (script_network session.core.genesis) so_far.scene (Means number before so_far.scene.names line) (is_late_line (parse_within before line)) (Err why) new
     → IfSome old_text (λ t. EndsBy (script_network genesis) t text old_out out (fault_of number why))
 stopped genesis session new before number None mid_text text old_out out line why so_far read some said = tt
 stopped genesis session new before number (Some t) mid_text text old_out out line (stop.Fault why) so_far (rest, remains, is, lines, all) some said = record {
@@ -210,15 +258,15 @@ stopped genesis session new before number (Some t) mid_text text old_out out lin
   remains = remains;
   out = so_far.printed;
   written = so_far.written;
-  is_fault = record {
+  is_fault = inl (record {
     before = so_far.done;
     line = line;
     after = lines_of (drop_through 10 rest);
     lines = one_line_more t rest line so_far.done lines is some;
     counted = so_far.counted;
     obeyed = obeyed (script_network genesis) so_far.done so_far.printed so_far.history so_far.scene so_far.prints;
-    is_fault = subst (λ (n : ℕ). meaning_of n so_far.scene.names line ≡ Err why) so_far.size said;
-  };
+    is_fault = subst (λ (n : ℕ). Means number n so_far.scene.names line (Err why)) so_far.size said;
+  });
 }
 stopped genesis session new before number (Some t) mid_text text old_out out line stop.OutOfMemory so_far (rest, remains, is, lines, all) some said = record {
   left = drop_through 10 rest;
@@ -227,20 +275,19 @@ stopped genesis session new before number (Some t) mid_text text old_out out lin
   written = so_far.written;
   is_fault = record {
     broken = breaks_off_before genesis t rest (drop_through 10 rest) line so_far.done so_far.printed so_far.history so_far.scene so_far.prints lines (text_behind t rest line so_far.done all is);
-    has_no_fault = λ content whole. subst (λ (n : ℕ). (meaning : Meaning) × (meaning_of n so_far.scene.names line ≡ Ok meaning)) so_far.size (meant_so (meaning_of before so_far.scene.names line) said);
+    has_no_fault = λ content whole. subst (λ (n : ℕ). HasNoFault n (length (concat so_far.done)) so_far.scene.names line) (sym so_far.counted) (subst (λ (n : ℕ). HasNoFault number n so_far.scene.names line) so_far.size said);
   };
 }
 
 -- of what a line prints a part was written
 pub not_written : (genesis : Genesis) (old new : Session) (before number : ℕ) (old_text mid_text text old_out mid_out out : Option (List ℕ)) (line printed : List ℕ) (so_far : Running genesis old before number old_text mid_text old_out mid_out)
-    → HasLine old_text text so_far.done line → line ≢ [] → Acted (script_network old.core.genesis) so_far.scene (meaning_of before so_far.scene.names line) printed new
+    → HasLine old_text text so_far.done line → line ≢ [] → Acted (script_network old.core.genesis) so_far.scene (Means number before so_far.scene.names line) printed new
     → AppendsPart mid_out out printed → IfSome old_text (λ t. EndsBy (script_network genesis) t text old_out out fault.WriteFailed)
 not_written genesis old new before number None mid_text text old_out mid_out out line printed so_far read some acted_then written = tt
 not_written genesis old new before number (Some t) mid_text text old_out mid_out out line printed so_far (rest, remains, is, lines, all) some acted_then (unwritten, not_all, some_written) =
-    let acted : Acted (script_network genesis) so_far.scene (meaning_of before so_far.scene.names line) printed new =
-    subst (λ (g : Genesis). Acted (script_network g) so_far.scene (meaning_of before so_far.scene.names line) printed new) so_far.same_genesis acted_then in
-    let obeys : Obeys (script_network genesis) (0 + length (concat so_far.done)) so_far.scene line printed acted.entries acted.scene =
-    subst (λ (n : ℕ). Obeys (script_network genesis) n so_far.scene line printed acted.entries acted.scene) (omega (arith, so_far.size)) (obeyed_so genesis before so_far.scene line printed new acted) in
+    let acted : Acted (script_network genesis) so_far.scene (Means number before so_far.scene.names line) printed new =
+    subst (λ (g : Genesis). Acted (script_network g) so_far.scene (Means number before so_far.scene.names line) printed new) so_far.same_genesis acted_then in
+    let obeys = obeyed_so genesis number before so_far.scene line printed new so_far.done acted so_far.counted so_far.size in
     record {
       left = drop_through 10 rest;
       remains = remains;
@@ -255,8 +302,8 @@ not_written genesis old new before number (Some t) mid_text text old_out mid_out
         before = so_far.printed;
         printed = printed;
         obeyed_before = obeyed (script_network genesis) so_far.done so_far.printed so_far.history so_far.scene so_far.prints;
-        obeyed = obeyed (script_network genesis) (so_far.done ++ line ∷ []) (so_far.printed ++ printed) (so_far.history ++ acted.entries) acted.scene
-            (prints_more (script_network genesis) 0 opening_scene so_far.done so_far.printed so_far.history so_far.scene line printed acted.entries acted.scene so_far.prints obeys);
+        obeyed = obeyed (script_network genesis) (so_far.done ++ line ∷ []) (so_far.printed ++ printed) (so_far.history ++ acted.done.entries) acted.done.scene
+            (prints_more (script_network genesis) 1 0 (opening_scene genesis) so_far.done so_far.printed so_far.history so_far.scene line printed acted.done.entries acted.done.scene so_far.prints obeys);
         part = some_written.part;
         unwritten = unwritten;
         parts = some_written.begins;
@@ -276,7 +323,7 @@ abbrev pub IsReadFault : List ℕ → ScenarioFault → Type 0
 IsReadFault part why = (why ≡ fault.ReadFailed) ⊎ ((why ≡ fault.OutOfMemory) × ((content : List ℕ) → part ≡ content ++ 10 ∷ [] → ⊥))
 
 -- no line was read
-breaks_at : (genesis : Genesis) (t : List ℕ) (text old_out out : Option (List ℕ)) (rest left part : List ℕ) (done : List (List ℕ)) (printed : List ℕ) (history : List Entry) (scene : Scene) → Prints (script_network genesis) 0 opening_scene done printed history scene → Appends old_out out printed
+breaks_at : (genesis : Genesis) (t : List ℕ) (text old_out out : Option (List ℕ)) (rest left part : List ℕ) (done : List (List ℕ)) (printed : List ℕ) (history : List Entry) (scene : Scene) → Prints (script_network genesis) 1 0 (opening_scene genesis) done printed history scene → Appends old_out out printed
     → lines_of t ≡ done ++ lines_of rest → t ≡ concat done ++ rest → text ≡ Some left → rest ≡ part ++ left → (why : ScenarioFault) → IsReadFault part why → EndsBy (script_network genesis) t text old_out out why
 breaks_at genesis t text old_out out rest left part done printed history scene prints written lines all remains parts why is =
     let broken : BreaksOff (script_network genesis) t left printed = breaks_off_before genesis t rest left part done printed history scene prints lines (all ∙ ap (λ (l : List ℕ). concat done ++ l) parts) in

@@ -1,5 +1,5 @@
 -- What a script prints, and how its run ends.
-use Rattle.std.specs.Prelude.{◌≡◌, ◌≢◌, ℕ, ◌+◌, List, [], ◌∷◌, ◌++◌, length, Option, Some, Ok, Err}
+use Rattle.std.specs.Prelude.{◌≡◌, ◌≢◌, ◌⊎◌, ℕ, ◌+◌, List, [], ◌∷◌, ◌++◌, length, Option, Some, None, Ok, Err}
 use Rattle.std.specs.List.{concat}
 use Rattle.std.specs.Io.KnownBytes.{Appends}
 use Rattle.model.specs.Block.{Block}
@@ -11,13 +11,13 @@ use Rattle.model.specs.Follower.{told_by, IsDue, IsNextInstruction, Instruction}
 use Rattle.model.specs.History.{State, opening, Event, Arrive, Open, Next, Reply, Opened, Instructed, OutOfMemory, Step}
 use Rattle.model.specs.History.{Entry, ChainTheorem}
 use Rattle.script.specs.declared.fault.LineFault.{LineFault}
+use Rattle.script.specs.declared.fault.LineFault.TheVariants.{BadLine}
 use Rattle.scenario.specs.declared.fault.ScenarioFault.{ScenarioFault}
 use Rattle.scenario.specs.declared.fault.ScenarioFault.TheVariants as fault
 use Rattle.script.specs.Text.{lines_of}
-use Rattle.script.specs.Names.{FollowerName, AllNames, no_names, with_binding}
-use Rattle.script.specs.Meaning.{Meaning, DoesNothing, Binds, Arrives, OpensFollower, TellsFollower, PrintsTip}
-use Rattle.script.specs.Meaning.{PrintsUtxo}
-use Rattle.script.specs.Meaning.{formed, meaning_of}
+use Rattle.script.specs.Names.{Named, OpenTx, AllNames, no_names}
+use Rattle.script.specs.Meaning.{Meaning, Defines, Arrives, OpensFollower, TellsFollower, PrintsTip, PrintsUtxo}
+use Rattle.script.specs.Meaning.{AreNamesAfter, HasNoFault, Means, formed}
 use Rattle.scenario.specs.Print.{arrival_text, opening_text, tip_text, utxo_text, IsNextText}
 
 -- the node's state with the names that are bound
@@ -25,8 +25,9 @@ pub record Scene : Type 0 where
   pub state : State
   pub names : AllNames
 
-abbrev pub opening_scene : Scene
-opening_scene = record { state = opening; names = no_names }
+-- nothing has happened and no name is bound, on the network of this genesis
+abbrev pub opening_scene : Genesis → Scene
+opening_scene genesis = record { state = opening; names = no_names genesis.params.network }
 
 -- the network that a script runs on: of this genesis, with signatures of the scheme for tests
 abbrev pub script_network : Genesis → Network
@@ -38,8 +39,8 @@ pub record Arrived (network : Network) (s : Scene) (bytes : List ℕ) (reply : R
   pub names : t.names ≡ s.names
 
 -- once an opening was answered, the new follower has the name. Where none was opened, no name is bound
-abbrev pub names_opened : List FollowerName → List ℕ → Reply → List FollowerName
-names_opened names name (Opened id) = names ++ record { name = name; id = id } ∷ []
+abbrev pub names_opened : List (Named ℕ) → List ℕ → Reply → List (Named ℕ)
+names_opened names name (Opened id) = names ++ record { name = name; bound = id } ∷ []
 names_opened names name reply = names
 
 -- the opening of a follower of this name was answered so, by a step of the definitions
@@ -71,9 +72,8 @@ entry event reply = record { event = event; reply = reply } ∷ []
 -- From one scene a line that means this prints so, and leaves the other; these are its event and the reply that is
 -- printed, if it has an event. Each event may be answered that memory ran out, which is a step too.
 abbrev pub Acts : Network → Scene → Meaning → (out : List ℕ) → List Entry → Scene → Type 0
-Acts network s DoesNothing out entries t = (out ≡ []) × (entries ≡ []) × (t ≡ s)
-Acts network s (Binds binding) out entries t =
-    (out ≡ []) × (entries ≡ []) × (t ≡ record s { names = with_binding s.names binding })
+Acts network s (Defines definition) out entries t =
+    (out ≡ []) × (entries ≡ []) × (t.state ≡ s.state) × AreNamesAfter s.names definition t.names
 Acts network s (Arrives form name bytes) out entries t = (reply : Reply) × Arrived network s (formed form bytes) reply t
     × (out ≡ arrival_text form name reply) × (entries ≡ entry (Arrive (formed form bytes)) reply)
 Acts network s (OpensFollower name) out entries t = (reply : Reply) × WasOpened network s name reply t
@@ -85,20 +85,21 @@ Acts network s PrintsTip out entries t = (out ≡ tip_text s.names.of_bytes (tip
 Acts network s PrintsUtxo out entries t = (ledger : Ledger) × (ledger_of network s.state.chain ≡ Some ledger)
     × (out ≡ utxo_text ledger) × (entries ≡ []) × (t ≡ s)
 
--- a line after so many bytes has no fault, and prints so
-pub record Obeys (network : Network) (before : ℕ) (s : Scene) (line out : List ℕ) (entries : List Entry)
+-- a line of this number after so many bytes has no fault, and prints so
+pub record Obeys (network : Network) (number before : ℕ) (s : Scene) (line out : List ℕ) (entries : List Entry)
     (t : Scene) : Type 0 where
   pub meaning : Meaning
-  pub is_meant : meaning_of before s.names line ≡ Ok meaning
+  pub is_meant : Means number before s.names line (Ok meaning)
   pub acts : Acts network s meaning out entries t
 
--- lines after so many bytes print so, one after the other, and this is the history of their events with the replies
--- that are printed
-abbrev pub Prints : Network → ℕ → Scene → List (List ℕ) → List ℕ → List Entry → Scene → Type 0
-Prints network before s [] out history t = (out ≡ []) × (history ≡ []) × (t ≡ s)
-Prints network before s (line ∷ lines) out history t = (first rest : List ℕ) × (entries later : List Entry)
+-- lines from this number on, after so many bytes, print so, one after the other, and this is the history of their
+-- events with the replies that are printed
+abbrev pub Prints : Network → (number before : ℕ) → Scene → List (List ℕ) → List ℕ → List Entry → Scene → Type 0
+Prints network number before s [] out history t = (out ≡ []) × (history ≡ []) × (t ≡ s)
+Prints network number before s (line ∷ lines) out history t = (first rest : List ℕ) × (entries later : List Entry)
     × (mid : Scene)
-    × Obeys network before s line first entries mid × Prints network (before + length line) mid lines rest later t
+    × Obeys network number before s line first entries mid
+    × Prints network (number + 1) (before + length line) mid lines rest later t
     × (out ≡ first ++ rest) × (history ≡ entries ++ later)
 
 -- Lines from the beginning of a script are obeyed and print so. The chain theorem holds of their events with the
@@ -107,7 +108,7 @@ Prints network before s (line ∷ lines) out history t = (first rest : List ℕ)
 pub record AreObeyed (network : Network) (lines : List (List ℕ)) (out : List ℕ) : Type 0 where
   pub scene : Scene
   pub history : List Entry
-  pub prints : Prints network 0 opening_scene lines out history scene
+  pub prints : Prints network 1 0 (opening_scene network.genesis) lines out history scene
   pub theorem : ChainTheorem network history scene.state
 
 -- ---- ends
@@ -120,7 +121,14 @@ pub record StopsAt (network : Network) (text : List ℕ) (number : ℕ) (fault :
   pub lines : lines_of text ≡ before ++ line ∷ after
   pub counted : length before + 1 ≡ number
   pub obeyed : AreObeyed network before out
-  pub is_fault : meaning_of (length (concat before)) obeyed.scene.names line ≡ Err fault
+  pub is_fault : Means number (length (concat before)) obeyed.scene.names line (Err fault)
+
+-- all lines print so, and they leave a transaction without its end, which was begun in the line of this number
+pub record IsUnended (network : Network) (text : List ℕ) (number : ℕ) (out : List ℕ) : Type 0 where
+  pub obeyed : AreObeyed network (lines_of text) out
+  pub made : OpenTx
+  pub is_made : obeyed.scene.names.making ≡ Some made
+  pub line : made.line ≡ number
 
 -- of a text of which this is left some first lines were read, and these bytes more; what was written is exactly what
 -- the lines print
@@ -132,12 +140,12 @@ pub record BreaksOff (network : Network) (text left out : List ℕ) : Type 0 whe
   pub read : text ≡ concat lines ++ (more ++ left)
   pub obeyed : AreObeyed network lines out
 
--- the same where memory ran out: if the bytes more are a line with its line feed, that line has no fault
+-- The same where memory ran out: if the bytes more are a line with its line feed, that line has no fault, but that it
+-- may not be built where only memory tells.
 pub record RunsShort (network : Network) (text left out : List ℕ) : Type 0 where
   pub broken : BreaksOff network text left out
   pub has_no_fault : (content : List ℕ) → broken.more ≡ content ++ 10 ∷ []
-      → (meaning : Meaning)
-      × (meaning_of (length (concat broken.lines)) broken.obeyed.scene.names broken.more ≡ Ok meaning)
+      → HasNoFault (length broken.lines + 1) (length (concat broken.lines)) broken.obeyed.scene.names broken.more
 
 -- of what the last line prints that was read a part was written, and not all; of those before it all
 pub record StopsWriting (network : Network) (text left out : List ℕ) : Type 0 where
@@ -156,15 +164,17 @@ pub record StopsWriting (network : Network) (text left out : List ℕ) : Type 0 
   pub not_all : unwritten ≢ []
   pub written : out ≡ before ++ part
 
--- the end of a run without fault: what all lines of the text print was written
+-- the end of a run without fault: what all lines of the text print was written, and no transaction is without its end
 pub record EndsWell (network : Network) (text : List ℕ) (old new : Option (List ℕ)) : Type 0 where
   pub out : List ℕ
   pub written : Appends old new out
   pub obeyed : AreObeyed network (lines_of text) out
+  pub ended : obeyed.scene.names.making ≡ None
 
 -- what was written at a fault, where this is left of the text
 abbrev pub IsFaultOf : Network → List ℕ → List ℕ → List ℕ → ScenarioFault → Type 0
-IsFaultOf network text left out (fault.Line number why) = StopsAt network text number why out
+IsFaultOf network text left out (fault.Line number why) =
+    StopsAt network text number why out ⊎ ((why ≡ BadLine) × (left ≡ []) × IsUnended network text number out)
 IsFaultOf network text left out fault.ReadFailed = BreaksOff network text left out
 IsFaultOf network text left out fault.WriteFailed = StopsWriting network text left out
 IsFaultOf network text left out fault.OutOfMemory = RunsShort network text left out

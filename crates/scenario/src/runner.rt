@@ -3,12 +3,13 @@
 ghost use Rattle.std.specs.Prelude.{◌≡◌, ℕ, ◌+◌, ◌≤◌, ◌⊎◌, List, [], ◌∷◌, ◌++◌, length, OnOk, IfErr, IfSome};
 ghost use Rattle.scenario.specs.Run.{script_network, EndsWell, EndsBy};
 ghost use Rattle.scenario.specs.Ending.{fault_of};
+ghost use Rattle.script.specs.declared.fault.LineFault.TheVariants.{BadLine};
 
 use crate::fault::ScenarioFault;
 use crate::output::{WriteStopped, write_all};
 use crate::session::Session;
 use genesis::Genesis;
-use script::Stop;
+use script::{LineFault, LinePlace, Stop};
 use std::alloc::Global;
 use std::io::{BufRead, Error, ErrorKind, Write};
 
@@ -36,6 +37,16 @@ fn line_fault(number: u64, stop: Stop) -> ScenarioFault
     match stop {
         Stop::Fault(fault) => ScenarioFault::Line { number, fault },
         Stop::OutOfMemory => ScenarioFault::OutOfMemory,
+    }
+}
+
+/// The fault of a transaction without its end, which was begun in the line of this number.
+fn unended(number: u64) -> ScenarioFault
+    ensures { result ≡ ScenarioFault.Line number BadLine }
+{
+    ScenarioFault::Line {
+        number,
+        fault: LineFault::BadLine,
     }
 }
 
@@ -77,9 +88,12 @@ pub fn run<R: BufRead, W: Write>(
             return Err(read_fault(&error, &line));
         }
         if line.is_empty() {
+            if let Some(begun) = session.open_line() {
+                return Err(unended(begun));
+            }
             return Ok(());
         }
-        let printed = match session.obey(before, &line) {
+        let printed = match session.obey(LinePlace { number, before }, &line) {
             Ok(printed) => printed,
             Err(stop) => return Err(line_fault(number, stop)),
         };

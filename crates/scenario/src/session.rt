@@ -1,21 +1,21 @@
 //! The node with the names of a script.
 
-ghost use Rattle.std.specs.Prelude.{◌≡◌, ◌+◌, ◌≤◌, [], None, Ok, Some, IfOk, IfErr, OnOk, length};
+ghost use Rattle.std.specs.Prelude.{◌≡◌, ◌+◌, ◌≤◌, [], None, Some, IfOk, IfErr, OnOk, length, option_map};
 ghost use Rattle.model.specs.History.{State, Arrive, Step};
 ghost use Rattle.chain_core.specs.Held.{Stands};
 ghost use Rattle.chain_core.specs.Views.{arrive_reply_of};
-ghost use Rattle.script.specs.Names.{AllNames, Bound, bound_to, follower_named};
+ghost use Rattle.script.specs.Names.{AllNames, Bound, bound_to};
 ghost use Rattle.script.specs.Meaning.{Arrives, OpensFollower, PrintsTip, PrintsUtxo, TellsFollower};
-ghost use Rattle.script.specs.Meaning.{formed, meaning_of};
+ghost use Rattle.script.specs.Meaning.{formed, is_late_line, Means, parse_within};
 ghost use Rattle.script.specs.RequestView.{AreNamed, HasFollowerRoom};
 ghost use Rattle.script.specs.Text.{script_size_limit};
 ghost use Rattle.scenario.specs.Run.{Scene, opening_scene, script_network};
-ghost use Rattle.scenario.specs.SessionView.{Holds, IsObeyed};
+ghost use Rattle.scenario.specs.SessionView.{Holds, IsDone, IsObeyed};
 
 use crate::print::{print_arrival, print_next, print_opening, print_tip, print_utxo};
 use chain_core::{ArriveReply, Core, FollowerId};
 use genesis::Genesis;
-use script::{Form, Name, Names, Request, Stop};
+use script::{Form, LinePlace, Name, Names, Request, Stop};
 use std::alloc::{AllocError, Global};
 use witness_pool::TestScheme;
 
@@ -88,13 +88,14 @@ fn arrive(
 impl Session {
     /// A session before the first line. Err where there is no memory for the outputs of the genesis.
     pub fn new(alloc: Global, genesis: Genesis) -> Result<Session, AllocError>
-        ensures holds { IfOk result (λ session. Holds session opening_scene) }
+        ensures holds { IfOk result (λ session. Holds session (opening_scene genesis)) }
         ensures genesis { IfOk result (λ session. session.core.genesis ≡ genesis) }
     {
+        let names = Names::new(alloc, &genesis);
         Ok(Session {
             alloc,
             core: Core::new(alloc, genesis)?,
-            names: Names::new(alloc),
+            names,
         })
     }
 
@@ -102,7 +103,7 @@ impl Session {
     fn arrive(&mut self, form: Form, name: Name<'_>) -> Result<Vec<u8>, Stop>
         ensures obeyed { (s : Scene) → Holds self.old s → (bound : Bound)
             → bound_to name.entry.text.now s.names.of_bytes ≡ Some bound
-            → IsObeyed (script_network self.old.core.genesis) s (Ok (Arrives form name.entry.text.now bound.bytes))
+            → IsDone (script_network self.old.core.genesis) s (Arrives form name.entry.text.now bound.bytes)
             result self.new }
         ensures genesis { self.new.core.genesis ≡ self.old.core.genesis }
     {
@@ -118,8 +119,8 @@ impl Session {
     /// A follower is opened, and gets its name. The room for what it prints is taken first.
     fn open(&mut self, name: Name<'_>) -> Result<Vec<u8>, Stop>
         ensures obeyed { HasFollowerRoom self.old.names name.entry.text.now → (s : Scene) → Holds self.old s
-            → follower_named name.entry.text.now s.names.of_followers ≡ None
-            → IsObeyed (script_network self.old.core.genesis) s (Ok (OpensFollower name.entry.text.now)) result
+            → bound_to name.entry.text.now s.names.of_followers ≡ None
+            → IsDone (script_network self.old.core.genesis) s (OpensFollower name.entry.text.now) result
             self.new }
         ensures genesis { self.new.core.genesis ≡ self.old.core.genesis }
     {
@@ -136,8 +137,8 @@ impl Session {
 
     /// The follower of a number is told what comes next. The room for what it prints is taken first.
     fn next(&mut self, name: Name<'_>, id: u64) -> Result<Vec<u8>, Stop>
-        ensures obeyed { (s : Scene) → Holds self.old s → IsObeyed (script_network self.old.core.genesis) s
-            (Ok (TellsFollower name.entry.text.now id)) result self.new }
+        ensures obeyed { (s : Scene) → Holds self.old s → IsDone (script_network self.old.core.genesis) s
+            (TellsFollower name.entry.text.now id) result self.new }
         ensures genesis { self.new.core.genesis ≡ self.old.core.genesis }
     {
         let mut line = line_room(self.alloc, name)?;
@@ -151,7 +152,7 @@ impl Session {
     /// The question where the selected chain ends.
     fn tip(&self) -> Result<Vec<u8>, Stop>
         ensures { (s : Scene) → Holds self.now s
-            → IsObeyed (script_network self.now.core.genesis) s (Ok PrintsTip) result self.now }
+            → IsDone (script_network self.now.core.genesis) s PrintsTip result self.now }
     {
         let Ok(mut line) = Vec::with_capacity(self.alloc, LONGEST_LINE.len()) else {
             return Err(Stop::OutOfMemory);
@@ -165,7 +166,7 @@ impl Session {
     /// The question what is unspent on the selected chain.
     fn utxo(&self) -> Result<Vec<u8>, Stop>
         ensures { (s : Scene) → Holds self.now s
-            → IsObeyed (script_network self.now.core.genesis) s (Ok PrintsUtxo) result self.now }
+            → IsDone (script_network self.now.core.genesis) s PrintsUtxo result self.now }
     {
         let utxo = self.core.utxo();
         let Ok(coin) = utxo.coin() else {
@@ -178,14 +179,22 @@ impl Session {
         }
     }
 
-    /// Obeys a line that comes after so many bytes, and answers what it prints.
-    pub fn obey(&mut self, before: u64, line: &[u8]) -> Result<Vec<u8>, Stop>
-        ensures obeyed { (s : Scene) → Holds self.old s
-            → IsObeyed (script_network self.old.core.genesis) s (meaning_of before s.names line.now) result self.new }
-        ensures genesis { self.new.core.genesis ≡ self.old.core.genesis }
-        ensures size { OnOk result (before + length line.now ≤ script_size_limit) }
+    /// The line in which a transaction was begun that hasn't ended, if there is one.
+    pub fn open_line(&self) -> Option<u64>
+        ensures { (s : Scene) → Holds self.now s → result ≡ option_map (λ made. made.line) s.names.making }
     {
-        match self.names.obey(before, line) {
+        self.names.open_line()
+    }
+
+    /// Obeys a line that stands here in its script, and answers what it prints.
+    pub fn obey(&mut self, at: LinePlace, line: &[u8]) -> Result<Vec<u8>, Stop>
+        ensures obeyed { (s : Scene) → Holds self.old s → IsObeyed (script_network self.old.core.genesis) s
+            (Means at.number at.before s.names line.now) (is_late_line (parse_within at.before line.now)) result
+            self.new }
+        ensures genesis { self.new.core.genesis ≡ self.old.core.genesis }
+        ensures size { OnOk result (at.before + length line.now ≤ script_size_limit) }
+    {
+        match self.names.obey(at, line) {
             Ok(Request::Nothing) => Ok(Vec::new(self.alloc)),
             Ok(Request::Arrive { form, name }) => self.arrive(form, name),
             Ok(Request::Open { name }) => self.open(name),

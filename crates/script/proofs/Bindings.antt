@@ -3,13 +3,16 @@ use Rattle.std.proofs.Common.{◌≡◌, ℕ, Bool, true, false, cond, List, [],
 use Rattle.std.specs.Prelude.{bytes_eq}
 use Rattle.std.specs.Option.{option_or}
 use Rattle.std.specs.List.{find}
+use Rattle.std.specs.Global.{Vec}
 use Rattle.std.specs.Map.{lookup}
 use Rattle.std.specs.BTreeMap.{insert_entry}
 use Rattle.byte_keys.specs.ByteKeys.{at_bytes}
 use Rattle.byte_keys.proofs.ForCallers.{has_bytes, by_bytes, same_from, lookup_insert}
 use Rattle.script.specs.declared.bound_names.BoundNames.{BoundNames}
-use Rattle.script.specs.Names.{Bound, Binding, bound_to, first_name, has_hash}
+use Rattle.script.specs.Names.{Named, Bound, Binding, bound_to, first_name, has_hash}
 use Rattle.script.specs.NamesView.{AreBound, bound_of}
+use Rattle.script.specs.KnownView.{IsTable}
+use Rattle.script.specs.declared.name_table.NameTable.{NameTable}
 use Rattle.std.proofs.lemmas.Map.Text.{is_eq-slice_cmp}
 
 -- ---- maps
@@ -47,9 +50,9 @@ more_bit g None false x = refl
 more_bit g (Some y) b x = refl
 
 -- what a name is bound to where one more is
-bound_more : (q : List ℕ) (names : List Binding) (b : Binding) → bound_to q (names ++ b ∷ []) ≡ option_or (bound_to q names) (cond (bytes_eq q b.name) (Some b.bound) None)
-bound_more q names b = ap (option_map (λ (b : Binding). b.bound)) (find_more (λ (b : Binding). bytes_eq q b.name) names b)
-    ∙ more_bit (λ (b : Binding). b.bound) (find (λ (b : Binding). bytes_eq q b.name) names) (bytes_eq q b.name) b
+pub bound_more : {A : Type 0} (q : List ℕ) (names : List (Named A)) (b : Named A) → bound_to q (names ++ b ∷ []) ≡ option_or (bound_to q names) (cond (bytes_eq q b.name) (Some b.bound) None)
+bound_more {A} q names b = ap (option_map (λ (b : Named A). b.bound)) (find_more (λ (b : Named A). bytes_eq q b.name) names b)
+    ∙ more_bit (λ (b : Named A). b.bound) (find (λ (b : Named A). bytes_eq q b.name) names) (bytes_eq q b.name) b
 
 -- the first name of a block where one more is bound
 first_more : (q : List ℕ) (names : List Binding) (b : Binding) → first_name q (names ++ b ∷ []) ≡ option_or (first_name q names) (cond (has_hash q b.bound.place) (Some b.name) None)
@@ -73,3 +76,17 @@ bound_after old new names b bound by_name by_hash = record {
 pub or_none : {X : Type 0} (m : Option X) → m ≡ option_or m None
 or_none None = refl
 or_none (Some x) = refl
+
+same_option : {X : Type 0} (m : Option X) → m ≡ option_map (λ (x : X). x) m
+same_option None = refl
+same_option (Some x) = refl
+
+-- a table with one more name
+pub table_more : {V : Type 0} (old new : NameTable V) (names : List (Named V)) (name : Vec ℕ) (v : V) → new.by_name.entries ≡ insert_entry (by_bytes (λ (k : Vec ℕ). k.items)) old.by_name.entries name v
+    → IsTable old names → bound_to name.items names ≡ None → IsTable new (names ++ record { name = name.items; bound = v } ∷ [])
+table_more {V} old new names name v is table free = λ q.
+    let here : lookup (has_bytes (λ (k : Vec ℕ). k.items) name.items) old.by_name.entries ≡ None = table name.items ∙ free in
+    rw is (same_option (lookup (has_bytes (λ (k : Vec ℕ). k.items) q) (insert_entry (by_bytes (λ (k : Vec ℕ). k.items)) old.by_name.entries name v))
+    ∙ after_insert (λ (k : Vec ℕ). k.items) (λ (x : V). x) q name.items old.by_name.entries name v v refl refl here
+    ∙ ap (λ (m : Option V). option_or m (cond (bytes_eq q name.items) (Some v) None)) (sym (same_option (lookup (has_bytes (λ (k : Vec ℕ). k.items) q) old.by_name.entries)) ∙ table q)
+    ∙ sym (bound_more q names (record { name = name.items; bound = v })))

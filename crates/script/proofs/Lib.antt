@@ -1,6 +1,11 @@
 pub mod Numbers
 pub mod WordLists
+pub mod AssetLists
 pub mod HexDigits
 pub mod Bindings
 pub mod FollowerBindings
 pub mod BuiltBlocks
+pub mod Gathering
+pub mod Asking
+pub mod Definitions
+pub mod ForCallers

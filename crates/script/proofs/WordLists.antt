@@ -1,13 +1,15 @@
 -- The words of a line, one after the other.
-use Rattle.std.proofs.Common.{◌≡◌, ℕ, ◌+◌, ◌-◌, Bool, true, false, cond, List, [], ◌∷◌, length, take, drop, Option, Some, None, refl, sym, ◌∙◌, ap, subst, arith}
+use Rattle.std.proofs.Common.{◌≡◌, ℕ, ◌+◌, ◌-◌, Bool, true, false, cond, not, List, [], ◌∷◌, length, take, drop}
+use Rattle.std.proofs.Common.{Bor, Option, Some, None, is_some, option_map, refl, sym, ◌∙◌, ap, subst, arith}
 use Rattle.std.specs.Prelude.{◌==◌, nat_lt}
-use Rattle.std.specs.List.{All, position, position_or_len, before_first}
+use Rattle.std.specs.List.{All, position, position_or_len, before_first, onto_first}
 use Rattle.std.proofs.lemmas.Grind.{common_steps}
 use Rattle.std.proofs.lemmas.Bool.{ltb-true, ltb-false}
 use Rattle.std.proofs.lemmas.List.{take_all, length-drop}
 use Rattle.std.proofs.lemmas.List.Sums.{fails_before_first}
 use Rattle.std.proofs.lemmas.List.Splits.{slice_split_first, slice_split_none}
 use Rattle.script.specs.Text.{words_of, first_word}
+use Rattle.script.specs.WordsView.{words_in, has_no_words}
 
 some_is : (a b : List ℕ) → (let x : Option (List ℕ) = Some a in x) ≡ Some b → a ≡ b
 some_is a b e = cc
@@ -43,28 +45,48 @@ words_after content i is =
 
 -- ---- a line's words, from those that were read
 
-pub two_words : (ws us vs : List (List ℕ)) (f s t : Option (List ℕ)) (a b : List ℕ) → f ≡ first_word ws → us ≡ drop 1 ws → s ≡ first_word us → vs ≡ drop 1 us → t ≡ first_word vs
-    → f ≡ Some a → s ≡ Some b → t ≡ None → ws ≡ a ∷ b ∷ []
-two_words [] us vs f s t a b p u q v r x y z = cc
-two_words (w ∷ []) us vs f s t a b p u q v r x y z = let none : s ≡ None = q ∙ ap first_word u in cc
-two_words (w ∷ w' ∷ []) us vs f s t a b p u q v r x y z =
-    let first : a ≡ w = some_is a w (sym x ∙ p) in
-    let second : b ≡ w' = some_is b w' (sym y ∙ (q ∙ ap first_word u)) in
-    cc
-two_words (w ∷ w' ∷ w'' ∷ ws) us vs f s t a b p u q v r x y z = let more : t ≡ Some w'' = r ∙ ap first_word (v ∙ ap (drop 1) u) in cc
-
-pub three_words : (ws us vs xs : List (List ℕ)) (f s t l : Option (List ℕ)) (a b d : List ℕ) → f ≡ first_word ws → us ≡ drop 1 ws → s ≡ first_word us → vs ≡ drop 1 us → t ≡ first_word vs → xs ≡ drop 1 vs → l ≡ first_word xs
-    → f ≡ Some a → s ≡ Some b → t ≡ Some d → l ≡ None → ws ≡ a ∷ b ∷ d ∷ []
-three_words [] us vs xs f s t l a b d p u q v r k m x y z n = cc
-three_words (w ∷ ws) us vs xs f s t l a b d p u q v r k m x y z n =
-    let first : a ≡ w = some_is a w (sym x ∙ p) in
-    let rest : ws ≡ b ∷ d ∷ [] = two_words ws vs xs s t l b d (q ∙ ap first_word u) (v ∙ ap (drop 1) u) r k m y z n in
+-- a word that was read stands before those that are left
+pub read : (ws us : List (List ℕ)) (o : Option (Bor (List ℕ))) (w : Bor (List ℕ))
+    → option_map (λ w. w.now) o ≡ first_word ws → us ≡ drop 1 ws → o ≡ Some w → ws ≡ w.now ∷ us
+read [] us o w first rest is = let none : Some w.now ≡ None = sym (ap (option_map (λ w. w.now)) is) ∙ first in cc
+read (v ∷ ws) us o w first rest is =
+    let same : w.now ≡ v = some_is w.now v (sym (ap (option_map (λ w. w.now)) is) ∙ first) in
     cc
 
-pub four_words : (ws us vs xs ys : List (List ℕ)) (f s t l o : Option (List ℕ)) (a b d e : List ℕ) → f ≡ first_word ws → us ≡ drop 1 ws → s ≡ first_word us → vs ≡ drop 1 us → t ≡ first_word vs → xs ≡ drop 1 vs → l ≡ first_word xs
-    → ys ≡ drop 1 xs → o ≡ first_word ys → f ≡ Some a → s ≡ Some b → t ≡ Some d → l ≡ Some e → o ≡ None → ws ≡ a ∷ b ∷ d ∷ e ∷ []
-four_words [] us vs xs ys f s t l o a b d e p u q v r k m i j x y z n h = cc
-four_words (w ∷ ws) us vs xs ys f s t l o a b d e p u q v r k m i j x y z n h =
-    let first : a ≡ w = some_is a w (sym x ∙ p) in
-    let rest : ws ≡ b ∷ d ∷ e ∷ [] = three_words ws vs xs ys s t l o b d e (q ∙ ap first_word u) (v ∙ ap (drop 1) u) r k m i j y z n h in
-    cc
+-- where there was none to read none was left
+pub at_end : (ws : List (List ℕ)) (o : Option (Bor (List ℕ)))
+    → option_map (λ w. w.now) o ≡ first_word ws → o ≡ None → ws ≡ []
+at_end [] o first is = refl
+at_end (v ∷ ws) o first is = let some : None ≡ Some v = sym (ap (option_map (λ w. w.now)) is) ∙ first in cc
+
+some_left : (space : Bool) (b : ℕ) (ws : List (List ℕ)) → has_no_words (cond space ([] ∷ ws) (onto_first b ws)) ≡ false
+some_left true b ws = refl
+some_left false b [] = refl
+some_left false b (w ∷ ws) = refl
+
+-- a line has a word, even an empty one
+pub has_word : (content : List ℕ) → has_no_words (words_of content) ≡ false
+has_word [] = refl
+has_word (b ∷ bs) = some_left (b == 32) b (words_of bs)
+
+-- a reader has words left as long as it has text left
+pub none_left : (rest : Option (Bor (List ℕ))) (none : Bool) → is_some rest ≡ not none
+    → none ≡ has_no_words (words_in (option_map (λ r. r.now) rest))
+none_left None true is = refl
+none_left None false is = is
+none_left (Some content) true is = is ∙ sym (has_word content.now)
+none_left (Some content) false is = sym (has_word content.now)
+
+pub no_words : (ws : List (List ℕ)) → has_no_words ws ≡ true → ws ≡ []
+no_words [] none = refl
+no_words (w ∷ ws) none = cc
+
+-- ---- a word that is read as a name
+
+pub is_named : (b : Bool) (word name : List ℕ) → Some name ≡ cond b (Some word) None → (b ≡ true) × (name ≡ word)
+is_named true word name is = (refl, some_is name word is)
+is_named false word name is = cc
+
+pub not_named : (b : Bool) (word : List ℕ) → None ≡ cond b (Some word) None → b ≡ false
+not_named true word none = cc
+not_named false word none = refl

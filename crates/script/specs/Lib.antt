@@ -1,5 +1,7 @@
 pub mod Text
 pub mod Line
+pub mod PartView
+pub mod AssetView
 pub mod LineView
 pub mod Answer
 pub mod WordsView
@@ -7,5 +9,7 @@ pub mod Names
 pub mod NamesView
 pub mod FollowerNamesView
 pub mod Meaning
+pub mod KnownView
+pub mod Adding
 pub mod BaseView
 pub mod RequestView

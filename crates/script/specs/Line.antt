@@ -1,6 +1,7 @@
 -- What a line of a script says, by itself.
-use Rattle.std.specs.Prelude.{ℕ, List, [], ◌∷◌, Option, Some, None, option_map, unwrap_or, Result, Ok, Err, ◌==◌}
-use Rattle.std.specs.Prelude.{if◌then◌else◌, bytes_eq, codes}
+use Rattle.std.specs.Prelude.{ℕ, zero, suc, ◌^◌, nat_lt, ℤ, pos, negsuc, Bool, true, false, List, [], ◌∷◌}
+use Rattle.std.specs.Prelude.{Option, Some, None, option_map, unwrap_or, Result, Ok, Err, ◌==◌, if◌then◌else◌}
+use Rattle.std.specs.Prelude.{bytes_eq, codes}
 use Rattle.std.specs.List.{list_all}
 use Rattle.hex.specs.Hex.{decode_of}
 use Rattle.hex.specs.declared.error.FromHexError.{FromHexError}
@@ -13,11 +14,41 @@ pub data Parent : Type 0 where
   Genesis : Parent
   After : List ℕ → Parent
 
--- a line: nothing, a block of a name, on a parent, in a slot, bytes of a name, an arrival, a follower to open,
--- the question what a follower is told next, where the selected chain ends, or what is unspent on it
+-- what unlocks an output: the key or the script of a name
+pub data Owner : Type 0 where
+  OwnedByKey : List ℕ → Owner
+  OwnedByScript : List ℕ → Owner
+
+-- so much of an asset, whose policy is the script of a name
+pub record NamedAsset (Q : Type 0) : Type 0 where
+  pub script : List ℕ
+  pub name : List ℕ
+  pub quantity : Q
+
+-- a part of a transaction: an output of the genesis or of the transaction of a name that is spent, an output to an
+-- owner, the fee, the slots, what is minted, a key that signs, well or not, and a script that is supplied
+pub data Part : Type 0 where
+  SpendGrant : (index : ℕ) → Part
+  Spend : (tx : List ℕ) → (index : ℕ) → Part
+  Pay : Owner → (coin : ℕ) → List (NamedAsset ℕ) → Part
+  SetFee : ℕ → Part
+  SetStart : ℕ → Part
+  SetEnd : ℕ → Part
+  MintAsset : NamedAsset ℤ → Part
+  SignBy : (key : List ℕ) → (good : Bool) → Part
+  Supply : (script : List ℕ) → Part
+
+-- a line: nothing, a key or a script of a name, a transaction of a name that begins, a part of it, its end, a block of
+-- a name, on a parent, in a slot, with transactions, bytes of a name, an arrival, a follower to open, the question what
+-- a follower is told next, where the selected chain ends, or what is unspent on it
 pub data Line : Type 0 where
   Nothing : Line
-  DefineBlock : (name : List ℕ) → Parent → (slot : ℕ) → Line
+  DefineKey : (name bytes : List ℕ) → Line
+  DefineScript : (name bytes : List ℕ) → Line
+  BeginTx : (name : List ℕ) → Line
+  AddPart : Part → Line
+  EndTx : Line
+  DefineBlock : (name : List ℕ) → Parent → (slot : ℕ) → (txs : List (List ℕ)) → Line
   DefineRaw : (name bytes : List ℕ) → Line
   Arrive : Form → (name : List ℕ) → Line
   OpenFollower : (name : List ℕ) → Line
@@ -39,40 +70,17 @@ word_of Whole = codes "arrive"
 word_of Cut = codes "arrive-cut"
 word_of Extended = codes "arrive-ext"
 
+-- ---- words
+
+-- what is said where the word is a name
+abbrev pub where_name : List ℕ → Option Line → Option Line
+where_name word said = if is_name word then said else None
+
 abbrev pub parse_parent : List ℕ → Option Parent
 parse_parent word =
     if bytes_eq word (codes "genesis") then Some Genesis
     else if is_name word then Some (After word)
     else None
-
--- a line of one word: a question
-abbrev pub question_line : List ℕ → Option Line
-question_line word =
-    if bytes_eq word (codes "tip") then Some AskTip
-    else if bytes_eq word (codes "utxo") then Some AskUtxo
-    else None
-
-abbrev pub arrive_line : Option Form → List ℕ → Option Line
-arrive_line None name = None
-arrive_line (Some form) name = if is_name name then Some (Arrive form name) else None
-
--- a line of two words: what is done, and the name that it is done to
-abbrev pub named_line : (word name : List ℕ) → Option Line
-named_line word name =
-    if bytes_eq word (codes "open") then (if is_name name then Some (OpenFollower name) else None)
-    else if bytes_eq word (codes "next") then (if is_name name then Some (AskNext name) else None)
-    else arrive_line (form_of word) name
-
--- the line of these parts, where each of them is there
-abbrev pub block_of_parts : List ℕ → Option Parent → Option ℕ → Option Line
-block_of_parts name None slot = None
-block_of_parts name (Some parent) None = None
-block_of_parts name (Some parent) (Some slot) = Some (DefineBlock name parent slot)
-
-abbrev pub block_line : (word name parent slot : List ℕ) → Option Line
-block_line word name parent slot =
-    if bytes_eq word (codes "block") then (if is_name name then block_of_parts name (parse_parent parent)
-    (parse_number slot) else None) else None
 
 -- the bytes that hexadecimal digits say, if there are digits and their number is even
 abbrev pub decoded : Result (List ℕ) FromHexError → Option (List ℕ)
@@ -87,19 +95,147 @@ digits_bytes (d ∷ ds) = decoded (decode_of (d ∷ ds))
 abbrev pub said_bytes : List ℕ → List ℕ
 said_bytes digits = unwrap_or (digits_bytes digits) []
 
-abbrev pub raw_line : (word name digits : List ℕ) → Option Line
-raw_line word name digits =
-    if bytes_eq word (codes "raw") then (if is_name name then option_map (DefineRaw name)
-    (digits_bytes digits) else None) else None
+-- an asset name: hexadecimal digits, or `-` for the empty one
+abbrev pub parse_asset_name : List ℕ → Option (List ℕ)
+parse_asset_name word = if bytes_eq word (codes "-") then Some [] else digits_bytes word
+
+-- so much below 0
+abbrev pub negated : ℕ → ℤ
+negated zero = pos 0
+negated (suc n) = negsuc n
+
+-- a number that `-` may stand in front of
+abbrev pub parse_quantity : List ℕ → Option ℤ
+parse_quantity [] = None
+parse_quantity (b ∷ bs) =
+    if b == 45 then option_map negated (parse_number bs) else option_map pos (parse_number (b ∷ bs))
+
+-- a quantity that may be minted has 64 bits
+abbrev pub is_quantity : ℤ → Bool
+is_quantity (pos n) = nat_lt n (2 ^ 63)
+is_quantity (negsuc n) = nat_lt n (2 ^ 63)
+
+-- an asset of these parts, where each of them is there
+abbrev pub asset_of_parts : {Q : Type 0} → (script : List ℕ) → Option (List ℕ) → Option Q → Option (NamedAsset Q)
+asset_of_parts script None quantity = None
+asset_of_parts script (Some name) None = None
+asset_of_parts script (Some name) (Some quantity) =
+    if is_name script then Some (record { script = script; name = name; quantity = quantity }) else None
+
+-- one more asset, where there are others
+abbrev pub with_asset : {Q : Type 0} → Option (NamedAsset Q) → Option (List (NamedAsset Q))
+    → Option (List (NamedAsset Q))
+with_asset None others = None
+with_asset (Some asset) None = None
+with_asset (Some asset) (Some others) = Some (asset ∷ others)
+
+-- three words for each asset
+abbrev pub parse_assets : List (List ℕ) → Option (List (NamedAsset ℕ))
+parse_assets [] = Some []
+parse_assets (script ∷ []) = None
+parse_assets (script ∷ name ∷ []) = None
+parse_assets (script ∷ name ∷ quantity ∷ words) =
+    with_asset (asset_of_parts script (parse_asset_name name) (parse_number quantity)) (parse_assets words)
+
+-- the assets, where words say some
+abbrev pub said_assets : List (List ℕ) → List (NamedAsset ℕ)
+said_assets words = unwrap_or (parse_assets words) []
+
+abbrev pub parse_owner : (kind name : List ℕ) → Option Owner
+parse_owner kind name =
+    if is_name name then (if bytes_eq kind (codes "key") then Some (OwnedByKey name)
+    else if bytes_eq kind (codes "script") then Some (OwnedByScript name)
+    else None) else None
+
+-- ---- lines by the number of their words
+
+-- a line of one word: a question, or the end of a transaction
+abbrev pub word_line : List ℕ → Option Line
+word_line word =
+    if bytes_eq word (codes "tip") then Some AskTip
+    else if bytes_eq word (codes "utxo") then Some AskUtxo
+    else if bytes_eq word (codes "end") then Some EndTx
+    else None
+
+abbrev pub arrive_line : Option Form → List ℕ → Option Line
+arrive_line None name = None
+arrive_line (Some form) name = where_name name (Some (Arrive form name))
+
+-- a part that is a number
+abbrev pub number_part : (ℕ → Part) → List ℕ → Option Line
+number_part part word = option_map (λ n. AddPart (part n)) (parse_number word)
+
+-- a line of two words: what is done, and the name that it is done to, or a number
+abbrev pub named_line : (word name : List ℕ) → Option Line
+named_line word name =
+    if bytes_eq word (codes "open") then where_name name (Some (OpenFollower name))
+    else if bytes_eq word (codes "next") then where_name name (Some (AskNext name))
+    else if bytes_eq word (codes "tx") then where_name name (Some (BeginTx name))
+    else if bytes_eq word (codes "fee") then number_part SetFee name
+    else if bytes_eq word (codes "from") then number_part SetStart name
+    else if bytes_eq word (codes "until") then number_part SetEnd name
+    else if bytes_eq word (codes "sign") then where_name name (Some (AddPart (SignBy name true)))
+    else if bytes_eq word (codes "badsign") then where_name name (Some (AddPart (SignBy name false)))
+    else if bytes_eq word (codes "with") then where_name name (Some (AddPart (Supply name)))
+    else arrive_line (form_of word) name
+
+-- a name with bytes
+abbrev pub bytes_line : (List ℕ → List ℕ → Line) → (name digits : List ℕ) → Option Line
+bytes_line line name digits = where_name name (option_map (line name) (digits_bytes digits))
+
+-- an input: of the genesis, or of a transaction
+abbrev pub spend_line : (from index : List ℕ) → Option Line
+spend_line from index =
+    if bytes_eq from (codes "genesis") then number_part SpendGrant index
+    else where_name from (number_part (Spend from) index)
+
+-- a line of three words
+abbrev pub pair_line : (word first second : List ℕ) → Option Line
+pair_line word first second =
+    if bytes_eq word (codes "raw") then bytes_line DefineRaw first second
+    else if bytes_eq word (codes "key") then bytes_line DefineKey first second
+    else if bytes_eq word (codes "script") then bytes_line DefineScript first second
+    else if bytes_eq word (codes "in") then spend_line first second
+    else None
+
+-- a block of these parts, where each of them is there
+abbrev pub block_of_parts : List ℕ → Option Parent → Option ℕ → (txs : List (List ℕ)) → Option Line
+block_of_parts name None slot txs = None
+block_of_parts name (Some parent) None txs = None
+block_of_parts name (Some parent) (Some slot) txs =
+    if list_all is_name txs then Some (DefineBlock name parent slot txs) else None
+
+-- an output of these parts, where each of them is there
+abbrev pub pay_of_parts : Option Owner → Option ℕ → Option (List (NamedAsset ℕ)) → Option Line
+pay_of_parts None coin assets = None
+pay_of_parts (Some owner) None assets = None
+pay_of_parts (Some owner) (Some coin) None = None
+pay_of_parts (Some owner) (Some coin) (Some assets) = Some (AddPart (Pay owner coin assets))
+
+-- `mint` has no more words
+abbrev pub mint_line : (script name quantity : List ℕ) → (rest : List (List ℕ)) → Option Line
+mint_line script name quantity [] =
+    option_map (λ asset. AddPart (MintAsset asset))
+    (asset_of_parts script (parse_asset_name name) (parse_quantity quantity))
+mint_line script name quantity (word ∷ words) = None
+
+-- a line of four words or more
+abbrev pub long_line : (word first second third : List ℕ) → (rest : List (List ℕ)) → Option Line
+long_line word first second third rest =
+    if bytes_eq word (codes "block") then
+    where_name first (block_of_parts first (parse_parent second) (parse_number third) rest)
+    else if bytes_eq word (codes "out") then
+    pay_of_parts (parse_owner first second) (parse_number third) (parse_assets rest)
+    else if bytes_eq word (codes "mint") then mint_line first second third rest
+    else None
 
 -- what the words of a line say
 abbrev pub said_by : List (List ℕ) → Option Line
 said_by [] = None
-said_by (word ∷ []) = question_line word
+said_by (word ∷ []) = word_line word
 said_by (word ∷ name ∷ []) = named_line word name
-said_by (word ∷ name ∷ digits ∷ []) = raw_line word name digits
-said_by (word ∷ name ∷ parent ∷ slot ∷ []) = block_line word name parent slot
-said_by (word ∷ name ∷ parent ∷ slot ∷ other ∷ others) = None
+said_by (word ∷ first ∷ second ∷ []) = pair_line word first second
+said_by (word ∷ first ∷ second ∷ third ∷ rest) = long_line word first second third rest
 
 -- an empty line or a comment says nothing
 abbrev pub line_of_content : List ℕ → Option Line

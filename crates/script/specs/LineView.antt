@@ -4,6 +4,8 @@ use Rattle.script.specs.declared.line.Parent.TheVariants as parent
 use Rattle.script.specs.declared.line.Line.{Line}
 use Rattle.script.specs.declared.line.Line.TheVariants as line
 use Rattle.script.specs.Line as spec
+use Rattle.script.specs.PartView.{part_of}
+use Rattle.script.specs.WordsView.{words_left}
 
 abbrev pub parent_of : Parent → spec.Parent
 parent_of parent.Genesis = spec.Genesis
@@ -11,7 +13,13 @@ parent_of (parent.After name) = spec.After name.text.now
 
 abbrev pub line_of : Line → spec.Line
 line_of line.Nothing = spec.Nothing
-line_of (line.Block name parent slot) = spec.DefineBlock name.text.now (parent_of parent) slot
+line_of (line.Key name digits) = spec.DefineKey name.text.now (spec.said_bytes digits.text.now)
+line_of (line.Script name digits) = spec.DefineScript name.text.now (spec.said_bytes digits.text.now)
+line_of (line.Tx name) = spec.BeginTx name.text.now
+line_of (line.Part part) = spec.AddPart (part_of part)
+line_of line.End = spec.EndTx
+line_of (line.Block name parent slot transactions) =
+    spec.DefineBlock name.text.now (parent_of parent) slot (words_left transactions.words)
 line_of (line.Raw name digits) = spec.DefineRaw name.text.now (spec.said_bytes digits.text.now)
 line_of (line.Arrive form name) = spec.Arrive form name.text.now
 line_of (line.Open name) = spec.OpenFollower name.text.now

@@ -1,24 +1,47 @@
 -- What a line means where some names are bound: what it does, or the first of its faults.
-use Rattle.std.specs.Prelude.{ℕ, ◌+◌, ◌-◌, ◌&&◌, List, [], ◌∷◌, ◌++◌, length, take, Option, Some, None, option_map}
-use Rattle.std.specs.Prelude.{option_and_then, Result, Ok, Err, is_some, nat_lt, nat_le, if◌then◌else◌}
+use Rattle.std.specs.Prelude.{◌≡◌, ℕ, ◌+◌, ◌-◌, ◌^◌, ◌&&◌, Bool, true, false, IsTrue, List, [], ◌∷◌, ◌++◌, length}
+use Rattle.std.specs.Prelude.{take, replicate}
+use Rattle.std.specs.Prelude.{Option, Some, None, option_map, option_and_then, Result, Ok, Err, is_some, nat_lt, nat_le}
+use Rattle.std.specs.Prelude.{◌==◌, if◌then◌else◌}
+use Rattle.std.specs.List.{list_all}
 use Rattle.model.specs.Limits.{number_limit}
-use Rattle.script.specs.Text.{script_size_limit}
-use Rattle.model.specs.Block.{Header, Block, block_text, block_hash_of, body_hash_of}
+use Rattle.model.specs.Cbor.{nesting}
+use Rattle.model.specs.Script.{Script, SpellsScript, script_hash_of}
+use Rattle.model.specs.Transaction.{Address, Credential, KeyHash, ScriptHash, Transaction, SpellsTransaction}
+use Rattle.model.specs.Transaction.{item_of_transaction}
+use Rattle.model.specs.Transaction.{key_hash_of, transaction_id_of}
+use Rattle.model.specs.Block.{Block, block_text, block_hash_of, body_hash_of}
 use Rattle.model.specs.Chain.{Point}
-use Rattle.model.specs.Block.{empty_block}
+use Rattle.value.specs.Parts.{AssetQuantity}
+use Rattle.draft.specs.Draft.{Draft, empty_draft, with_input, with_output, with_fee, with_start, with_end, with_minted}
+use Rattle.draft.specs.Draft.{with_signer, with_script, IsTxOfDraft}
 use Rattle.script.specs.declared.fault.LineFault.{LineFault}
 use Rattle.script.specs.declared.fault.LineFault.TheVariants.{BadLine, UnknownName, NameTaken, NotBuilt}
 use Rattle.script.specs.declared.line.Form.{Form}
 use Rattle.script.specs.declared.line.Form.TheVariants.{Whole, Cut, Extended}
-use Rattle.script.specs.Line.{Parent, Genesis, After, Line, Nothing, DefineBlock, DefineRaw, Arrive, OpenFollower}
-use Rattle.script.specs.Line.{AskNext, AskTip, AskUtxo, parse_line}
-use Rattle.script.specs.Names.{Bound, Binding, bound_to, AllNames, follower_named, with_binding}
+use Rattle.script.specs.Text.{script_size_limit}
+use Rattle.script.specs.Line.{Parent, Genesis, After, Owner, OwnedByKey, OwnedByScript, NamedAsset, Part, SpendGrant}
+use Rattle.script.specs.Line.{Spend, Pay}
+use Rattle.script.specs.Line.{SetFee, SetStart, SetEnd, MintAsset, SignBy, Supply, Line, Nothing, DefineKey}
+use Rattle.script.specs.Line.{DefineScript, BeginTx}
+use Rattle.script.specs.Line.{AddPart, EndTx, DefineBlock, DefineRaw, Arrive, OpenFollower, AskNext, AskTip, AskUtxo}
+use Rattle.script.specs.Line.{parse_line, is_quantity}
+use Rattle.script.specs.Names.{Named, Bound, Binding, OpenTx, AllNames, bound_to}
 
--- what a line does: nothing, it binds a name, bytes arrive, a follower is opened, the follower of a number is told
--- what comes next, the tip is printed, or what is unspent
+-- what a line defines: nothing, bytes, a key or a script of a name; a transaction is begun or goes on, or it ends and
+-- its name is bound
+pub data Definition : Type 0 where
+  NoDefinition : Definition
+  BindsBytes : Binding → Definition
+  BindsKey : Named (List ℕ) → Definition
+  BindsScript : Named Script → Definition
+  Continues : OpenTx → Definition
+  Finishes : OpenTx → Definition
+
+-- what a line does: it defines something, bytes arrive, a follower is opened, the follower of a number is told what
+-- comes next, the tip is printed, or what is unspent
 pub data Meaning : Type 0 where
-  DoesNothing : Meaning
-  Binds : Binding → Meaning
+  Defines : Definition → Meaning
   Arrives : Form → (name bytes : List ℕ) → Meaning
   OpensFollower : (name : List ℕ) → Meaning
   TellsFollower : (name : List ℕ) → (id : ℕ) → Meaning
@@ -30,6 +53,88 @@ abbrev pub formed : Form → List ℕ → List ℕ
 formed Whole bytes = bytes
 formed Cut bytes = take (length bytes - 1) bytes
 formed Extended bytes = bytes ++ 0 ∷ []
+
+-- ---- faults in their order
+
+-- what is made of something that is known
+abbrev pub where_known : {A X : Type 0} → Option A → (A → Result X LineFault) → Result X LineFault
+where_known None make = Err UnknownName
+where_known (Some a) make = make a
+
+-- what is made where the name to bind is free
+abbrev pub where_free : {A X : Type 0} → Option A → Result X LineFault → Result X LineFault
+where_free found made = if is_some found then Err NameTaken else made
+
+-- what is made, if it is
+abbrev pub where_built : {X : Type 0} → Option X → Result X LineFault
+where_built None = Err NotBuilt
+where_built (Some x) = Ok x
+
+-- what a thing that is made means
+abbrev pub meaning_by : {X : Type 0} → (X → Meaning) → Result X LineFault → Result Meaning LineFault
+meaning_by mean (Ok x) = Ok (mean x)
+meaning_by mean (Err fault) = Err fault
+
+-- ---- keys
+
+-- a key has 32 bytes
+abbrev pub built_key : (name bytes : List ℕ) → Result Meaning LineFault
+built_key name bytes =
+    if length bytes == 32 then Ok (Defines (BindsKey (record { name = name; bound = bytes }))) else Err NotBuilt
+
+-- ---- parts of a transaction
+
+-- an input, whose index has 16 bits
+abbrev pub spends : (id : List ℕ) → (index : ℕ) → Draft → Result Draft LineFault
+spends id index d =
+    if nat_lt index (2 ^ 16) then where_built (with_input (record { transaction = id; index = index }) d)
+    else Err NotBuilt
+
+-- one more asset, where all are known
+abbrev pub with_known : {Q : Type 0} → Option (AssetQuantity Q) → Option (List (AssetQuantity Q))
+    → Option (List (AssetQuantity Q))
+with_known None others = None
+with_known (Some asset) None = None
+with_known (Some asset) (Some others) = Some (asset ∷ others)
+
+module _ (names : AllNames) where
+  -- what unlocks the outputs of an owner
+  abbrev pub payment_of : Owner → Option Credential
+  payment_of (OwnedByKey name) = option_map (λ key. KeyHash (key_hash_of key)) (bound_to name names.of_keys)
+  payment_of (OwnedByScript name) =
+      option_map (λ script. ScriptHash (script_hash_of script)) (bound_to name names.of_scripts)
+
+  -- the address of an owner
+  abbrev pub address_on : Owner → Option Address
+  address_on owner = option_map (λ payment. record { network = names.network; payment = payment }) (payment_of owner)
+
+  -- an asset, whose policy is the hash of the script
+  abbrev pub asset_of : {Q : Type 0} → NamedAsset Q → Option (AssetQuantity Q)
+  asset_of asset =
+      option_map (λ script. record { policy = script_hash_of script; name = asset.name; quantity = asset.quantity })
+      (bound_to asset.script names.of_scripts)
+
+  abbrev pub assets_of : List (NamedAsset ℕ) → Option (List (AssetQuantity ℕ))
+  assets_of [] = Some []
+  assets_of (asset ∷ others) = with_known (asset_of asset) (assets_of others)
+
+  -- a draft with a part, or the first fault
+  abbrev pub part_meaning : Part → Draft → Result Draft LineFault
+  part_meaning (SpendGrant index) d = spends (replicate 32 0) index d
+  part_meaning (Spend tx index) d = where_known (bound_to tx names.of_txs) (λ t. spends (transaction_id_of t) index d)
+  part_meaning (Pay owner coin assets) d =
+      where_known (address_on owner)
+      (λ address. where_known (assets_of assets) (λ all. where_built (with_output address coin all d)))
+  part_meaning (SetFee fee) d = where_built (with_fee fee d)
+  part_meaning (SetStart slot) d = where_built (with_start slot d)
+  part_meaning (SetEnd slot) d = where_built (with_end slot d)
+  part_meaning (MintAsset asset) d =
+      where_known (asset_of asset)
+      (λ a. if is_quantity a.quantity then where_built (with_minted a d) else Err NotBuilt)
+  part_meaning (SignBy name good) d =
+      where_known (bound_to name names.of_keys) (λ key. where_built (with_signer (record { key = key; good = good }) d))
+  part_meaning (Supply name) d =
+      where_known (bound_to name names.of_scripts) (λ script. where_built (with_script script d))
 
 -- ---- blocks
 
@@ -46,83 +151,164 @@ abbrev pub base_after : List Binding → Parent → Option Base
 base_after names Genesis = Some (record { number = 0; hash = None })
 base_after names (After name) = option_map base_at (option_and_then (λ b. b.place) (bound_to name names))
 
--- the header of the block with no transaction that goes on from here
-abbrev pub header_on : Base → ℕ → Header
-header_on base slot =
-    record { number = base.number + 1; slot = slot; previous = base.hash; body_hash = body_hash_of [] }
+-- one more transaction, where all are known
+abbrev pub with_tx : Option Transaction → Option (List Transaction) → Option (List Transaction)
+with_tx None others = None
+with_tx (Some tx) None = None
+with_tx (Some tx) (Some others) = Some (tx ∷ others)
 
-abbrev pub block_on : Base → ℕ → Block
-block_on base slot = empty_block (header_on base slot)
+-- the transactions of these names, in this order
+abbrev pub txs_named : AllNames → List (List ℕ) → Option (List Transaction)
+txs_named names [] = Some []
+txs_named names (name ∷ others) = with_tx (bound_to name names.of_txs) (txs_named names others)
+
+-- the block of these transactions that goes on from here, whose header names the hash of its body
+abbrev pub block_on : Base → ℕ → List Transaction → Block
+block_on base slot txs = record {
+  header = record { number = base.number + 1; slot = slot; previous = base.hash; body_hash = body_hash_of txs };
+  transactions = txs;
+}
 
 -- the text of the block, with its place
 abbrev pub bound_block : Block → Bound
 bound_block block = record {
   bytes = block_text block;
-  place = Some
-      (record { number = block.header.number; hash = block_hash_of block });
+  place = Some (record { number = block.header.number; hash = block_hash_of block });
 }
 
 abbrev pub bound_raw : List ℕ → Bound
 bound_raw bytes = record { bytes = bytes; place = None }
 
--- the block, if its number and its slot are below the limit
-abbrev pub built : Base → ℕ → Result Bound LineFault
-built base slot =
-    if nat_lt (base.number + 1) number_limit
-    && nat_lt slot number_limit then Ok (bound_block (block_on base slot)) else Err NotBuilt
+-- a transaction nests two items deeper in a block, which nests at most 64 deep
+abbrev pub fits_block : Transaction → Bool
+fits_block tx = nat_le (nesting (item_of_transaction tx)) 62
+
+-- the block, if its number and its slot are below the limit, and its transactions fit
+abbrev pub built : Base → ℕ → List Transaction → Result Bound LineFault
+built base slot txs =
+    if nat_lt (base.number + 1) number_limit && (nat_lt slot number_limit && list_all fits_block txs)
+    then Ok (bound_block (block_on base slot txs)) else Err NotBuilt
+
+abbrev pub binds_bytes : List ℕ → Bound → Meaning
+binds_bytes name bound = Defines (BindsBytes (record { name = name; bound = bound }))
+
+abbrev pub block_meaning : AllNames → List ℕ → Parent → ℕ → List (List ℕ) → Result Meaning LineFault
+block_meaning names name parent slot txs =
+    where_known (base_after names.of_bytes parent) (λ base. where_known (txs_named names txs)
+    (λ all. where_free (bound_to name names.of_bytes) (meaning_by (binds_bytes name) (built base slot all))))
 
 -- ---- what the lines mean
 
--- a name is bound to this, if there is no fault
-abbrev pub binds : List ℕ → Result Bound LineFault → Result Meaning LineFault
-binds name (Ok bound) = Ok (Binds (record { name = name; bound = bound }))
-binds name (Err fault) = Err fault
-
--- the same, where the name is free
-abbrev pub binds_free : List Binding → List ℕ → Result Bound LineFault → Result Meaning LineFault
-binds_free names name bound = if is_some (bound_to name names) then Err NameTaken else binds name bound
-
--- a block on a parent that is known
-abbrev pub block_meaning : List Binding → List ℕ → Option Base → ℕ → Result Meaning LineFault
-block_meaning names name None slot = Err UnknownName
-block_meaning names name (Some base) slot = binds_free names name (built base slot)
-
 abbrev pub arrival_meaning : Form → List ℕ → Option Bound → Result Meaning LineFault
-arrival_meaning form name None = Err UnknownName
-arrival_meaning form name (Some b) = Ok (Arrives form name b.bytes)
+arrival_meaning form name found = where_known found (λ b. Ok (Arrives form name b.bytes))
 
--- a follower is opened whose name is free
-abbrev pub opening_meaning : List ℕ → Option ℕ → Result Meaning LineFault
-opening_meaning name None = Ok (OpensFollower name)
-opening_meaning name (Some id) = Err NameTaken
+-- a transaction is begun, in the line of this number
+abbrev pub begun : ℕ → List ℕ → Result Meaning LineFault
+begun number name = Ok (Defines (Continues (record { name = name; line = number; draft = empty_draft })))
 
--- a follower that has a name is told what comes next
-abbrev pub next_meaning : List ℕ → Option ℕ → Result Meaning LineFault
-next_meaning name None = Err UnknownName
-next_meaning name (Some id) = Ok (TellsFollower name id)
+-- the transaction with a part
+abbrev pub continued : OpenTx → Draft → Meaning
+continued making draft = Defines (Continues (record making { draft = draft }))
 
--- what a line means, or the first fault
-abbrev pub meaning_in : AllNames → Line → Result Meaning LineFault
-meaning_in names Nothing = Ok DoesNothing
-meaning_in names (DefineBlock name parent slot) = block_meaning names.of_bytes name
-    (base_after names.of_bytes parent) slot
-meaning_in names (DefineRaw name bytes) = binds_free names.of_bytes name (Ok (bound_raw bytes))
-meaning_in names (Arrive form name) = arrival_meaning form name (bound_to name names.of_bytes)
-meaning_in names (OpenFollower name) = opening_meaning name (follower_named name names.of_followers)
-meaning_in names (AskNext name) = next_meaning name (follower_named name names.of_followers)
-meaning_in names AskTip = Ok PrintsTip
-meaning_in names AskUtxo = Ok PrintsUtxo
+-- a script has the text, or there is none that has
+abbrev pub MeansScript : (name bytes : List ℕ) → Result Meaning LineFault → Type 0
+MeansScript name bytes (Ok meaning) = (script : Script) × SpellsScript script bytes
+    × (meaning ≡ Defines (BindsScript (record { name = name; bound = script })))
+MeansScript name bytes (Err fault) = (fault ≡ NotBuilt) × ((script : Script) → SpellsScript script bytes → ⊥)
 
-abbrev pub meaning_if_line : AllNames → Option Line → Result Meaning LineFault
-meaning_if_line names None = Err BadLine
-meaning_if_line names (Some line) = meaning_in names line
+-- what a script's line means: that its name is taken is told first
+abbrev pub MeansScriptIf : Bool → (name bytes : List ℕ) → Result Meaning LineFault → Type 0
+MeansScriptIf true name bytes result = result ≡ Err NameTaken
+MeansScriptIf false name bytes result = MeansScript name bytes result
 
--- what a line means that comes after so many bytes of the script, which may not be too long
-abbrev pub meaning_of : ℕ → AllNames → List ℕ → Result Meaning LineFault
-meaning_of before names line =
-    if nat_le (before + length line) script_size_limit then meaning_if_line names (parse_line line) else Err BadLine
+-- what a line means between `tx` and `end`, where only parts and empty lines stand
+abbrev pub meaning_inside : AllNames → OpenTx → Line → Result Meaning LineFault
+meaning_inside names making Nothing = Ok (Defines NoDefinition)
+meaning_inside names making (AddPart part) = meaning_by (continued making) (part_meaning names part making.draft)
+meaning_inside names making EndTx = Ok (Defines (Finishes making))
+meaning_inside names making line = Err BadLine
 
--- the names once a line that means this is obeyed, but for the name of a follower that it opens
-abbrev pub names_after : AllNames → Meaning → AllNames
-names_after names (Binds binding) = with_binding names binding
-names_after names meaning = names
+-- what a line of this number but a script's means elsewhere
+abbrev pub meaning_outside : ℕ → AllNames → Line → Result Meaning LineFault
+meaning_outside number names Nothing = Ok (Defines NoDefinition)
+meaning_outside number names (DefineKey name bytes) = where_free (bound_to name names.of_keys) (built_key name bytes)
+meaning_outside number names (BeginTx name) = where_free (bound_to name names.of_txs) (begun number name)
+meaning_outside number names (DefineBlock name parent slot txs) = block_meaning names name parent slot txs
+meaning_outside number names (DefineRaw name bytes) =
+    where_free (bound_to name names.of_bytes) (Ok (binds_bytes name (bound_raw bytes)))
+meaning_outside number names (Arrive form name) = arrival_meaning form name (bound_to name names.of_bytes)
+meaning_outside number names (OpenFollower name) =
+    where_free (bound_to name names.of_followers) (Ok (OpensFollower name))
+meaning_outside number names (AskNext name) =
+    where_known (bound_to name names.of_followers) (λ id. Ok (TellsFollower name id))
+meaning_outside number names AskTip = Ok PrintsTip
+meaning_outside number names AskUtxo = Ok PrintsUtxo
+-- a part or an end of no transaction
+meaning_outside number names line = Err BadLine
+
+-- the line means this, or has this as its first fault
+abbrev pub MeansOutside : (number : ℕ) → AllNames → Line → Result Meaning LineFault → Type 0
+MeansOutside number names (DefineScript name bytes) result =
+    MeansScriptIf (is_some (bound_to name names.of_scripts)) name bytes result
+MeansOutside number names line result = meaning_outside number names line ≡ result
+
+abbrev pub MeansLine : (number : ℕ) → AllNames → Option OpenTx → Line → Result Meaning LineFault → Type 0
+MeansLine number names None line result = MeansOutside number names line result
+MeansLine number names (Some making) line result = meaning_inside names making line ≡ result
+
+abbrev pub MeansIfLine : (number : ℕ) → AllNames → Option Line → Result Meaning LineFault → Type 0
+MeansIfLine number names None result = result ≡ Err BadLine
+MeansIfLine number names (Some line) result = MeansLine number names names.making line result
+
+-- what a line says, where the script isn't too long with it
+abbrev pub parse_within : (before : ℕ) → (line : List ℕ) → Option Line
+parse_within before line = if nat_le (before + length line) script_size_limit then parse_line line else None
+
+-- WHAT A LINE MEANS
+-- of this number, that comes after so many bytes of the script, which may not be too long
+abbrev pub Means : (number before : ℕ) → AllNames → (line : List ℕ) → Result Meaning LineFault → Type 0
+Means number before names line result = MeansIfLine number names (parse_within before line) result
+
+-- ---- names after a definition
+
+-- a transaction is bound that has just the parts of the draft, and a text
+pub record IsFinished (names : AllNames) (making : OpenTx) (new : AllNames) : Type 0 where
+  pub tx : Transaction
+  pub text : List ℕ
+  pub spelled : SpellsTransaction tx text
+  pub is_tx : IsTxOfDraft making.draft tx
+  pub is_new : new ≡
+      record names { of_txs = names.of_txs ++ record { name = making.name; bound = tx } ∷ []; making = None }
+
+abbrev pub AreNamesAfter : AllNames → Definition → AllNames → Type 0
+AreNamesAfter names NoDefinition new = new ≡ names
+AreNamesAfter names (BindsBytes binding) new = new ≡ record names { of_bytes = names.of_bytes ++ binding ∷ [] }
+AreNamesAfter names (BindsKey key) new = new ≡ record names { of_keys = names.of_keys ++ key ∷ [] }
+AreNamesAfter names (BindsScript script) new = new ≡ record names { of_scripts = names.of_scripts ++ script ∷ [] }
+AreNamesAfter names (Continues making) new = new ≡ record names { making = Some making }
+AreNamesAfter names (Finishes making) new = IsFinished names making new
+
+-- ---- want of memory
+
+-- whether there are any
+abbrev pub are_some : List (List ℕ) → Bool
+are_some [] = false
+are_some (x ∷ xs) = true
+
+-- Lines of which only memory tells whether they are built: a text to read, transactions to copy, assets to sort, an
+-- asset to look up.
+abbrev pub is_late : Line → Bool
+is_late (DefineScript name bytes) = true
+is_late (DefineBlock name parent slot txs) = are_some txs
+is_late (AddPart (Pay owner coin assets)) = true
+is_late (AddPart (MintAsset asset)) = true
+is_late line = false
+
+abbrev pub is_late_line : Option Line → Bool
+is_late_line None = false
+is_late_line (Some line) = is_late line
+
+-- the line has no fault, but that it may not be built where only memory tells
+abbrev pub HasNoFault : (number before : ℕ) → AllNames → (line : List ℕ) → Type 0
+HasNoFault number before names line = (fault : LineFault) → Means number before names line (Err fault)
+    → (fault ≡ NotBuilt) × IsTrue (is_late_line (parse_within before line))

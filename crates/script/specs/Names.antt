@@ -1,22 +1,29 @@
--- Names of two kinds: those of bytes, a block's or others, and those of followers.
+-- Names of five kinds, and the transaction that is being made.
 use Rattle.std.specs.Prelude.{ℕ, Bool, false, List, [], ◌∷◌, ◌++◌, Option, Some, None, option_map, unwrap_or, bytes_eq}
 use Rattle.std.specs.Prelude.{codes}
 use Rattle.std.specs.List.{find}
 use Rattle.model.specs.Chain.{Point}
+use Rattle.model.specs.Script.{Script}
+use Rattle.model.specs.Transaction.{Transaction}
+use Rattle.draft.specs.Draft.{Draft}
+
+-- a name with what it is bound to
+pub record Named (A : Type 0) : Type 0 where
+  pub name : List ℕ
+  pub bound : A
+
+-- what is bound to a name
+abbrev pub bound_to : {A : Type 0} → List ℕ → List (Named A) → Option A
+bound_to name names = option_map (λ b. b.bound) (find (λ b. bytes_eq name b.name) names)
 
 -- bytes that have a name, and where they are those of a `block` line the block's place on its chain
 pub record Bound : Type 0 where
   pub bytes : List ℕ
   pub place : Option Point
 
--- a name with what it is bound to
-pub record Binding : Type 0 where
-  pub name : List ℕ
-  pub bound : Bound
-
--- what is bound to a name
-abbrev pub bound_to : List ℕ → List Binding → Option Bound
-bound_to name names = option_map (λ b. b.bound) (find (λ b. bytes_eq name b.name) names)
+-- a name of bytes
+abbrev pub Binding : Type 0
+Binding = Named Bound
 
 -- whether the place is that of a block with this hash
 abbrev pub has_hash : List ℕ → Option Point → Bool
@@ -31,28 +38,36 @@ first_name hash names = option_map (λ b. b.name) (find (λ b. has_hash hash b.b
 abbrev pub printed_name : List ℕ → List Binding → List ℕ
 printed_name hash names = unwrap_or (first_name hash names) (codes "?")
 
--- a name with the number of the follower that has it
-pub record FollowerName : Type 0 where
+-- a transaction between its line `tx`, of this number, and its line `end`
+pub record OpenTx : Type 0 where
   pub name : List ℕ
-  pub id : ℕ
+  pub line : ℕ
+  pub draft : Draft
 
--- the number of the follower that has a name
-abbrev pub follower_named : List ℕ → List FollowerName → Option ℕ
-follower_named name names = option_map (λ f. f.id) (find (λ f. bytes_eq name f.name) names)
-
--- all names of a script, each kind in the order in which they were bound. One name may be of both kinds
+-- All names of a script, each kind in the order in which they were bound, and the transaction that is being made. One
+-- name may be of each kind. Addresses are those of this network.
 pub record AllNames : Type 0 where
+  pub network : ℕ
+  pub of_keys : List (Named (List ℕ))
+  pub of_scripts : List (Named Script)
+  pub of_txs : List (Named Transaction)
   pub of_bytes : List Binding
-  pub of_followers : List FollowerName
-
--- the names with one more of bytes
-abbrev pub with_binding : AllNames → Binding → AllNames
-with_binding names binding = record names { of_bytes = names.of_bytes ++ binding ∷ [] }
+  pub of_followers : List (Named ℕ)
+  pub making : Option OpenTx
 
 -- before the first line no name is bound
-abbrev pub no_names : AllNames
-no_names = record { of_bytes = []; of_followers = [] }
+abbrev pub no_names : ℕ → AllNames
+no_names network =
+    record {
+      network = network;
+      of_keys = [];
+      of_scripts = [];
+      of_txs = [];
+      of_bytes = [];
+      of_followers = [];
+      making = None;
+    }
 
 -- the names with one more of a follower
-abbrev pub with_follower : AllNames → FollowerName → AllNames
+abbrev pub with_follower : AllNames → Named ℕ → AllNames
 with_follower names follower = record names { of_followers = names.of_followers ++ follower ∷ [] }

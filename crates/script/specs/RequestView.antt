@@ -1,53 +1,90 @@
 -- What all names of the code stand for, and what a line asks for where they are bound.
-use Rattle.std.specs.Prelude.{◌≡◌, ℕ, List, Some, None, Result, Ok, Err, IsOk}
+use Rattle.std.specs.Prelude.{◌≡◌, ℕ, Bool, IsTrue, List, Option, Some, None, Result, Ok, Err}
+use Rattle.draft.specs.View.{Stands}
 use Rattle.script.specs.declared.fault.LineFault.{LineFault}
+use Rattle.script.specs.declared.fault.LineFault.TheVariants.{NotBuilt}
 use Rattle.script.specs.declared.stop.Stop.{Stop}
 use Rattle.script.specs.declared.stop.Stop.TheVariants.{Fault, OutOfMemory}
 use Rattle.script.specs.declared.request.Request.{Request}
 use Rattle.script.specs.declared.request.Request.TheVariants as request
 use Rattle.script.specs.declared.names.Names.{Names}
-use Rattle.script.specs.Names.{Bound, AllNames, bound_to, follower_named}
+use Rattle.script.specs.declared.open_tx.OpenTx as code
+use Rattle.script.specs.Names.{Bound, OpenTx, AllNames, bound_to}
 use Rattle.script.specs.NamesView.{AreBound}
 use Rattle.script.specs.FollowerNamesView.{AreFollowersNamed, HasRoom}
-use Rattle.script.specs.Meaning.{Meaning, DoesNothing, Binds, Arrives, OpensFollower, TellsFollower, PrintsTip}
-use Rattle.script.specs.Meaning.{PrintsUtxo, names_after}
+use Rattle.script.specs.KnownView.{AreKnown}
+use Rattle.script.specs.Line.{Line}
+use Rattle.script.specs.Meaning.{Meaning, Defines, Definition, Arrives, OpensFollower, TellsFollower, PrintsTip}
+use Rattle.script.specs.Meaning.{PrintsUtxo, AreNamesAfter, MeansOutside, MeansLine, is_late}
 
--- the names of the code stand for these, of each kind
+-- the code holds this transaction in the making
+pub record IsMaking (code : code.OpenTx) (making : OpenTx) : Type 0 where
+  pub name : making.name ≡ code.name.items
+  pub line : making.line ≡ code.line
+  pub stands : Stands code.draft making.draft
+
+-- the transaction in the making, if there is one
+abbrev pub IsOpen : Option code.OpenTx → Option OpenTx → Type 0
+IsOpen None making = making ≡ None
+IsOpen (Some code) making = (made : OpenTx) × (making ≡ Some made) × IsMaking code made
+
+-- the names of the code stand for these, of each kind, and that of a transaction in the making is free
 pub record AreNamed (code : Names) (names : AllNames) : Type 0 where
+  pub known : AreKnown code.known names
   pub of_bytes : AreBound code.bytes names.of_bytes
   pub of_followers : AreFollowersNamed code.followers names.of_followers
+  pub making : IsOpen code.making names.making
+  pub free : (making : OpenTx) → names.making ≡ Some making → bound_to making.name names.of_txs ≡ None
 
 -- there is room to give the name to a follower
 abbrev pub HasFollowerRoom : Names → List ℕ → Type 0
 HasFollowerRoom code name = HasRoom code.followers name
 
--- the line is empty, a comment or a definition
-abbrev pub IsDefinition : Meaning → Type 0
-IsDefinition DoesNothing = Unit {0}
-IsDefinition (Binds binding) = Unit {0}
-IsDefinition meaning = ⊥
+-- a definition of these names is made
+pub record IsDefined (names : AllNames) (code : Names) (definition : Definition) : Type 0 where
+  pub new : AllNames
+  pub after : AreNamesAfter names definition new
+  pub named : AreNamed code new
 
--- where these names are bound a line that means this asks for this, and the names of the code have room for it
+-- Where these names are bound a line that means this asks for this. Its definition is made, or the names of the code
+-- have room for it.
 abbrev pub IsRequest : AllNames → Names → Request → Meaning → Type 0
-IsRequest names code request.Nothing meaning = IsDefinition meaning
+IsRequest names code request.Nothing meaning = (definition : Definition) × (meaning ≡ Defines definition)
+    × IsDefined names code definition
 IsRequest names code (request.Arrive form name) meaning = (bound : Bound)
     × (bound_to name.text.now names.of_bytes ≡ Some bound) × (meaning ≡ Arrives form name.text.now bound.bytes)
+    × AreNamed code names
 IsRequest names code (request.Open name) meaning = (meaning ≡ OpensFollower name.text.now)
-    × (follower_named name.text.now names.of_followers ≡ None) × HasFollowerRoom code name.text.now
-IsRequest names code (request.Next name id) meaning = meaning ≡ TellsFollower name.text.now id
-IsRequest names code request.Tip meaning = meaning ≡ PrintsTip
-IsRequest names code request.Utxo meaning = meaning ≡ PrintsUtxo
+    × (bound_to name.text.now names.of_followers ≡ None) × HasFollowerRoom code name.text.now × AreNamed code names
+IsRequest names code (request.Next name id) meaning = (meaning ≡ TellsFollower name.text.now id) × AreNamed code names
+IsRequest names code request.Tip meaning = (meaning ≡ PrintsTip) × AreNamed code names
+IsRequest names code request.Utxo meaning = (meaning ≡ PrintsUtxo) × AreNamed code names
 
--- a line that has a meaning asks for this, and its definition is made
-pub record Asked (names : AllNames) (said : Result Meaning LineFault) (asks : Request) (new : Names) : Type 0 where
+-- a line that has a meaning asks for this
+pub record Asked (names : AllNames) (means : Result Meaning LineFault → Type 0) (asks : Request) (new : Names)
+    : Type 0 where
   pub meaning : Meaning
-  pub is_said : said ≡ Ok meaning
+  pub is_meant : means (Ok meaning)
   pub is_request : IsRequest names new asks meaning
-  pub named : AreNamed new (names_after names meaning)
 
--- What is answered to a line: what it asks for, its fault, which leaves the names, or that memory ran out, which says
--- that it has no fault.
-abbrev pub Asks : AllNames → Result Meaning LineFault → Result Request Stop → Names → Type 0
-Asks names said (Ok asks) new = Asked names said asks new
-Asks names said (Err (Fault fault)) new = (said ≡ Err fault) × AreNamed new names
-Asks names said (Err OutOfMemory) new = IsOk said
+-- there is no fault but, where it is late, the one that only memory tells
+abbrev pub Lacks : (Result Meaning LineFault → Type 0) → (late : Bool) → Type 0
+Lacks means late = (fault : LineFault) → means (Err fault) → (fault ≡ NotBuilt) × IsTrue late
+
+-- What is answered to a line that means this: what it asks for; its fault, which leaves the names; or that memory ran
+-- out, which says that it has no other fault than one that only memory tells.
+abbrev pub Asks : AllNames → (Result Meaning LineFault → Type 0) → (late : Bool) → Result Request Stop → Names → Type 0
+Asks names means late (Ok asks) new = Asked names means asks new
+Asks names means late (Err (Fault fault)) new = means (Err fault) × AreNamed new names
+Asks names means late (Err OutOfMemory) new = Lacks means late
+
+-- the same where what the line means is a function
+abbrev pub AsksFor : AllNames → Result Meaning LineFault → (late : Bool) → Result Request Stop → Names → Type 0
+AsksFor names meaning late result new = Asks names (λ m. meaning ≡ m) late result new
+
+-- what a line asks for outside of a transaction, and anywhere
+abbrev pub AsksOutside : (number : ℕ) → AllNames → Line → Result Request Stop → Names → Type 0
+AsksOutside number names line result new = Asks names (MeansOutside number names line) (is_late line) result new
+
+abbrev pub AsksLine : (number : ℕ) → AllNames → Line → Result Request Stop → Names → Type 0
+AsksLine number names line result new = Asks names (MeansLine number names names.making line) (is_late line) result new

@@ -1,5 +1,5 @@
 -- Which words a reader of words has before it.
-use Rattle.std.specs.Prelude.{ℕ, List, [], Option, Some, None, option_map}
+use Rattle.std.specs.Prelude.{ℕ, Bool, true, false, List, [], ◌∷◌, Option, Some, None, option_map}
 use Rattle.script.specs.declared.words.Words.{Words}
 use Rattle.script.specs.Text.{words_of}
 
@@ -9,3 +9,8 @@ words_in (Some content) = words_of content
 
 abbrev pub words_left : Words → List (List ℕ)
 words_left words = words_in (option_map (λ rest. rest.now) words.rest)
+
+-- no word is left
+abbrev pub has_no_words : List (List ℕ) → Bool
+has_no_words [] = true
+has_no_words (word ∷ words) = false

@@ -12,9 +12,10 @@ use crate::bound_names::{Bound, BoundNames};
 use crate::fault::LineFault;
 use crate::line::Parent;
 use crate::stop::Stop;
-use block::{Header, WriteFault};
+use block::NoText;
 use ident::{BlockHash, Point};
 use std::alloc::Global;
+use tx::Tx;
 
 /// What a block goes on from: how many blocks there are up to here, and the hash of the last one.
 #[derive(Clone, Copy, Debug)]
@@ -44,34 +45,21 @@ pub fn base_after(names: &BoundNames, parent: Parent<'_>) -> Option<Base>
     }
 }
 
-/// The block with no transaction that goes on from here.
-pub fn build(alloc: Global, base: Base, slot: u64) -> Result<Bound, Stop>
-    ensures { Answers bound_of (built (base_of base) slot) result }
+/// The block of these transactions that goes on from here. Its text is written once, and its body and its header are
+/// hashed once.
+pub fn build(alloc: Global, base: Base, slot: u64, txs: &[Tx]) -> Result<Bound, Stop>
+    ensures { Answers bound_of (built (base_of base) slot txs.now) result }
 {
     let Some(number) = base.number.checked_add(1) else {
         return Err(Stop::Fault(LineFault::NotBuilt));
     };
-    let header = Header {
-        number,
-        slot,
-        previous: base.hash,
-        body_hash: block::empty_body_hash(),
-    };
-    let bytes = match block::write_empty(alloc, &header) {
-        Ok(bytes) => bytes,
-        Err(WriteFault::OutOfRange) => return Err(Stop::Fault(LineFault::NotBuilt)),
-        Err(WriteFault::OutOfMemory) => return Err(Stop::OutOfMemory),
-    };
-    let place = match block::look(alloc, &bytes) {
-        Ok(block) => Point {
-            number: block.number(),
-            hash: block.hash(),
-        },
-        // What was written is a block.
-        Err(_) => unreachable!(),
-    };
-    Ok(Bound {
-        bytes,
-        place: Some(place),
-    })
+    match block::write_with_hash(alloc, number, slot, base.hash, txs) {
+        Ok((bytes, hash)) => Ok(Bound {
+            bytes,
+            place: Some(Point { number, hash }),
+        }),
+        Err(NoText::OutOfRange) => Err(Stop::Fault(LineFault::NotBuilt)),
+        Err(NoText::TooDeep(_)) => Err(Stop::Fault(LineFault::NotBuilt)),
+        Err(NoText::OutOfMemory) => Err(Stop::OutOfMemory),
+    }
 }

@@ -1,10 +1,11 @@
 //! Hexadecimal digits in a line.
 
-ghost use Rattle.std.specs.Prelude.{◌≡◌, IfOk, IsSome, option_map};
+ghost use Rattle.std.specs.Prelude.{◌≡◌, ◌==◌, IfOk, IsSome, None, Some, if◌then◌else◌, length, option_map};
 ghost use Rattle.std.specs.List.{list_all};
 ghost use Rattle.hex.specs.Hex.{is_hex_digit};
 ghost use Rattle.script.specs.Line.{digits_bytes, said_bytes};
 
+use hex::FromHex;
 use std::alloc::{AllocError, Global};
 
 /// Hexadecimal digits of either case in a line, which say one byte or more.
@@ -46,6 +47,14 @@ impl<'a> Digits<'a> {
             return None;
         }
         Some(Digits { text: word })
+    }
+
+    /// The 32 bytes of a key that they say, where they say so many. Takes no memory.
+    pub fn key(&self) -> Option<[u8; 32]>
+        ensures { result ≡ (if length (said_bytes self.now.text.now) == 32 then Some (said_bytes self.now.text.now)
+            else None) }
+    {
+        <[u8; 32]>::from_hex(self.text).ok()
     }
 
     /// The bytes that they say.

@@ -5,16 +5,18 @@ use thiserror::Error;
 /// Why a line is refused: the first of these that applies is told.
 #[derive(Clone, Copy, Debug, PartialEq, Eq, Error)]
 pub enum LineFault {
-    /// The words are no line of a script, a byte is out of range, or the script is too long.
+    /// The words are no line of a script, or none that may stand there; a byte is out of range; the script is too long;
+    /// or, told at the end of the script in the line of its `tx`, a transaction has no `end`.
     #[error("BadLine")]
     BadLine,
-    /// A name is not bound, or not to a block where a block is wanted.
+    /// A name is not bound in the kind that is wanted, or not by a `block` line where a block is wanted.
     #[error("UnknownName")]
     UnknownName,
-    /// The name that the line would bind is bound already.
+    /// The name that the line would bind is bound already in its kind.
     #[error("NameTaken")]
     NameTaken,
-    /// No block has this content: its number or its slot is 2^63 or more.
+    /// No key, native script, transaction or block has this content: a part stands there twice, or a number, a length or
+    /// the nesting is out of range.
     #[error("NotBuilt")]
     NotBuilt,
 }

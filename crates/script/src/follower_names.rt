@@ -1,7 +1,7 @@
 //! What names of followers are bound to.
 
-ghost use Rattle.std.specs.Prelude.{◌≡◌, [], ◌∷◌, ◌++◌, List, OnOk, None};
-ghost use Rattle.script.specs.Names.{FollowerName, follower_named};
+ghost use Rattle.std.specs.Prelude.{◌≡◌, [], ◌∷◌, ◌++◌, ℕ, List, OnOk, None};
+ghost use Rattle.script.specs.Names.{Named, bound_to};
 ghost use Rattle.script.specs.FollowerNamesView.{AreFollowersNamed, HasRoom};
 
 use std::alloc::{AllocError, Global};
@@ -28,8 +28,8 @@ impl FollowerNames {
 
     /// The follower that has a name.
     pub fn get(&self, name: &[u8]) -> Option<u64>
-        ensures { (names : List FollowerName) → AreFollowersNamed self.now names
-            → result ≡ follower_named name.now names }
+        ensures { (names : List (Named ℕ)) → AreFollowersNamed self.now names
+            → result ≡ bound_to name.now names }
     {
         match self.by_name.get(name) {
             Some(Some(id)) => Some(*id),
@@ -39,7 +39,7 @@ impl FollowerNames {
 
     /// Takes the room for a name, and binds nothing.
     pub fn take_room(&mut self, name: &[u8]) -> Result<(), AllocError>
-        ensures names { (names : List FollowerName) → AreFollowersNamed self.old names
+        ensures names { (names : List (Named ℕ)) → AreFollowersNamed self.old names
             → AreFollowersNamed self.new names }
         ensures room { OnOk result (HasRoom self.new name.now) }
     {
@@ -52,9 +52,10 @@ impl FollowerNames {
 
     /// Binds a name that is free and has its room. Without its room it isn't bound. Takes no memory.
     pub fn bind(&mut self, name: &[u8], id: u64)
-        ensures { HasRoom self.old name.now → (names : List FollowerName) → AreFollowersNamed self.old names
-            → follower_named name.now names ≡ None
-            → AreFollowersNamed self.new (names ++ record { name = name.now; id = id } ∷ []) }
+        ensures bound { HasRoom self.old name.now → (names : List (Named ℕ)) → AreFollowersNamed self.old names
+            → bound_to name.now names ≡ None
+            → AreFollowersNamed self.new (names ++ record { name = name.now; bound = id } ∷ []) }
+        ensures no_room { (HasRoom self.old name.now → ⊥) → self.new ≡ self.old }
     {
         if let Some(place) = self.by_name.get_mut(name) {
             *place = Some(id);

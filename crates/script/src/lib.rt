@@ -1,16 +1,26 @@
-//! The language of scripts: lines that define blocks and bytes, and lines that ask something of a node. This crate
-//! knows what a line means where some names are bound; it runs nothing.
+//! The language of scripts: lines that define keys, native scripts, transactions, blocks and bytes, and lines that ask
+//! something of a node. This crate knows what a line means where some names are bound; it runs nothing.
 #![tactic(auto)]
 
+mod adding;
+mod asset_words;
 mod bound_names;
 mod building;
+mod defining;
 mod digits;
 mod fault;
 mod follower_names;
+mod known;
 mod line;
+mod lookup;
 mod name;
+mod name_table;
+mod name_words;
 mod names;
 mod number;
+mod obeying;
+mod open_tx;
+mod part;
 mod request;
 mod stop;
 mod words;
@@ -18,6 +28,6 @@ mod words;
 pub use fault::LineFault;
 pub use line::Form;
 pub use name::Name;
-pub use names::{MAX_SCRIPT_SIZE, Names};
+pub use names::{LinePlace, MAX_SCRIPT_SIZE, Names};
 pub use request::Request;
 pub use stop::Stop;

@@ -1,15 +1,23 @@
 //! What a line of a script says, by itself.
 
-ghost use Rattle.std.specs.Prelude.{◌≡◌, option_map};
-ghost use Rattle.script.specs.Line.{parse_line, said_by, form_of, word_of, parse_parent, question_line, block_line};
-ghost use Rattle.script.specs.Line.{arrive_line, named_line, raw_line};
+ghost use Rattle.std.specs.Prelude.{◌≡◌, Some, option_map};
+ghost use Rattle.draft.specs.SignerView.{is_good};
+ghost use Rattle.script.specs.Line.{parse_line, said_by, form_of, word_of, where_name, parse_parent};
+ghost use Rattle.script.specs.Line.{word_line, arrive_line, named_line, spend_line, pair_line, mint_line, long_line};
+ghost use Rattle.script.specs.Line.{OpenFollower, AskNext, BeginTx, AddPart, SignBy, Supply};
+ghost use Rattle.script.specs.Line.{block_of_parts, pay_of_parts, parse_owner, parse_assets};
+ghost use Rattle.script.specs.Text.{parse_number};
 ghost use Rattle.script.specs.WordsView.{words_left};
 ghost use Rattle.script.specs.LineView.{line_of, parent_of};
 
+use crate::asset_words::AssetWords;
 use crate::digits::Digits;
 use crate::name::Name;
+use crate::name_words::NameWords;
 use crate::number::parse_number;
+use crate::part::{AssetName, Owner, Part, Quantity};
 use crate::words::{self, Words};
+use draft::Signing;
 
 /// How bytes arrive.
 #[derive(Clone, Copy, Debug, PartialEq, Eq)]
@@ -75,11 +83,30 @@ impl<'a> Parent<'a> {
 pub enum Line<'a> {
     /// Nothing: the line is empty or a comment.
     Nothing,
-    /// A block with no transaction.
+    /// A key.
+    Key {
+        name: Name<'a>,
+        digits: Digits<'a>,
+    },
+    /// A native script.
+    Script {
+        name: Name<'a>,
+        digits: Digits<'a>,
+    },
+    /// A transaction begins.
+    Tx {
+        name: Name<'a>,
+    },
+    /// A part of it.
+    Part(Part<'a>),
+    /// It ends.
+    End,
+    /// A block of transactions.
     Block {
         name: Name<'a>,
         parent: Parent<'a>,
         slot: u64,
+        transactions: NameWords<'a>,
     },
     /// Bytes.
     Raw {
@@ -105,14 +132,16 @@ pub enum Line<'a> {
     Utxo,
 }
 
-/// The line of one word: a question.
-fn question_line<'a>(word: &[u8]) -> Option<Line<'a>>
-    ensures { option_map line_of result ≡ question_line word.now }
+/// The line of one word: a question, or the end of a transaction.
+fn word_line<'a>(word: &[u8]) -> Option<Line<'a>>
+    ensures { option_map line_of result ≡ word_line word.now }
 {
     if word == b"tip".as_slice() {
         Some(Line::Tip)
     } else if word == b"utxo".as_slice() {
         Some(Line::Utxo)
+    } else if word == b"end".as_slice() {
+        Some(Line::End)
     } else {
         None
     }
@@ -127,44 +156,193 @@ fn arrive_line<'a>(word: &[u8], name: &'a [u8]) -> Option<Line<'a>>
     Some(Line::Arrive { form, name })
 }
 
-/// The line of two words: what is done, and the name that it is done to.
+/// The line in which a follower is opened.
+fn open_line<'a>(name: &'a [u8]) -> Option<Line<'a>>
+    ensures { option_map line_of result ≡ where_name name.entry.now (Some (OpenFollower name.entry.now)) }
+{
+    let name = Name::of_word(name)?;
+    Some(Line::Open { name })
+}
+
+/// The line that asks what a follower is told next.
+fn next_line<'a>(name: &'a [u8]) -> Option<Line<'a>>
+    ensures { option_map line_of result ≡ where_name name.entry.now (Some (AskNext name.entry.now)) }
+{
+    let name = Name::of_word(name)?;
+    Some(Line::Next { name })
+}
+
+/// The line in which a transaction begins.
+fn tx_line<'a>(name: &'a [u8]) -> Option<Line<'a>>
+    ensures { option_map line_of result ≡ where_name name.entry.now (Some (BeginTx name.entry.now)) }
+{
+    let name = Name::of_word(name)?;
+    Some(Line::Tx { name })
+}
+
+/// The line in which a script is supplied.
+fn with_line<'a>(script: &'a [u8]) -> Option<Line<'a>>
+    ensures { option_map line_of result ≡ where_name script.entry.now (Some (AddPart (Supply script.entry.now))) }
+{
+    let script = Name::of_word(script)?;
+    Some(Line::Part(Part::With { script }))
+}
+
+/// The line in which a key signs.
+fn sign_line<'a>(key: &'a [u8], signing: Signing) -> Option<Line<'a>>
+    ensures { option_map line_of result ≡
+        where_name key.entry.now (Some (AddPart (SignBy key.entry.now (is_good signing)))) }
+{
+    let key = Name::of_word(key)?;
+    Some(Line::Part(Part::Sign { key, signing }))
+}
+
+/// The line of two words whose second one is a name or a number.
 fn named_line<'a>(word: &[u8], name: &'a [u8]) -> Option<Line<'a>>
     ensures { option_map line_of result ≡ named_line word.now name.entry.now }
 {
     if word == b"open".as_slice() {
-        let name = Name::of_word(name)?;
-        Some(Line::Open { name })
+        open_line(name)
     } else if word == b"next".as_slice() {
-        let name = Name::of_word(name)?;
-        Some(Line::Next { name })
+        next_line(name)
+    } else if word == b"tx".as_slice() {
+        tx_line(name)
+    } else if word == b"fee".as_slice() {
+        Some(Line::Part(Part::Fee(parse_number(name)?)))
+    } else if word == b"from".as_slice() {
+        Some(Line::Part(Part::From(parse_number(name)?)))
+    } else if word == b"until".as_slice() {
+        Some(Line::Part(Part::Until(parse_number(name)?)))
+    } else if word == b"sign".as_slice() {
+        sign_line(name, Signing::Good)
+    } else if word == b"badsign".as_slice() {
+        sign_line(name, Signing::Bad)
+    } else if word == b"with".as_slice() {
+        with_line(name)
     } else {
         arrive_line(word, name)
     }
 }
 
-/// The line in which bytes are defined.
-fn raw_line<'a>(word: &[u8], name: &'a [u8], digits: &'a [u8]) -> Option<Line<'a>>
-    ensures { option_map line_of result ≡ raw_line word.now name.entry.now digits.entry.now }
+/// The line in which an output is spent.
+fn spend_line<'a>(from: &'a [u8], index: &[u8]) -> Option<Line<'a>>
+    ensures { option_map line_of result ≡ spend_line from.entry.now index.now }
 {
-    if word != b"raw".as_slice() {
-        return None;
+    if from == b"genesis".as_slice() {
+        let index = parse_number(index)?;
+        return Some(Line::Part(Part::SpendGrant { index }));
     }
-    let name = Name::of_word(name)?;
-    let digits = Digits::of_word(digits)?;
-    Some(Line::Raw { name, digits })
+    let tx = Name::of_word(from)?;
+    let index = parse_number(index)?;
+    Some(Line::Part(Part::Spend { tx, index }))
 }
 
-/// The line in which a block is defined.
-fn block_line<'a>(word: &[u8], name: &'a [u8], parent: &'a [u8], slot: &[u8]) -> Option<Line<'a>>
-    ensures { option_map line_of result ≡ block_line word.now name.entry.now parent.entry.now slot.now }
+/// The line of three words.
+fn pair_line<'a>(word: &[u8], first: &'a [u8], second: &'a [u8]) -> Option<Line<'a>>
+    ensures { option_map line_of result ≡ pair_line word.now first.entry.now second.entry.now }
 {
-    if word != b"block".as_slice() {
-        return None;
+    if word == b"in".as_slice() {
+        return spend_line(first, second);
     }
+    // `raw`, `key` and `script` have a name and digits.
+    if word == b"raw".as_slice() {
+        let name = Name::of_word(first)?;
+        let digits = Digits::of_word(second)?;
+        Some(Line::Raw { name, digits })
+    } else if word == b"key".as_slice() {
+        let name = Name::of_word(first)?;
+        let digits = Digits::of_word(second)?;
+        Some(Line::Key { name, digits })
+    } else if word == b"script".as_slice() {
+        let name = Name::of_word(first)?;
+        let digits = Digits::of_word(second)?;
+        Some(Line::Script { name, digits })
+    } else {
+        None
+    }
+}
+
+/// The line of a block.
+fn block_line<'a>(
+    name: &'a [u8],
+    parent: &'a [u8],
+    slot: &[u8],
+    transactions: Words<'a>,
+) -> Option<Line<'a>>
+    ensures { option_map line_of result ≡ where_name name.entry.now
+        (block_of_parts name.entry.now (parse_parent parent.entry.now) (parse_number slot.now)
+        (words_left transactions.entry)) }
+{
     let name = Name::of_word(name)?;
     let parent = Parent::of_word(parent)?;
     let slot = parse_number(slot)?;
-    Some(Line::Block { name, parent, slot })
+    let transactions = NameWords::of(transactions)?;
+    Some(Line::Block {
+        name,
+        parent,
+        slot,
+        transactions,
+    })
+}
+
+/// The line of an output.
+fn pay_line<'a>(kind: &[u8], owner: &'a [u8], coin: &[u8], assets: Words<'a>) -> Option<Line<'a>>
+    ensures { option_map line_of result ≡ pay_of_parts (parse_owner kind.now owner.entry.now) (parse_number coin.now)
+        (parse_assets (words_left assets.entry)) }
+{
+    let owner = Owner::of_words(kind, owner)?;
+    let coin = parse_number(coin)?;
+    let assets = AssetWords::of(assets)?;
+    Some(Line::Part(Part::Pay {
+        owner,
+        coin,
+        assets,
+    }))
+}
+
+/// The line in which an asset is minted.
+fn mint_line<'a>(
+    script: &'a [u8],
+    name: &'a [u8],
+    quantity: &[u8],
+    rest: Words<'_>,
+) -> Option<Line<'a>>
+    ensures { option_map line_of result ≡
+        mint_line script.entry.now name.entry.now quantity.now (words_left rest.entry) }
+{
+    if !rest.is_empty() {
+        return None;
+    }
+    let name = AssetName::of_word(name)?;
+    let quantity = Quantity::of_word(quantity)?;
+    let script = Name::of_word(script)?;
+    Some(Line::Part(Part::Mint {
+        script,
+        name,
+        quantity,
+    }))
+}
+
+/// The line of four words or more.
+fn long_line<'a>(
+    word: &[u8],
+    first: &'a [u8],
+    second: &'a [u8],
+    third: &'a [u8],
+    rest: Words<'a>,
+) -> Option<Line<'a>>
+    ensures { option_map line_of result ≡
+        long_line word.now first.entry.now second.entry.now third.entry.now (words_left rest.entry) }
+{
+    if word == b"block".as_slice() {
+        block_line(first, second, third, rest)
+    } else if word == b"out".as_slice() {
+        pay_line(first, second, third, rest)
+    } else if word == b"mint".as_slice() {
+        mint_line(first, second, third, rest)
+    } else {
+        None
+    }
 }
 
 /// What the words of a line say.
@@ -175,14 +353,13 @@ fn said_by(mut words: Words<'_>) -> Option<Line<'_>>
     let second = words.next_word();
     let third = words.next_word();
     let fourth = words.next_word();
-    let fifth = words.next_word();
-    match (first, second, third, fourth, fifth) {
-        (Some(word), None, _, _, _) => question_line(word),
-        (Some(word), Some(name), None, _, _) => named_line(word, name),
-        (Some(word), Some(name), Some(digits), None, _) => raw_line(word, name, digits),
-        (Some(word), Some(name), Some(parent), Some(slot), None) => {
-            block_line(word, name, parent, slot)
-        }
+    match (first, second, third, fourth) {
+        (Some(word), None, _, _) => word_line(word),
+        (Some(word), Some(name), None, _) => named_line(word, name),
+        (Some(word), Some(first), Some(second), None) => pair_line(word, first, second),
+        (Some(word), Some(first), Some(second), Some(third)) => long_line(
+            word, first, second, third, words,
+        ),
         _ => None,
     }
 }

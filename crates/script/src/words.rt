@@ -4,7 +4,7 @@ ghost use Rattle.std.specs.Prelude.{◌≡◌, ◌||◌, ◌==◌, option_map, d
 ghost use Rattle.std.specs.List.{list_all, position};
 ghost use Rattle.script.specs.Text.{content_of, words_of, first_word, is_printable, is_letter, is_digit, is_name};
 ghost use Rattle.script.specs.Text.{begins_with_letter};
-ghost use Rattle.script.specs.WordsView.{words_left};
+ghost use Rattle.script.specs.WordsView.{has_no_words, words_left};
 
 /// The line without the line feed that ends it.
 pub fn content_of(line: &[u8]) -> &[u8]
@@ -85,6 +85,13 @@ impl<'a> Words<'a> {
         Words {
             rest: Some(content),
         }
+    }
+
+    /// Whether no word is left.
+    pub fn is_empty(&self) -> bool
+        ensures { result ≡ has_no_words (words_left self.now) }
+    {
+        self.rest.is_none()
     }
 
     /// The next word, if there is one. Takes time in proportion to the word, and no memory.

@@ -14,6 +14,8 @@ mod library_tests;
 #[cfg(test)]
 mod long_chain;
 #[cfg(test)]
+mod payment_scripts;
+#[cfg(test)]
 mod script_fault_tests;
 #[cfg(test)]
 mod script_follower_tests;
@@ -22,8 +24,8 @@ mod script_io_tests;
 #[cfg(test)]
 mod script_tests;
 #[cfg(test)]
+mod script_tx_fault_tests;
+#[cfg(test)]
 mod scripts;
 #[cfg(test)]
 mod text_tests;
-#[cfg(test)]
-mod utxo_scripts;

@@ -8,11 +8,11 @@ use std::process::Abort;
 use std::test::Fail;
 
 /// The line in this script, between two others, has a fault in the line of this number, before which is printed so.
-struct Place {
-    before: &'static str,
-    after: &'static str,
-    number: u64,
-    printed: &'static str,
+pub struct Place {
+    pub before: &'static str,
+    pub after: &'static str,
+    pub number: u64,
+    pub printed: &'static str,
 }
 
 /// A script's text.
@@ -44,6 +44,19 @@ fn stops(
     Ok(())
 }
 
+/// Each line of a table has its fault there.
+pub fn all_stop(
+    rt: &impl Abort,
+    alloc: Global,
+    place: &Place,
+    table: &[(&str, LineFault)],
+) -> Result<(), Fail> {
+    for (line, fault) in table {
+        stops(rt, alloc, place, *line, *fault)?;
+    }
+    Ok(())
+}
+
 /// Behind the arrival of a block.
 const BEHIND_AN_ARRIVAL: Place = Place {
     before: "block A genesis 1\narrive A\n",
@@ -70,7 +83,9 @@ const WORDS: &[(&str, LineFault)] = &[
     ("# \u{7f}", LineFault::BadLine),
     ("submit A", LineFault::BadLine),
     ("block B genesis", LineFault::BadLine),
-    ("block B genesis 1 T", LineFault::BadLine),
+    ("block B genesis 1 1T", LineFault::BadLine),
+    ("block B genesis 1 genesis", LineFault::BadLine),
+    ("block B genesis 1 ", LineFault::BadLine),
     ("block genesis A 1", LineFault::BadLine),
     ("block 1B genesis 1", LineFault::BadLine),
     ("block B-1 genesis 1", LineFault::BadLine),
@@ -90,10 +105,7 @@ const WORDS: &[(&str, LineFault)] = &[
 
 #[test]
 fn faults_of_words(rt: HostRuntime) -> Result<(), Fail> {
-    for (line, fault) in WORDS {
-        stops(&rt, rt.alloc(), &BEHIND_AN_ARRIVAL, *line, *fault)?;
-    }
-    Ok(())
+    all_stop(&rt, rt.alloc(), &BEHIND_AN_ARRIVAL, WORDS)
 }
 
 /// Behind a block and a text that is none.
@@ -111,6 +123,11 @@ const NAMES: &[(&str, LineFault)] = &[
     ("block B C 1", LineFault::UnknownName),
     ("block B B 1", LineFault::UnknownName),
     ("block B Z 1", LineFault::UnknownName),
+    ("block B genesis 1 A", LineFault::UnknownName),
+    (
+        "block A genesis 9223372036854775808 T",
+        LineFault::UnknownName,
+    ),
     ("block A C 9223372036854775808", LineFault::UnknownName),
     ("block A genesis 9223372036854775808", LineFault::NameTaken),
     ("block Z A 2", LineFault::NameTaken),
@@ -122,10 +139,7 @@ const NAMES: &[(&str, LineFault)] = &[
 
 #[test]
 fn faults_of_names_and_blocks(rt: HostRuntime) -> Result<(), Fail> {
-    for (line, fault) in NAMES {
-        stops(&rt, rt.alloc(), &BEHIND_A_REFUSAL, *line, *fault)?;
-    }
-    Ok(())
+    all_stop(&rt, rt.alloc(), &BEHIND_A_REFUSAL, NAMES)
 }
 
 /// Behind the opening of a follower.
@@ -160,8 +174,5 @@ const FOLLOWERS: &[(&str, LineFault)] = &[
 
 #[test]
 fn faults_of_followers(rt: HostRuntime) -> Result<(), Fail> {
-    for (line, fault) in FOLLOWERS {
-        stops(&rt, rt.alloc(), &BEHIND_AN_OPENING, *line, *fault)?;
-    }
-    Ok(())
+    all_stop(&rt, rt.alloc(), &BEHIND_AN_OPENING, FOLLOWERS)
 }

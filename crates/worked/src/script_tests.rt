@@ -3,7 +3,7 @@
 use super::fixture::{ONE_LIVE_BLOCK, SMALL_NETWORK};
 use super::flooded::{FLOODED_STORE, FLOODED_STORE_PRINTS};
 use super::long_chain::{LONG_CHAIN_BACKWARDS, LONG_CHAIN_BACKWARDS_PRINTS};
-use super::{scripts, utxo_scripts};
+use super::{payment_scripts, scripts};
 use genesis::Genesis;
 use scenario::{LineFault, ScenarioFault, run};
 use std::alloc::Global;
@@ -117,15 +117,6 @@ const RUNS: &[(&str, &str)] = &[
     // scripts of many blocks
     (LONG_CHAIN_BACKWARDS, LONG_CHAIN_BACKWARDS_PRINTS),
     (FLOODED_STORE, FLOODED_STORE_PRINTS),
-    // scripts of transactions
-    (
-        utxo_scripts::UTXO_AFTER_A_SWITCH,
-        utxo_scripts::UTXO_AFTER_A_SWITCH_PRINTS,
-    ),
-    (
-        utxo_scripts::UTXO_WITHOUT_A_SWITCH,
-        utxo_scripts::UTXO_WITHOUT_A_SWITCH_PRINTS,
-    ),
     // lines that are read
     ("", ""),
     (
@@ -151,6 +142,53 @@ const RUNS: &[(&str, &str)] = &[
 #[test]
 fn scripts_to_their_end(rt: HostRuntime) {
     for (script, printed) in RUNS {
+        prints(&rt, rt.alloc(), *script, *printed);
+    }
+}
+
+/// Scripts of transactions, and what they print.
+const PAYMENTS: &[(&str, &str)] = &[
+    (
+        payment_scripts::BAD_BLOCK_IN_THE_LONGEST_PATH_A,
+        payment_scripts::BAD_BLOCK_IN_THE_LONGEST_PATH_A_PRINTS,
+    ),
+    (
+        payment_scripts::BAD_BLOCK_IN_THE_LONGEST_PATH_B,
+        payment_scripts::BAD_BLOCK_IN_THE_LONGEST_PATH_B_PRINTS,
+    ),
+    (
+        payment_scripts::EXPIRED_TRANSACTION_IN_A_BLOCK,
+        payment_scripts::EXPIRED_TRANSACTION_IN_A_BLOCK_PRINTS,
+    ),
+    (
+        payment_scripts::SWITCH_UNDOES_BLOCKS,
+        payment_scripts::SWITCH_UNDOES_BLOCKS_PRINTS,
+    ),
+    (
+        payment_scripts::UTXO_AFTER_A_SWITCH_1,
+        payment_scripts::UTXO_AFTER_A_SWITCH_1_PRINTS,
+    ),
+    (
+        payment_scripts::UTXO_AFTER_A_SWITCH_2,
+        payment_scripts::UTXO_AFTER_A_SWITCH_2_PRINTS,
+    ),
+    (
+        payment_scripts::MINTED_AND_SWITCHED,
+        payment_scripts::MINTED_AND_SWITCHED_PRINTS,
+    ),
+    (
+        payment_scripts::NO_GOOD_SIGNATURE,
+        payment_scripts::NO_GOOD_SIGNATURE_PRINTS,
+    ),
+    (
+        payment_scripts::SAME_BLOCK_AS_BYTES,
+        payment_scripts::SAME_BLOCK_AS_BYTES_PRINTS,
+    ),
+];
+
+#[test]
+fn scripts_of_transactions(rt: HostRuntime) {
+    for (script, printed) in PAYMENTS {
         prints(&rt, rt.alloc(), *script, *printed);
     }
 }

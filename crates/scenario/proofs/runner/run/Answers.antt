@@ -1,7 +1,7 @@
 use Rattle.std.proofs.Common.{refl, sym, ◌∙◌, vec_len, rules, arith}
 use Rattle.scenario.specs.Run.{script_network}
 use Rattle.scenario.proofs.ForCallers.{none_begun}
-use Rattle.scenario.proofs.Runs.{opened, stepped, stopped, not_written, not_read, ended, part_into, line_into, not_empty, is_nil}
+use Rattle.scenario.proofs.Runs.{opened, stepped, stopped, not_written, not_read, no_line_told, ended, unended, part_into, line_into, not_empty, is_nil}
 use Rattle.scenario.proofs.WrittenParts.{appends_none}
 use Rattle.scenario.proofs.runner.run.Goals as goal
 
@@ -45,6 +45,16 @@ returns-then-is_empty-clause-ok g c =
     (line_into (g.R.Read.remaining c.args.reader.now) (g.R.Read.remaining c.loop-number.reader) (g.R.Read.remaining c.read_until.new.self) c.loop-number.invariant.done c.new-line.result.items c.read_until.new.buf.items c.read_until.new.buf.items
     c.loop-number.invariant.read c.new-line.ensures.items refl c.in_default-read_until.ensures.bytes c.in_default-read_until.ensures.rest)
     (is_nil c.read_until.new.buf.items (vec_len c.read_until.new.buf) (search rules) (sym c.is_empty.ensures ∙ c.if-is_empty.true))
+    (no_line_told c.open_line.result _ (c.open_line.ensures c.loop-number.invariant.scene c.loop-number.invariant.holds) c.in_default-open_line.not-Some)
+
+pub returns-in-Some-clause-fault : goal.returns-in-Some-clause-fault
+returns-in-Some-clause-fault g c = rw c.unended.ensures
+    (unended c.args.genesis c.loop-number.session c.loop-number.before c.loop-number.number (g.R.Read.remaining c.args.reader.now) (g.R.Read.remaining c.loop-number.reader) (g.R.Read.remaining c.read_until.new.self)
+    (g.W.Write.contents c.args.writer.now) (g.W.Write.contents c.loop-number.writer) c.read_until.new.buf.items c.in-Some.begun c.loop-number.invariant
+    (line_into (g.R.Read.remaining c.args.reader.now) (g.R.Read.remaining c.loop-number.reader) (g.R.Read.remaining c.read_until.new.self) c.loop-number.invariant.done c.new-line.result.items c.read_until.new.buf.items c.read_until.new.buf.items
+    c.loop-number.invariant.read c.new-line.ensures.items refl c.in_default-read_until.ensures.bytes c.in_default-read_until.ensures.rest)
+    (is_nil c.read_until.new.buf.items (vec_len c.read_until.new.buf) (search rules) (sym c.is_empty.ensures ∙ c.if-is_empty.true))
+    (c.in-Some.ensures c.loop-number.invariant.scene c.loop-number.invariant.holds))
 
 pub returns-in_default-clause-fault : goal.returns-in_default-clause-fault
 returns-in_default-clause-fault g c = none_begun (script_network c.args.genesis) (g.R.Read.remaining c.args.reader.now) (g.W.Write.contents c.args.writer.now)

@@ -1,14 +1,34 @@
-use Rattle.std.proofs.Common.{subst, sym, List, ℕ}
+use Rattle.script.specs.Meaning.{Arrives, PrintsTip, PrintsUtxo, Means, is_late_line, parse_within}
+use Rattle.script.proofs.ForCallers.{never_both}
 use Rattle.scenario.specs.Run.{script_network}
-use Rattle.scenario.specs.SessionView.{Acted}
-use Rattle.scenario.specs.declared.session.Session.{Session}
-use Rattle.script.specs.Meaning.{meaning_of}
-use Rattle.scenario.proofs.AskedLines.{defined}
+use Rattle.scenario.proofs.AskedLines.{defined, done_so}
 use Rattle.scenario.proofs.session.Session.obey.Goals as goal
 
 pub returns-in-Ok-Nothing-clause-obeyed : goal.returns-in-Ok-Nothing-clause-obeyed
 returns-in-Ok-Nothing-clause-obeyed c = λ s holds.
     let asked = c.in-Ok-Nothing.ensures.asks s.names holds.names in
-    let new : Session = record { alloc = c.args.self.now.alloc; core = c.args.self.now.core; names = c.obey.new.self } in
-    subst (λ (out : List ℕ). Acted (script_network c.args.self.now.core.genesis) s (meaning_of c.args.before s.names c.args.line.now) out new) (sym c.new.ensures.items)
-    (defined (script_network c.args.self.now.core.genesis) s (meaning_of c.args.before s.names c.args.line.now) asked.meaning new asked.is_said (rw c.in-Ok-Nothing.field-0-is at asked.is_request) asked.named holds.stands)
+    let request = rw c.in-Ok-Nothing.field-0-is at asked.is_request in
+    defined (script_network c.args.self.now.core.genesis) s (Means c.args.at.number c.args.at.before s.names c.args.line.now) asked.meaning request.0 c.new.result.items
+    (record { alloc = c.args.self.now.alloc; core = c.args.self.now.core; names = c.obey.new.self }) asked.is_meant request.1 request.2 holds.stands c.new.ensures.items
+
+pub returns-in-Ok-Arrive-clause-obeyed : goal.returns-in-Ok-Arrive-clause-obeyed
+returns-in-Ok-Arrive-clause-obeyed c = λ s holds.
+    let asked = c.in-Ok-Arrive.ensures.asks s.names holds.names in
+    let request = rw c.in-Ok-Arrive.field-0-is at asked.is_request in
+    done_so (script_network c.args.self.now.core.genesis) s (Means c.args.at.number c.args.at.before s.names c.args.line.now) (is_late_line (parse_within c.args.at.before c.args.line.now)) asked.meaning
+    (Arrives c.in-Ok-Arrive.form c.in-Ok-Arrive.name.text.now request.0.bytes) c.arrive.result c.arrive.new.self asked.is_meant request.2
+    (λ fault. never_both c.args.at.number c.args.at.before s.names c.args.line.now asked.meaning fault asked.is_meant) (c.arrive.ensures.obeyed s (record { stands = holds.stands; names = request.3 }) request.0 request.1)
+
+pub returns-in-Ok-Tip-clause-obeyed : goal.returns-in-Ok-Tip-clause-obeyed
+returns-in-Ok-Tip-clause-obeyed c = λ s holds.
+    let asked = c.in-Ok-Tip.ensures.asks s.names holds.names in
+    let request = rw c.in-Ok-Tip.field-0-is at asked.is_request in
+    done_so (script_network c.args.self.now.core.genesis) s (Means c.args.at.number c.args.at.before s.names c.args.line.now) (is_late_line (parse_within c.args.at.before c.args.line.now)) asked.meaning PrintsTip c.tip.result _ asked.is_meant request.0
+    (λ fault. never_both c.args.at.number c.args.at.before s.names c.args.line.now asked.meaning fault asked.is_meant) (c.tip.ensures s (record { stands = holds.stands; names = request.1 }))
+
+pub returns-in-Ok-Utxo-clause-obeyed : goal.returns-in-Ok-Utxo-clause-obeyed
+returns-in-Ok-Utxo-clause-obeyed c = λ s holds.
+    let asked = c.in-Ok-Utxo.ensures.asks s.names holds.names in
+    let request = rw c.in-Ok-Utxo.field-0-is at asked.is_request in
+    done_so (script_network c.args.self.now.core.genesis) s (Means c.args.at.number c.args.at.before s.names c.args.line.now) (is_late_line (parse_within c.args.at.before c.args.line.now)) asked.meaning PrintsUtxo c.utxo.result _ asked.is_meant request.0
+    (λ fault. never_both c.args.at.number c.args.at.before s.names c.args.line.now asked.meaning fault asked.is_meant) (c.utxo.ensures s (record { stands = holds.stands; names = request.1 }))

@@ -1,0 +1,117 @@
+//! What the lines of a script do, within a transaction and outside.
+
+ghost use Rattle.std.specs.Prelude.{◌≡◌, None, Some, false};
+ghost use Rattle.script.specs.LineView.{line_of};
+ghost use Rattle.script.specs.Meaning.{OpensFollower, TellsFollower, arrival_meaning, is_late, meaning_inside};
+ghost use Rattle.script.specs.Meaning.{where_free, where_known};
+ghost use Rattle.script.specs.Names.{AllNames, OpenTx, bound_to};
+ghost use Rattle.script.specs.PartView.{part_of};
+ghost use Rattle.script.specs.Line.{AddPart};
+ghost use Rattle.script.specs.RequestView.{AreNamed, AsksFor, AsksOutside};
+
+use crate::fault::LineFault;
+use crate::line::{Form, Line};
+use crate::name::Name;
+use crate::names::Names;
+use crate::part::Part;
+use crate::request::Request;
+use crate::stop::Stop;
+
+impl Names {
+    /// A line in which the bytes of a name arrive.
+    fn ask_arrival<'a>(&self, form: Form, name: Name<'a>) -> Result<Request<'a>, Stop>
+        ensures { (names : AllNames) → AreNamed self.now names → AsksFor names
+            (arrival_meaning form name.entry.text.now (bound_to name.entry.text.now names.of_bytes)) false result
+            self.now }
+    {
+        if self.has_bytes(name) {
+            Ok(Request::Arrive { form, name })
+        } else {
+            Err(Stop::Fault(LineFault::UnknownName))
+        }
+    }
+
+    /// A line that opens a follower. Its name gets its room.
+    fn ask_opening<'a>(&mut self, name: Name<'a>) -> Result<Request<'a>, Stop>
+        ensures { (names : AllNames) → AreNamed self.old names → AsksFor names
+            (where_free (bound_to name.entry.text.now names.of_followers) (Ok (OpensFollower name.entry.text.now)))
+            false result self.new }
+    {
+        if self.followers.get(name.text).is_some() {
+            return Err(Stop::Fault(LineFault::NameTaken));
+        }
+        self.followers.take_room(name.text)?;
+        Ok(Request::Open { name })
+    }
+
+    /// The question what a follower is told next.
+    fn ask_next<'a>(&self, name: Name<'a>) -> Result<Request<'a>, Stop>
+        ensures { (names : AllNames) → AreNamed self.now names → AsksFor names
+            (where_known (bound_to name.entry.text.now names.of_followers)
+            (λ id. Ok (TellsFollower name.entry.text.now id))) false result self.now }
+    {
+        match self.followers.get(name.text) {
+            Some(id) => Ok(Request::Next { name, id }),
+            None => Err(Stop::Fault(LineFault::UnknownName)),
+        }
+    }
+
+    /// A part is added to the transaction in the making.
+    fn add_part<'a>(&mut self, part: Part<'_>) -> Result<Request<'a>, Stop>
+        ensures { (names : AllNames) → AreNamed self.old names → (made : OpenTx) → names.making ≡ Some made
+            → AsksFor names (meaning_inside names made (AddPart (part_of part.entry)))
+            (is_late (AddPart (part_of part.entry))) result self.new }
+    {
+        let Some(mut open) = self.making.take() else {
+            return Err(Stop::Fault(LineFault::BadLine));
+        };
+        let added = self.known.add(&mut open.draft, part);
+        self.making = Some(open);
+        added?;
+        Ok(Request::Nothing)
+    }
+
+    /// Does what a line says between `tx` and `end`, where only parts and empty lines stand.
+    pub(crate) fn obey_inside<'a>(&mut self, line: Line<'a>) -> Result<Request<'a>, Stop>
+        ensures { (names : AllNames) → AreNamed self.old names → (made : OpenTx) → names.making ≡ Some made
+            → AsksFor names (meaning_inside names made (line_of line.entry)) (is_late (line_of line.entry))
+            result self.new }
+    {
+        match line {
+            Line::Nothing => Ok(Request::Nothing),
+            Line::Part(part) => self.add_part(part),
+            Line::End => self.end_tx(),
+            _ => Err(Stop::Fault(LineFault::BadLine)),
+        }
+    }
+
+    /// Does what a line of this number says elsewhere.
+    pub(crate) fn obey_outside<'a>(
+        &mut self,
+        number: u64,
+        line: Line<'a>,
+    ) -> Result<Request<'a>, Stop>
+        ensures { (names : AllNames) → AreNamed self.old names
+            → AsksOutside number names (line_of line.entry) result self.new }
+    {
+        match line {
+            Line::Nothing => Ok(Request::Nothing),
+            Line::Key { name, digits } => self.define_key(name, digits),
+            Line::Script { name, digits } => self.define_script(name, digits),
+            Line::Tx { name } => self.begin_tx(number, name),
+            Line::Block {
+                name,
+                parent,
+                slot,
+                transactions,
+            } => self.define_block(name, parent, slot, transactions),
+            Line::Raw { name, digits } => self.define_raw(name, digits),
+            Line::Arrive { form, name } => self.ask_arrival(form, name),
+            Line::Open { name } => self.ask_opening(name),
+            Line::Next { name } => self.ask_next(name),
+            Line::Tip => Ok(Request::Tip),
+            Line::Utxo => Ok(Request::Utxo),
+            Line::Part(_) | Line::End => Err(Stop::Fault(LineFault::BadLine)),
+        }
+    }
+}

@@ -1,0 +1,11 @@
+//! The transaction between its line `tx` and its line `end`.
+
+use draft::Draft;
+
+/// A transaction in the making, with its name and the number of its line `tx`.
+#[derive(Drop)]
+pub struct OpenTx {
+    pub name: Vec<u8>,
+    pub line: u64,
+    pub draft: Draft,
+}
