@@ -4,4 +4,5 @@ pub mod Kept
 pub mod Texts
 pub mod FullBlocks
 pub mod OneAnswer
+pub mod SeenBlocks
 pub mod ForCallers

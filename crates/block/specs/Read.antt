@@ -4,6 +4,8 @@ use Rattle.model.specs.Limits.{block_size_limit}
 use Rattle.model.specs.Block.{Block, SpellsBlock, body_hash_of}
 use Rattle.block.specs.declared.fault.NoBlock.{NoBlock}
 use Rattle.block.specs.declared.fault.NoBlock.TheVariants as none
+use Rattle.block.specs.declared.fault.BadBytes.{BadBytes}
+use Rattle.block.specs.declared.fault.BadBytes.TheVariants as bad
 use Rattle.block.specs.declared.fault.ReadFault.{ReadFault}
 use Rattle.block.specs.declared.fault.ReadFault.TheVariants.{TooLarge, Malformed, BodyHashMismatch, OutOfMemory}
 
@@ -37,6 +39,12 @@ IsNoBlock bytes none.TooLarge = block_size_limit < length bytes
 IsNoBlock bytes none.Malformed = IsMalformed bytes
 IsNoBlock bytes none.BodyHashMismatch = IsMismatched bytes
 IsNoBlock bytes none.OutOfMemory = IsUnread bytes
+
+-- when each reason comes why bytes are no block, whatever the memory: the first one that applies
+abbrev pub IsBadBytes : List ℕ → BadBytes → Type 0
+IsBadBytes bytes bad.TooLarge = block_size_limit < length bytes
+IsBadBytes bytes bad.Malformed = IsMalformed bytes
+IsBadBytes bytes bad.BodyHashMismatch = IsMismatched bytes
 
 -- The bytes are not too many, and where they spell a block without transactions they are read as it, if only there is
 -- memory for it.

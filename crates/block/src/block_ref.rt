@@ -1,16 +1,18 @@
 //! Blocks in bytes that are borrowed.
 
-ghost use Rattle.std.specs.Prelude.{◌≡◌, ◌↔◌, IsTrue, IfOk, IfErr};
-ghost use Rattle.model.specs.Block.{block_text, block_hash_of};
+ghost use Rattle.std.specs.Prelude.{◌≡◌, ◌↔◌, ℕ, List, IsTrue, IfOk, IfErr};
+ghost use Rattle.model.specs.Block.{block_hash_of};
 ghost use Rattle.block.specs.Read.{IsRead, IsNoBlock};
+ghost use Rattle.block.specs.PartsOf.{ArePartsOf};
 
 use crate::block::Block;
-use crate::checked_block::CheckedBlock;
+use crate::block_parts::BlockParts;
+use crate::checked_block::{CheckedBlock, check_all};
 use crate::fault::NoBlock;
 use crate::header::Header;
 use crate::reading;
 use cbor::CborFault;
-use ident::{BlockHash, BodyHash};
+use ident::{BlockHash, BodyHash, Point};
 use std::alloc::{AllocError, Global};
 use std::marker::Model;
 use tx::Tx;
@@ -66,11 +68,27 @@ impl<'a> BlockRef<'a> {
         self.header.number
     }
 
-    /// Whether the block has the same text as another.
-    pub fn has_text_of<S: SigScheme>(&self, other: &CheckedBlock<S>) -> bool
-        ensures { IsTrue result ↔ (block_text other.now ≡ block_text self.now) }
+    /// The place of the block on its chain: its number and its hash.
+    pub fn point(&self) -> Point
+        ensures number { result.number ≡ self.now.header.number }
+        ensures hash { result.hash.bytes ≡ block_hash_of self.now }
     {
-        same_bytes(other.bytes(), self.bytes)
+        Point {
+            number: self.header.number,
+            hash: self.hash,
+        }
+    }
+
+    /// What was computed of the bytes, apart from them. The transactions are moved.
+    pub(crate) fn into_parts(self) -> BlockParts
+        ensures { (bytes : List ℕ) → IsRead self.entry bytes → ArePartsOf result bytes }
+    {
+        BlockParts {
+            hash: self.hash,
+            header: self.header,
+            body_size: self.body_size,
+            transactions: self.transactions,
+        }
     }
 
     /// The block with a copy of the bytes, in two allocations. Its transactions are moved.
@@ -95,22 +113,17 @@ impl<'a> BlockRef<'a> {
     ) -> Result<CheckedBlock<S>, AllocError>
         ensures { IfOk result (λ b. b ≡ self.entry) }
     {
+        let bytes = Vec::from_slice(alloc, self.bytes)?;
+        let transactions = check_all(alloc, self.transactions)?;
         CheckedBlock::of_parts(
             alloc,
-            self.bytes,
+            bytes,
             self.hash,
             self.header,
             self.body_size,
-            self.transactions,
+            transactions,
         )
     }
-}
-
-/// Whether the bytes are the same.
-fn same_bytes(bytes: &[u8], other: &[u8]) -> bool
-    ensures { IsTrue result ↔ (bytes.now ≡ other.now) }
-{
-    bytes == other
 }
 
 /// Whether two body hashes are the same.

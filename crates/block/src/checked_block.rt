@@ -8,7 +8,7 @@ ghost use Rattle.block.specs.Reading.{block_with};
 ghost use Rattle.block.specs.View.{bytes_of, header_of};
 ghost use Rattle.block.specs.Read.{IsRead, IsReadFault};
 
-use crate::block_ref::{BlockRef, look};
+use crate::block_ref::look;
 use crate::fault::{NoBlock, ReadFault};
 use crate::header::Header;
 use ident::{BlockHash, Point};
@@ -111,6 +111,13 @@ impl<S: SigScheme> CheckedBlock<S> {
         &self.inner.transactions
     }
 
+    /// Whether these bytes are the text of the block. Linear in the bytes.
+    pub fn has_text(&self, bytes: &[u8]) -> bool
+        ensures { IsTrue result ↔ (block_text self.now ≡ bytes.now) }
+    {
+        same_bytes(self.bytes(), bytes)
+    }
+
     /// The place of the block on its chain: its number and its hash.
     pub fn point(&self) -> Point
         ensures number { result.number ≡ self.now.header.number }
@@ -182,8 +189,15 @@ impl<S: SigScheme> fmt::Debug for CheckedBlock<S> {
     }
 }
 
+/// Whether the bytes are the same.
+fn same_bytes(bytes: &[u8], other: &[u8]) -> bool
+    ensures { IsTrue result ↔ (bytes.now ≡ other.now) }
+{
+    bytes == other
+}
+
 /// The transactions with their verdicts, in order.
-fn check_all<S: SigScheme>(
+pub fn check_all<S: SigScheme>(
     alloc: Global,
     transactions: Vec<Tx>,
 ) -> Result<Vec<CheckedTx<S>>, AllocError>
@@ -197,26 +211,26 @@ fn check_all<S: SigScheme>(
 }
 
 impl<S: SigScheme> CheckedBlock<S> {
-    /// A block of its own with these parts, and with a copy of the bytes.
+    /// A block of its own with these parts, which are moved in.
     pub(crate) fn of_parts(
         alloc: Global,
-        bytes: &[u8],
+        bytes: Vec<u8>,
         hash: BlockHash,
         header: Header,
         body_size: usize,
-        transactions: Vec<Tx>,
+        transactions: Vec<CheckedTx<S>>,
     ) -> Result<CheckedBlock<S>, AllocError>
-        requires read { IsRead (block_with (header_of header, transactions.items)) bytes.now }
+        requires read { IsRead (block_with (header_of header, transactions.items)) bytes.items }
         requires hash { hash.bytes ≡ block_hash_of (block_with (header_of header, transactions.items)) }
         requires body_size { body_size ≡ body_size_of (block_with (header_of header, transactions.items)) }
         ensures { IfOk result (λ b. b ≡ block_with (header_of header, transactions.items)) }
     {
         let inner = CheckedInner {
-            bytes: Vec::from_slice(alloc, bytes)?,
+            bytes,
             hash,
             header,
             body_size,
-            transactions: check_all::<S>(alloc, transactions)?,
+            transactions,
         };
         Ok(CheckedBlock {
             inner: Arc::new(alloc, inner)?,

@@ -26,6 +26,20 @@ pub enum NoBlock {
     OutOfMemory,
 }
 
+/// Why bytes are no block, whatever the memory, in the order in which the reasons are looked for.
+#[derive(Clone, Copy, Debug, PartialEq, Eq, Error)]
+pub enum BadBytes {
+    /// There are more than 1,048,576 bytes.
+    #[error("the block is larger than 1048576 bytes")]
+    TooLarge,
+    /// The bytes are the text of no block.
+    #[error("the bytes are no block")]
+    Malformed,
+    /// The header names another body hash than the body's.
+    #[error("the body has another hash than the header names")]
+    BodyHashMismatch,
+}
+
 /// Why bytes are not read as a block, in the order in which the reasons are looked for.
 #[derive(Clone, Copy, Debug, PartialEq, Eq, Error)]
 pub enum ReadFault {

@@ -2,6 +2,7 @@
 #![tactic(auto)]
 
 mod block;
+mod block_parts;
 mod block_ref;
 mod checked_block;
 mod fault;
@@ -9,13 +10,15 @@ mod full;
 mod header;
 mod laws;
 mod reading;
+mod seen;
 mod writing;
 
 pub use block::{Block, read};
 pub use block_ref::{BlockRef, MAX_BLOCK_SIZE, look};
 pub use checked_block::CheckedBlock;
-pub use fault::{NoBlock, NoText, ReadFault, WriteFault};
+pub use fault::{BadBytes, NoBlock, NoText, ReadFault, WriteFault};
 pub use full::{write, write_with_hash};
 pub use header::Header;
 pub use laws::one_answer;
+pub use seen::Seen;
 pub use writing::{empty_body_hash, write_empty};

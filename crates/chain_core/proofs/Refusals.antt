@@ -10,7 +10,7 @@ use Rattle.model.specs.History.{State, Refusal, TooLarge, Malformed, BodyHashMis
 use Rattle.model.specs.Codes.{refusal_at, refusal_back}
 use Rattle.model.proofs.Lists.{contains_filter}
 use Rattle.model.proofs.BlockTexts.{one_block, block_text_is}
-use Rattle.chain_core.specs.Judgements.{IsClash, IsJudged}
+use Rattle.chain_core.specs.Judgements.{IsClash, IsClashWith, IsJudged}
 use Rattle.chain_core.proofs.Candidates.{live_is_kept, live_number}
 use Rattle.chain_core.proofs.Steps.{state}
 
@@ -119,6 +119,32 @@ HasLiveClash m kept b = Any (λ c. (m < c.header.number) × IsClash c b) kept
 
 abbrev pub HasClash : List Block → Block → Type 0
 HasClash chain b = Any (λ c. IsClash c b) chain
+
+-- the same, told by the block's text and hash
+
+pub known_by_text : (m : ℕ) (kept : List Block) (b : Block) (bytes : List ℕ) → IsRead b bytes → Any (λ c. (m < c.header.number) × (block_text c ≡ bytes)) kept ↔ IsKnown m kept b
+known_by_text m kept b bytes read =
+    let text : bytes ≡ block_text b = sym (block_text_is b bytes read.read) in (
+      (λ any. subst (λ (t : List ℕ). Any (λ c. (m < c.header.number) × (block_text c ≡ t)) kept) text any),
+      (λ any. subst (λ (t : List ℕ). Any (λ c. (m < c.header.number) × (block_text c ≡ t)) kept) (sym text) any),
+    )
+
+pub live_clash_by_text : (m : ℕ) (kept : List Block) (b : Block) (hash bytes : List ℕ) → IsRead b bytes → hash ≡ block_hash_of b
+    → Any (λ c. (m < c.header.number) × IsClashWith hash bytes c) kept ↔ HasLiveClash m kept b
+live_clash_by_text m kept b hash bytes read same =
+    let text : bytes ≡ block_text b = sym (block_text_is b bytes read.read) in
+    let are : (hash, bytes) ≡ (block_hash_of b, block_text b) = λ i. (same i, text i) in (
+      (λ any. subst (λ (p : List ℕ × List ℕ). Any (λ c. (m < c.header.number) × IsClashWith p.0 p.1 c) kept) are any),
+      (λ any. subst (λ (p : List ℕ × List ℕ). Any (λ c. (m < c.header.number) × IsClashWith p.0 p.1 c) kept) (sym are) any),
+    )
+
+pub clash_by_text : (chain : List Block) (b : Block) (hash bytes : List ℕ) → IsRead b bytes → hash ≡ block_hash_of b → Any (λ c. IsClashWith hash bytes c) chain ↔ HasClash chain b
+clash_by_text chain b hash bytes read same =
+    let text : bytes ≡ block_text b = sym (block_text_is b bytes read.read) in
+    let are : (hash, bytes) ≡ (block_hash_of b, block_text b) = λ i. (same i, text i) in (
+      (λ any. subst (λ (p : List ℕ × List ℕ). Any (λ c. IsClashWith p.0 p.1 c) chain) are any),
+      (λ any. subst (λ (p : List ℕ × List ℕ). Any (λ c. IsClashWith p.0 p.1 c) chain) (sym are) any),
+    )
 
 pub judged_old : (genesis : Genesis) (kept chain : List Block) (b : Block) (m : ℕ) → m ≡ immutable_length genesis chain → b.header.number ≤ m → IsJudged genesis (state kept chain) b (Some TooOld)
 judged_old genesis kept chain b m is old bytes read =

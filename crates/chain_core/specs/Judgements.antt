@@ -1,13 +1,22 @@
 -- What the core says of a block that was read: a refusal, the first one that applies, or none.
 use Rattle.std.specs.Prelude.{◌≡◌, ◌≢◌, ℕ, List, Option, MatchOption}
+use Rattle.ident.specs.declared.point.Point.{Point}
 use Rattle.block.specs.Read.{IsRead}
 use Rattle.model.specs.Block.{Block, block_hash_of, block_text}
 use Rattle.model.specs.Genesis.{Genesis}
 use Rattle.model.specs.History.{State, Refusal, Applies, IsRefused}
 
+-- this hash, and another text than these bytes
+abbrev pub IsClashWith : List ℕ → List ℕ → Block → Type 0
+IsClashWith hash bytes c = (block_hash_of c ≡ hash) × (block_text c ≢ bytes)
+
 -- the same hash, and another text
 abbrev pub IsClash : Block → Block → Type 0
-IsClash c b = (block_hash_of c ≡ block_hash_of b) × (block_text c ≢ block_text b)
+IsClash c b = IsClashWith (block_hash_of b) (block_text b) c
+
+-- the point has the number and the hash of the block
+abbrev pub IsPointOf : Point → Block → Type 0
+IsPointOf point b = (point.number ≡ b.header.number) × (point.hash.bytes ≡ block_hash_of b)
 
 -- the answer of a state to the bytes of a block that was read
 abbrev pub IsJudged : Genesis → State → Block → Option Refusal → Type 0

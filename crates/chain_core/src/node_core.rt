@@ -8,7 +8,7 @@ use crate::follower::{
 use crate::keeping::keep;
 use crate::refusal::first_refusal;
 use crate::selected::Selected;
-use block::{CheckedBlock, NoBlock};
+use block::{BadBytes, CheckedBlock, NoBlock, Seen};
 use genesis::Genesis;
 use ident::Point;
 use ledger::LedgerState;
@@ -117,11 +117,60 @@ impl<S: SigScheme> Core<S> {
             &self.genesis,
             &self.kept,
             &self.selected.chain,
-            &found,
+            found.point(),
+            found.bytes(),
         ) {
             return Ok(ArriveReply::Refused(refusal));
         }
         let block = found.into_checked_block(self.alloc)?;
+        let change = keep(
+            self.alloc,
+            &self.genesis,
+            &mut self.kept,
+            &mut self.selected,
+            block,
+        )?;
+        Ok(ArriveReply::Kept {
+            back: change.back,
+            added: change.added,
+        })
+    }
+
+    /// Bytes of a block arrive that were read before, on this thread or another. The answer is that of [`Core::arrive`]
+    /// to the bytes. Where memory runs out nothing changes.
+    ///
+    /// Hashes and copies no bytes, and verifies no signature: that was done when they were seen, also of a block that
+    /// is then refused. A refusal takes no memory. Takes time that grows with the kept blocks times the longest fork
+    /// past the immutable tip.
+    pub fn arrive_seen(&mut self, seen: Seen<S>) -> Result<ArriveReply, AllocError>
+        // For every state of the definitions that the core stands for, this is a step to one that it then stands for.
+        ensures step { (s : State) → Stands self.old s → (t : State)
+            × Step (network_of self.old.genesis S.verifies) s (Arrive seen) (arrive_reply_of result) t
+            × Stands self.new t }
+        // Memory is asked for only where no refusal applies.
+        ensures memory { OnErr result ((s : State) → Stands self.old s → (refusal : history.Refusal) →
+            Applies self.old.genesis s seen refusal → ⊥) }
+        ensures size { OnErr result (length seen ≤ block_size_limit) }
+        ensures genesis { self.new.genesis ≡ self.old.genesis }
+        ensures err { OnErr result (self.new ≡ self.old) }
+    {
+        let block = match seen.into_result() {
+            Ok(block) => block,
+            Err(BadBytes::TooLarge) => return Ok(ArriveReply::Refused(Refusal::TooLarge)),
+            Err(BadBytes::Malformed) => return Ok(ArriveReply::Refused(Refusal::Malformed)),
+            Err(BadBytes::BodyHashMismatch) => {
+                return Ok(ArriveReply::Refused(Refusal::BodyHashMismatch));
+            }
+        };
+        if let Some(refusal) = first_refusal(
+            &self.genesis,
+            &self.kept,
+            &self.selected.chain,
+            block.point(),
+            block.bytes(),
+        ) {
+            return Ok(ArriveReply::Refused(refusal));
+        }
         let change = keep(
             self.alloc,
             &self.genesis,

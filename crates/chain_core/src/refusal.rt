@@ -8,56 +8,59 @@ ghost use Rattle.model.specs.Chain.{live_blocks};
 ghost use Rattle.model.specs.History.{Applies, IsRefused};
 ghost use Rattle.model.specs.History as history;
 ghost use Rattle.chain_core.specs.Views.{refusal_of};
-ghost use Rattle.chain_core.specs.Judgements.{IsClash, IsJudged};
+ghost use Rattle.chain_core.specs.Judgements.{IsClashWith, IsPointOf, IsJudged};
 
 use crate::arrival::Refusal;
 use crate::selection::immutable_length;
-use block::{BlockRef, CheckedBlock};
+use block::CheckedBlock;
 use genesis::Genesis;
+use ident::{BlockHash, Point};
 use witness_pool::SigScheme;
 
-/// Whether the two blocks have the same hash and different texts.
-fn clashes<S: SigScheme>(block: &CheckedBlock<S>, other: &BlockRef<'_>) -> bool
-    ensures { IsTrue result ↔ IsClash block.now other.now }
+/// Whether the block has this hash and another text than these bytes.
+fn clashes<S: SigScheme>(block: &CheckedBlock<S>, hash: BlockHash, bytes: &[u8]) -> bool
+    ensures { IsTrue result ↔ IsClashWith hash.bytes bytes.now block.now }
 {
-    block.hash() == other.hash() && !other.has_text_of(block)
+    block.hash() == hash && !block.has_text(bytes)
 }
 
-/// Whether a block past this number has the same text.
-fn is_known<S: SigScheme>(immutable: u64, kept: &[CheckedBlock<S>], block: &BlockRef<'_>) -> bool
+/// Whether a block past this number has these bytes as its text.
+fn is_known<S: SigScheme>(immutable: u64, kept: &[CheckedBlock<S>], bytes: &[u8]) -> bool
     ensures { IsTrue result ↔ Any (λ c. (immutable < c.header.number)
-        × (block_text c ≡ block_text block.now)) kept.now }
+        × (block_text c ≡ bytes.now)) kept.now }
 {
     for other in kept {
-        if other.number() > immutable && block.has_text_of(other) {
+        if other.number() > immutable && other.has_text(bytes) {
             return true;
         }
     }
     false
 }
 
-/// Whether a block past this number clashes with the block.
+/// Whether a block past this number has this hash and another text than these bytes.
 fn has_live_clash<S: SigScheme>(
     immutable: u64,
     kept: &[CheckedBlock<S>],
-    block: &BlockRef<'_>,
+    hash: BlockHash,
+    bytes: &[u8],
 ) -> bool
-    ensures { IsTrue result ↔ Any (λ c. (immutable < c.header.number) × IsClash c block.now) kept.now }
+    ensures { IsTrue result ↔ Any (λ c. (immutable < c.header.number)
+        × IsClashWith hash.bytes bytes.now c) kept.now }
 {
     for other in kept {
-        if other.number() > immutable && clashes(other, block) {
+        if other.number() > immutable && clashes(other, hash, bytes) {
             return true;
         }
     }
     false
 }
 
-/// Whether a block of the chain clashes with the block.
-fn has_clash<S: SigScheme>(chain: &[CheckedBlock<S>], block: &BlockRef<'_>) -> bool
-    ensures { IsTrue result ↔ Any (λ c. IsClash c block.now) chain.now }
+/// Whether a block of the chain has this hash and another text than these bytes.
+fn has_clash<S: SigScheme>(chain: &[CheckedBlock<S>], hash: BlockHash, bytes: &[u8]) -> bool
+    ensures { IsTrue result ↔ Any (λ c. IsClashWith hash.bytes bytes.now c) chain.now }
 {
     for other in chain {
-        if clashes(other, block) {
+        if clashes(other, hash, bytes) {
             return true;
         }
     }
@@ -73,28 +76,29 @@ fn live_count<S: SigScheme>(immutable: u64, kept: &[CheckedBlock<S>]) -> usize
         .count()
 }
 
-/// Why the block is not kept: the first reason that applies, if any does. Takes time that grows with the kept
-/// blocks, and no memory.
+/// Why the block at this point that was read from these bytes is not kept: the first reason that applies, if any does.
+/// Takes time that grows with the kept blocks, and no memory.
 pub fn first_refusal<S: SigScheme>(
     genesis: &Genesis,
     kept: &[CheckedBlock<S>],
     chain: &[CheckedBlock<S>],
-    block: &BlockRef<'_>,
+    point: Point,
+    bytes: &[u8],
 ) -> Option<Refusal>
-    ensures { IsJudged genesis.now
-        (record { kept = kept.now; chain = chain.now; followers = [] }) block.now (option_map refusal_of result) }
+    ensures { (block : Plain) → IsRead block bytes.now → IsPointOf point block → IsJudged genesis.now
+        (record { kept = kept.now; chain = chain.now; followers = [] }) block (option_map refusal_of result) }
 {
     let immutable = immutable_length(genesis, chain) as u64;
-    if block.number() <= immutable {
+    if point.number <= immutable {
         return Some(Refusal::TooOld);
     }
-    if is_known(immutable, kept, block) {
+    if is_known(immutable, kept, bytes) {
         return Some(Refusal::Known);
     }
-    if has_live_clash(immutable, kept, block) {
+    if has_live_clash(immutable, kept, point.hash, bytes) {
         return Some(Refusal::Clash);
     }
-    if has_clash(chain, block) {
+    if has_clash(chain, point.hash, bytes) {
         return Some(Refusal::Clash);
     }
     if live_count(immutable, kept) as u64 >= genesis.max_volatile() {

@@ -1,1 +1,4 @@
 pub mod Verdicts
+pub mod Dealing
+pub mod Jobs
+pub mod Workers

@@ -3,10 +3,17 @@
 #![tactic(auto)]
 
 mod checked_tx;
+mod dealing;
+mod gate;
+mod pool;
+mod pool_fault;
 mod scheme;
 mod test_scheme;
 mod verdicts;
 
 pub use checked_tx::{CheckedTx, plain};
+pub use gate::{Gate, OpenGate};
+pub use pool::{MAX_WORKERS, Pool};
+pub use pool_fault::PoolFault;
 pub use scheme::SigScheme;
 pub use test_scheme::TestScheme;

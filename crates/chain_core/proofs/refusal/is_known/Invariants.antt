@@ -4,4 +4,4 @@ use Rattle.chain_core.proofs.refusal.is_known.Given as goal
 
 -- none of the blocks so far
 abbrev pub invariant-loop-other : goal.invariant-loop-other
-invariant-loop-other g l = All (λ c. (l.immutable < c.header.number) × (block_text c ≡ block_text l.block) → ⊥) (take l.other-index l.kept)
+invariant-loop-other g l = All (λ c. (l.immutable < c.header.number) × (block_text c ≡ l.bytes) → ⊥) (take l.other-index l.kept)

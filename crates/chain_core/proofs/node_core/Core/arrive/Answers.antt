@@ -11,19 +11,19 @@ use Rattle.chain_core.proofs.node_core.Core.arrive.Goals as goal
 pub returns-in-Some-clause-step : goal.returns-in-Some-clause-step
 returns-in-Some-clause-step g c =
     refused_arrival (network_of c.self.inside.genesis g.S.SigScheme.verifies) c.self.inside.kept.items c.self.inside.selected.chain.items c.deref.result.now c.deref-2.result.now (followers_of c.self.inside.followers.items) c.args.self.now c.args.bytes.now c.in-Ok.found (refusal_of c.in-Some.refusal)
-    c.self.view_is c.deref.ensures.value c.deref-2.ensures.value c.in-Ok.ensures.ok c.in-Some.ensures
+    c.self.view_is c.deref.ensures.value c.deref-2.ensures.value c.in-Ok.ensures.ok (c.in-Some.ensures c.in-Ok.found c.bytes.ensures (c.point.ensures.number, c.point.ensures.hash))
 
 pub keep-requires-clause-sound : goal.keep-requires-clause-sound
 keep-requires-clause-sound g c =
     let none = not_refused c.self.inside.genesis c.self.inside.kept.items c.self.inside.selected.chain.items c.deref.result.now c.deref-2.result.now c.args.bytes.now c.in-Ok.found
-    c.deref.ensures.value c.deref-2.ensures.value c.in-Ok.ensures.ok c.in_default.ensures in
+    c.deref.ensures.value c.deref-2.ensures.value c.in-Ok.ensures.ok (c.in_default.ensures c.in-Ok.found c.bytes.ensures (c.point.ensures.number, c.point.ensures.hash)) in
     let read : IsRead c.in_ok-block.block c.args.bytes.now = subst (λ (b : Block). IsRead b c.args.bytes.now) (sym c.in_ok-block.ensures) c.in-Ok.ensures.ok in
     sound_with (network_of c.self.inside.genesis g.S.SigScheme.verifies) c.self.inside.kept.items c.self.inside.selected.chain.items c.args.bytes.now c.in_ok-block.block c.self.invariant.sound read.read none
 
 pub invariant_of-self-2 : goal.invariant_of-self-2
 invariant_of-self-2 g c =
     let none = not_refused c.self.inside.genesis c.self.inside.kept.items c.self.inside.selected.chain.items c.deref.result.now c.deref-2.result.now c.args.bytes.now c.in-Ok.found
-    c.deref.ensures.value c.deref-2.ensures.value c.in-Ok.ensures.ok c.in_default.ensures in
+    c.deref.ensures.value c.deref-2.ensures.value c.in-Ok.ensures.ok (c.in_default.ensures c.in-Ok.found c.bytes.ensures (c.point.ensures.number, c.point.ensures.hash)) in
     let read : IsRead c.in_ok-block.block c.args.bytes.now = subst (λ (b : Block). IsRead b c.args.bytes.now) (sym c.in_ok-block.ensures) c.in-Ok.ensures.ok in
     record {
       sound = sound_kept (network_of c.self.inside.genesis g.S.SigScheme.verifies) c.self.inside.kept.items c.self.inside.selected.chain.items c.keep.new.kept.items c.keep.new.selected.chain.items c.args.bytes.now c.in_ok-block.block c.self.invariant.sound read none
@@ -35,7 +35,7 @@ invariant_of-self-2 g c =
 pub returns-clause-step : goal.returns-clause-step
 returns-clause-step g c =
     let none = not_refused c.self.inside.genesis c.self.inside.kept.items c.self.inside.selected.chain.items c.deref.result.now c.deref-2.result.now c.args.bytes.now c.in-Ok.found
-    c.deref.ensures.value c.deref-2.ensures.value c.in-Ok.ensures.ok c.in_default.ensures in
+    c.deref.ensures.value c.deref-2.ensures.value c.in-Ok.ensures.ok (c.in_default.ensures c.in-Ok.found c.bytes.ensures (c.point.ensures.number, c.point.ensures.hash)) in
     let read : IsRead c.in_ok-block.block c.args.bytes.now = subst (λ (b : Block). IsRead b c.args.bytes.now) (sym c.in_ok-block.ensures) c.in-Ok.ensures.ok in
     kept_arrival (network_of c.self.inside.genesis g.S.SigScheme.verifies) c.self.inside.kept.items c.self.inside.selected.chain.items c.keep.new.kept.items c.keep.new.selected.chain.items (followers_of c.self.inside.followers.items) c.args.self.now c.args.bytes.now c.in_ok-block.block
     c.in_ok-change.change.back c.in_ok-change.change.added c.self.view_is c.self.invariant.sound read none c.in_ok-change.ensures.kept c.in_ok-change.ensures.selected c.in_ok-change.ensures.change
@@ -43,11 +43,11 @@ returns-clause-step g c =
 pub returns-in_err-block-clause-memory : goal.returns-in_err-block-clause-memory
 returns-in_err-block-clause-memory g c =
     let none = not_refused c.self.inside.genesis c.self.inside.kept.items c.self.inside.selected.chain.items c.deref.result.now c.deref-2.result.now c.args.bytes.now c.in-Ok.found
-    c.deref.ensures.value c.deref-2.ensures.value c.in-Ok.ensures.ok c.in_default.ensures in
+    c.deref.ensures.value c.deref-2.ensures.value c.in-Ok.ensures.ok (c.in_default.ensures c.in-Ok.found c.bytes.ensures (c.point.ensures.number, c.point.ensures.hash)) in
     on_err c.from_residual.result _ (λ b spells empty. none_applies c.self.inside.genesis c.self.inside.kept.items c.self.inside.selected.chain.items (followers_of c.self.inside.followers.items) c.args.self.now c.args.bytes.now c.self.view_is none)
 
 pub returns-in_err-change-clause-memory : goal.returns-in_err-change-clause-memory
 returns-in_err-change-clause-memory g c =
     let none = not_refused c.self.inside.genesis c.self.inside.kept.items c.self.inside.selected.chain.items c.deref.result.now c.deref-2.result.now c.args.bytes.now c.in-Ok.found
-    c.deref.ensures.value c.deref-2.ensures.value c.in-Ok.ensures.ok c.in_default.ensures in
+    c.deref.ensures.value c.deref-2.ensures.value c.in-Ok.ensures.ok (c.in_default.ensures c.in-Ok.found c.bytes.ensures (c.point.ensures.number, c.point.ensures.hash)) in
     on_err c.from_residual-in_err-change.result _ (λ b spells empty. none_applies c.self.inside.genesis c.self.inside.kept.items c.self.inside.selected.chain.items (followers_of c.self.inside.followers.items) c.args.self.now c.args.bytes.now c.self.view_is none)
