@@ -11,7 +11,7 @@ use std::test::Fail;
 use witness_pool::TestScheme;
 
 /// A core that nothing has come to, with k 2.
-fn new_core(alloc: Global) -> Result<Core<TestScheme>, Fail> {
+pub fn new_core(alloc: Global) -> Result<Core<TestScheme>, Fail> {
     let text = document(alloc, "k", "2", &[OUTPUT])?;
     let genesis = Genesis::from_toml(alloc, text.as_str())?;
     Ok(Core::new(alloc, genesis)?)
@@ -19,8 +19,8 @@ fn new_core(alloc: Global) -> Result<Core<TestScheme>, Fail> {
 
 /// A block's text, with what the next block has to know of it.
 #[derive(Drop)]
-struct Made {
-    text: Vec<u8>,
+pub struct Made {
+    pub text: Vec<u8>,
     number: u64,
     hash: BlockHash,
 }
@@ -31,29 +31,34 @@ fn hash_of(alloc: Global, text: &[u8]) -> Result<BlockHash, Fail> {
 }
 
 /// Where a block goes on: its number, and the block before it.
-type Place = (u64, Option<BlockHash>);
+pub type Place = (u64, Option<BlockHash>);
 
 /// The place of a first block.
-fn first() -> Place {
+pub fn first() -> Place {
     (1, None)
 }
 
 /// The place after a block.
-fn after(made: &Made) -> Place {
+pub fn after(made: &Made) -> Place {
     (made.number.saturating_add(1), Some(made.hash))
 }
 
 /// The block of these payments at a place, in this slot.
-fn make(alloc: Global, place: Place, slot: u64, payments: &[Payment]) -> Result<Made, Fail> {
+pub fn make(alloc: Global, place: Place, slot: u64, payments: &[Payment]) -> Result<Made, Fail> {
     let (number, previous) = place;
     let text = text_of(alloc, number, slot, previous, payments)?;
     let hash = hash_of(alloc, &text)?;
     Ok(Made { text, number, hash })
 }
 
+/// The answer to bytes that arrive.
+pub fn arrive_at(core: &mut Core<TestScheme>, bytes: &[u8]) -> Result<ArriveReply, AllocError> {
+    core.arrive(bytes)
+}
+
 /// How many blocks are rolled back and put on when the block arrives, and 9 each where it is refused.
 fn arrive(core: &mut Core<TestScheme>, made: &Made) -> Result<(u64, u64), AllocError> {
-    match core.arrive(&made.text)? {
+    match arrive_at(core, &made.text)? {
         ArriveReply::Kept { back, added } => Ok((back, added)),
         ArriveReply::Refused(_) => Ok((9, 9)),
     }
@@ -69,7 +74,7 @@ fn arrive_all(core: &mut Core<TestScheme>, blocks: &[&Made]) -> Result<(u64, u64
 }
 
 /// The number of the tip, how many outputs are unspent with how much lovelace, and the fees.
-fn seen(core: &Core<TestScheme>) -> Result<(u64, usize, u128, u64), AllocError> {
+pub fn seen(core: &Core<TestScheme>) -> Result<(u64, usize, u128, u64), AllocError> {
     let utxo = core.utxo();
     Ok((core.tip().number, utxo.len(), utxo.coin()?, core.fees()))
 }

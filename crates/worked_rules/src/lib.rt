@@ -21,4 +21,6 @@ mod payments;
 #[cfg(test)]
 mod rules_tests;
 #[cfg(test)]
+mod seen_tests;
+#[cfg(test)]
 mod unspent_tests;

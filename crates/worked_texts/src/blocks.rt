@@ -10,7 +10,7 @@ use std::process::Abort;
 use std::test::Fail;
 
 /// The text of block 1 in slot 1, with no block before it and an empty body.
-const FIRST: [u8; 40] =
+pub const FIRST: [u8; 40] =
     *b"\x82\x84\x01\x01\xf6\x58\x20\x76\xbe\x8b\x52\x8d\x00\x75\xf7\xaa\xe9\x8d\x6f\xa5\x7a\x6d\x3c\x83\xae\x48\x0a\x84\x69\xe6\x68\xd7\xb0\xaf\x96\x89\x95\xac\x71\x80";
 
 /// The SHA-256 digest of its header's text, the 38 bytes after the first.

@@ -23,7 +23,11 @@ mod items;
 #[cfg(test)]
 mod minting;
 #[cfg(test)]
+mod pools;
+#[cfg(test)]
 mod scripts;
+#[cfg(test)]
+mod seen_blocks;
 #[cfg(test)]
 mod sums;
 #[cfg(test)]

@@ -224,6 +224,35 @@ fn scripts_without_signatures(rt: HostRuntime) -> Result<(), Fail> {
     Ok(())
 }
 
+/// Eight scripts that hold never, and eight that hold always.
+const SIXTEEN: &[u8] = b"\x90\
+    \x82\x02\x80\x82\x02\x80\x82\x02\x80\x82\x02\x80\x82\x02\x80\x82\x02\x80\x82\x02\x80\x82\x02\x80\
+    \x82\x01\x80\x82\x01\x80\x82\x01\x80\x82\x01\x80\x82\x01\x80\x82\x01\x80\x82\x01\x80\x82\x01\x80";
+
+/// What asks for 8, 9 and 17 of them, for all and for any, and whether that holds.
+const COUNTS: [(&[u8], bool); 5] = [
+    (b"\x83\x03\x08", true),
+    (b"\x83\x03\x09", false),
+    (b"\x83\x03\x11", false),
+    (b"\x82\x01", false),
+    (b"\x82\x02", true),
+];
+
+/// What asks for the one script behind it: nothing, all of one, any of one, and one of one.
+const AROUND: [&[u8]; 4] = [b"", b"\x82\x01\x81", b"\x82\x02\x81", b"\x83\x03\x01\x81"];
+
+#[test]
+fn nested_counts(rt: HostRuntime) -> Result<(), Fail> {
+    for around in AROUND {
+        for (front, want) in COUNTS {
+            let text = joined(rt.alloc(), &[around, front, SIXTEEN])?;
+            let holds = holds(&rt, rt.alloc(), &text, OPEN)?;
+            assert!(rt; holds == want, "{text:?}");
+        }
+    }
+    Ok(())
+}
+
 /// The script that asks for a signature by the key of the hash of 32 bytes 11.
 const SIGNATURE: [u8; 36] = [
     0x82, 0x00, 0x58, 0x20, 0x11, 0x11, 0x11, 0x11, 0x11, 0x11, 0x11, 0x11, 0x11, 0x11, 0x11, 0x11,

@@ -37,7 +37,11 @@ fn payment(alloc: Global, halves: [&[u8; 32]; 2], scripts: &[u8]) -> Result<Vec<
 }
 
 /// That payment.
-fn read_payment(alloc: Global, halves: [&[u8; 32]; 2], scripts: &[u8]) -> Result<Tx, CborFault> {
+pub fn read_payment(
+    alloc: Global,
+    halves: [&[u8; 32]; 2],
+    scripts: &[u8],
+) -> Result<Tx, CborFault> {
     let text = payment(alloc, halves, scripts)?;
     decoded(alloc, &text)
 }
@@ -64,10 +68,10 @@ fn verdicts_on(
 }
 
 /// The array of the script that asks for all of none, which holds always.
-const ALWAYS: &[u8] = b"\x81\x82\x01\x80";
+pub const ALWAYS: &[u8] = b"\x81\x82\x01\x80";
 
 /// The array of the script that asks for one of none, which holds never.
-const NEVER: &[u8] = b"\x81\x82\x02\x80";
+pub const NEVER: &[u8] = b"\x81\x82\x02\x80";
 
 /// Two halves of a signature, a script, whether the payment is signed, and whether its script holds.
 const SIGNED: [([&[u8; 32]; 2], &[u8], bool, bool); 4] = [
