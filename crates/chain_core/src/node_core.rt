@@ -271,6 +271,13 @@ impl<S: SigScheme> Core<S> {
         }
     }
 
+    /// How many blocks the selected chain has. Takes no memory.
+    pub fn height(&self) -> u64
+        ensures { result ≡ length self.now.chain }
+    {
+        self.selected.chain.len() as u64
+    }
+
     /// The unspent outputs of the selected chain. Takes no memory.
     pub fn utxo(&self) -> &Utxo
         // They are those of the fold of the rules over the chain.

@@ -17,11 +17,13 @@ use Rattle.model.specs.Block.{Header, Block}
 use Rattle.model.specs.Utxo.{Utxo}
 use Rattle.model.specs.Rules.{Params}
 use Rattle.model.specs.Genesis.{Grant, Genesis}
-use Rattle.model.specs.Chain.{Tip}
+use Rattle.model.specs.Chain.{Tip, Point}
 use Rattle.model.specs.Applying.{LedgerState}
-use Rattle.model.specs.Follower.{Followers}
+use Rattle.model.specs.Follower.{Followers, Instruction, Stay, AddBlock, RollBack}
 use Rattle.model.specs.History.{State, Refusal, TooLarge, Malformed, BodyHashMismatch, TooOld, Known, Clash}
-use Rattle.model.specs.History.{VolatileFull, refusal_number}
+use Rattle.model.specs.History.{VolatileFull, refusal_number, Event, Arrive, Open, Next, Reply, Kept, Refused, Opened}
+use Rattle.model.specs.History.{TooManyFollowers, Instructed, UnknownFollower, OutOfMemory, Entry}
+use Rattle.model.specs.Journal.{JournalEntry, Journal, Knowledge}
 
 -- ---- bytes
 
@@ -379,3 +381,114 @@ refusal_back VolatileFull = refl
 -- why bytes are refused
 abbrev pub coded_refusal : Coded Refusal
 coded_refusal = code_by ℕ coded_ℕ refusal_number refusal_at refusal_back
+
+-- ---- events, replies and the journal
+
+-- an event as a number, bytes and an id, and back
+abbrev pub fields_of_event : Event → ℕ × (List ℕ × ℕ)
+fields_of_event (Arrive bytes) = (0, (bytes, 0))
+fields_of_event Open = (1, ([], 0))
+fields_of_event (Next id) = (2, ([], id))
+
+abbrev pub event_at : ℕ → List ℕ → ℕ → Event
+event_at zero bytes id = Arrive bytes
+event_at (suc zero) bytes id = Open
+event_at (suc (suc n)) bytes id = Next id
+
+pub event_back : (e : Event) → event_at (fields_of_event e).0 (fields_of_event e).1.0 (fields_of_event e).1.1 ≡ e
+event_back (Arrive bytes) = refl
+event_back Open = refl
+event_back (Next id) = refl
+
+-- what comes to the node
+abbrev pub coded_event : Coded Event
+coded_event =
+    code_by (ℕ × (List ℕ × ℕ)) (coded× coded_ℕ (coded× coded_bytes coded_ℕ)) fields_of_event
+    (λ p. event_at p.0 p.1.0 p.1.1) event_back
+
+-- an instruction as numbers and bytes, and back
+abbrev pub fields_of_instruction : Instruction → ℕ × (List ℕ × ℕ)
+fields_of_instruction Stay = (0, ([], 0))
+fields_of_instruction (AddBlock bytes) = (1, (bytes, 0))
+fields_of_instruction (RollBack point) = (2, (point.hash, point.number))
+
+abbrev pub instruction_at : ℕ → List ℕ → ℕ → Instruction
+instruction_at zero bytes number = Stay
+instruction_at (suc zero) bytes number = AddBlock bytes
+instruction_at (suc (suc n)) bytes number = RollBack record { number = number; hash = bytes }
+
+pub instruction_back : (i : Instruction)
+    → instruction_at (fields_of_instruction i).0 (fields_of_instruction i).1.0 (fields_of_instruction i).1.1 ≡ i
+instruction_back Stay = refl
+instruction_back (AddBlock bytes) = refl
+instruction_back (RollBack point) = refl
+
+-- what a follower is told
+abbrev pub coded_instruction : Coded Instruction
+coded_instruction =
+    code_by (ℕ × (List ℕ × ℕ)) (coded× coded_ℕ (coded× coded_bytes coded_ℕ)) fields_of_instruction
+    (λ p. instruction_at p.0 p.1.0 p.1.1) instruction_back
+
+-- a reply as three numbers, a refusal and an instruction, and back
+abbrev pub ReplyFields : Type 0
+ReplyFields = ℕ × (ℕ × (ℕ × (Refusal × Instruction)))
+
+abbrev pub fields_of_reply : Reply → ReplyFields
+fields_of_reply (Kept back added) = (0, (back, (added, (TooLarge, Stay))))
+fields_of_reply (Refused refusal) = (1, (0, (0, (refusal, Stay))))
+fields_of_reply (Opened id) = (2, (id, (0, (TooLarge, Stay))))
+fields_of_reply TooManyFollowers = (3, (0, (0, (TooLarge, Stay))))
+fields_of_reply (Instructed instruction) = (4, (0, (0, (TooLarge, instruction))))
+fields_of_reply UnknownFollower = (5, (0, (0, (TooLarge, Stay))))
+fields_of_reply OutOfMemory = (6, (0, (0, (TooLarge, Stay))))
+
+abbrev pub reply_at : ℕ → ℕ → ℕ → Refusal → Instruction → Reply
+reply_at zero m n refusal instruction = Kept m n
+reply_at (suc zero) m n refusal instruction = Refused refusal
+reply_at (suc (suc zero)) m n refusal instruction = Opened m
+reply_at (suc (suc (suc zero))) m n refusal instruction = TooManyFollowers
+reply_at (suc (suc (suc (suc zero)))) m n refusal instruction = Instructed instruction
+reply_at (suc (suc (suc (suc (suc zero))))) m n refusal instruction = UnknownFollower
+reply_at (suc (suc (suc (suc (suc (suc k)))))) m n refusal instruction = OutOfMemory
+
+abbrev pub reply_from : ReplyFields → Reply
+reply_from p = reply_at p.0 p.1.0 p.1.1.0 p.1.1.1.0 p.1.1.1.1
+
+pub reply_back : (r : Reply) → reply_from (fields_of_reply r) ≡ r
+reply_back (Kept back added) = refl
+reply_back (Refused refusal) = refl
+reply_back (Opened id) = refl
+reply_back TooManyFollowers = refl
+reply_back (Instructed instruction) = refl
+reply_back UnknownFollower = refl
+reply_back OutOfMemory = refl
+
+-- what it answers
+abbrev pub coded_reply : Coded Reply
+coded_reply =
+    code_by ReplyFields (coded× coded_ℕ (coded× coded_ℕ (coded× coded_ℕ (coded× coded_refusal coded_instruction))))
+    fields_of_reply reply_from reply_back
+
+-- an event with its reply
+abbrev pub coded_entry : Coded Entry
+coded_entry =
+    code_by (Event × Reply) (coded× coded_event coded_reply) (λ e. (e.event, e.reply))
+    (λ p. record { event = p.0; reply = p.1 }) (λ _. refl)
+
+-- that of a caller
+abbrev pub coded_journal_entry : Coded JournalEntry
+coded_journal_entry =
+    code_by (ℕ × (Option ℕ × Entry)) (coded× coded_ℕ (coded× (coded_option coded_ℕ) coded_entry))
+    (λ e. (e.caller, (e.peer, e.entry))) (λ p. record { caller = p.0; peer = p.1.0; entry = p.1.1 }) (λ _. refl)
+
+-- all of them
+abbrev pub coded_journal : Coded Journal
+coded_journal = coded_list coded_journal_entry
+
+-- what a caller knows
+abbrev pub coded_knowledge : Coded Knowledge
+coded_knowledge =
+    code_by (ℕ × (Journal × (Journal × (ℕ × ℕ))))
+    (coded× coded_ℕ (coded× coded_journal (coded× coded_journal (coded× coded_ℕ coded_ℕ))))
+    (λ k. (k.caller, (k.seen, (k.calls, (k.loads, k.last)))))
+    (λ p. record { caller = p.0; seen = p.1.0; calls = p.1.1.0; loads = p.1.1.1.0; last = p.1.1.1.1 }) (λ _. refl)

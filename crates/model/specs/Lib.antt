@@ -14,6 +14,7 @@ pub mod Chain
 pub mod Applying
 pub mod Follower
 pub mod History
+pub mod Journal
 pub mod Codes
 pub mod Examples
 pub mod TransactionExamples

@@ -1,3 +1,4 @@
 pub mod Loops
 pub mod ForCallers
 pub mod Turns
+pub mod Numbers

@@ -1,7 +1,8 @@
 //! Verdicts on many transactions, by several threads.
 
-ghost use Rattle.std.specs.Prelude.{◌≡◌, map, IfErr, IfOk, OnOk};
-ghost use Rattle.witness_pool.specs.Jobs.{txs_of, shares_of};
+ghost use Rattle.std.specs.Prelude.{◌≡◌, length, map, IfErr, IfOk, OnOk};
+ghost use Rattle.std.specs.List.{range_with_len};
+ghost use Rattle.witness_pool.specs.Jobs.{txs_of, numbers_of, shares_of};
 ghost use Rattle.witness_pool.specs.Workers.{AreWorkers, IsPoolFault};
 
 use crate::checked_tx::{CheckedTx, plain};
@@ -65,9 +66,10 @@ fn check_shares<R: Threads + Sync, G: Gate, S: SigScheme + Send>(
     Ok(all)
 }
 
-/// The jobs with their numbers.
+/// The jobs with their numbers, which are 1, 2 and so on.
 fn numbered(alloc: Global, txs: Vec<Tx>) -> Result<Vec<Job>, AllocError>
-    ensures { IfOk result (λ jobs. txs_of jobs.items ≡ txs.items) }
+    ensures txs { IfOk result (λ jobs. txs_of jobs.items ≡ txs.items) }
+    ensures numbers { IfOk result (λ jobs. numbers_of jobs.items ≡ range_with_len 1 (length txs.items)) }
 {
     let mut jobs = Vec::with_capacity(alloc, txs.len())?;
     for tx in txs {

@@ -28,4 +28,6 @@ mod script_tx_fault_tests;
 #[cfg(test)]
 mod scripts;
 #[cfg(test)]
+mod shared_tests;
+#[cfg(test)]
 mod text_tests;

@@ -13,6 +13,8 @@ mod genesis_tests;
 #[cfg(test)]
 mod ledger_tests;
 #[cfg(test)]
+mod ledgerdb_tests;
+#[cfg(test)]
 mod minting_tests;
 #[cfg(test)]
 mod payment_blocks;

@@ -13,5 +13,5 @@ returns-clause-verdicts g c =
     let view : Job → Transaction = λ job. job.tx in
     let seen = seen_twice (map view) (λ (share : Vec Job). share.items) c.in_ok-shares.shares.items in
     let shares : map txs_of (map (λ (share : Vec Job). share.items) c.in_ok-shares.shares.items) ≡ all_dealt c.args.txs.items none =
-    ap (map (map view)) c.in_ok-shares.ensures ∙ map_dealt view c.in_ok-jobs.jobs.items (replicate c.args.workers []) ∙ ap (all_dealt (map view c.in_ok-jobs.jobs.items)) (none_seen view c.args.workers) ∙ ap (λ (l : List Transaction). all_dealt l none) c.in_ok-jobs.ensures in
+    ap (map (map view)) c.in_ok-shares.ensures ∙ map_dealt view c.in_ok-jobs.jobs.items (replicate c.args.workers []) ∙ ap (all_dealt (map view c.in_ok-jobs.jobs.items)) (none_seen view c.args.workers) ∙ ap (λ (l : List Transaction). all_dealt l none) c.in_ok-jobs.ensures.txs in
     c.in_ok-gather.ensures c.args.txs.items none (some_replicated c.args.workers (omega (arith, c.if-workers-eq0.false))) (omega (arith, c.len-count.ensures, c.args.txs.ok)) (c.in_ok-checked.ensures ∙ seen ∙ shares)

@@ -1,0 +1,134 @@
+use Rattle.std.proofs.Common.{◌≡◌, ◌∙◌, ◌++◌, ◌∷◌, [], ap, subst, sym, refl, Bool, false, true, cond, List}
+use Rattle.block.specs.Read.{IsRead}
+use Rattle.model.specs.Block.{block_text, block_hash_of}
+use Rattle.model.proofs.BlockTexts.{block_text_is}
+use Rattle.blockstore.specs.Stored.{Stored, Store, IsSet, unmarked}
+use Rattle.blockstore.specs.Insertion.{IsAllowed, IsInserted, IsFull}
+use Rattle.blockstore.specs.Answers.{HasNoneAt}
+use Rattle.blockstore.specs.Live.{GainsLive}
+use Rattle.blockstore.proofs.Stores.{AreRead, read_again, known_is_live, known_at, unknown_at, clash_at, unknown, no_clash, with_blocks, inserted, set_with, read_with, live_with}
+use Rattle.blockstore.proofs.store.BlockStore.insert.Goals as goal
+
+pub returns-then-has_text-clause-err : goal.returns-then-has_text-clause-err
+returns-then-has_text-clause-err g c =
+    let text = block_text_is c.args.block c.bytes-text.result.now c.bytes-text.ensures.read in
+    (known_at c.args.self.now c.args.block c.hash.result.bytes c.in-Some.stored.now c.in-Some.ensures (ap block_text (sym c.block-in-Some.ensures) ∙ (c.if-has_text.ensures.0 refl ∙ sym text)), refl)
+
+pub returns-then-has_text-clause-one : goal.returns-then-has_text-clause-one
+returns-then-has_text-clause-one g c =
+    let read : AreRead c.args.self.now.blocks = subst (λ (s : Store). AreRead s.blocks) c.self.view_is c.self.invariant.read in
+    let read_too : IsRead c.args.block (block_text c.args.block) = read_again c.args.block c.bytes-text.result.now c.bytes-text.ensures in
+    known_is_live c.args.self.now c.args.block read read_too
+
+pub returns-in-Some-clause-err : goal.returns-in-Some-clause-err
+returns-in-Some-clause-err g c =
+    let is_set : IsSet c.args.self.now = subst IsSet c.self.view_is c.self.invariant.is_set in
+    let read : AreRead c.args.self.now.blocks = subst (λ (s : Store). AreRead s.blocks) c.self.view_is c.self.invariant.read in
+    let read_too : IsRead c.args.block (block_text c.args.block) = read_again c.args.block c.bytes-text.result.now c.bytes-text.ensures in
+    let text = block_text_is c.args.block c.bytes-text.result.now c.bytes-text.ensures.read in
+    let other = λ (same : block_text c.in-Some.stored.now.block ≡ block_text c.args.block).
+    let e : false ≡ true = c.if-has_text.ensures.1 (ap block_text c.block-in-Some.ensures ∙ (same ∙ text)) in absurd {A = ⊥} cc in (
+      (
+        unknown_at c.args.self.now c.args.block c.hash.result.bytes c.in-Some.stored.now is_set read read_too c.hash.ensures c.in-Some.ensures other,
+        clash_at c.args.self.now c.args.block c.hash.result.bytes c.in-Some.stored.now c.hash.ensures c.in-Some.ensures other,
+      ),
+      refl,
+    )
+
+pub returns-in-Some-clause-one : goal.returns-in-Some-clause-one
+returns-in-Some-clause-one g c =
+    let read : AreRead c.args.self.now.blocks = subst (λ (s : Store). AreRead s.blocks) c.self.view_is c.self.invariant.read in
+    let read_too : IsRead c.args.block (block_text c.args.block) = read_again c.args.block c.bytes-text.result.now c.bytes-text.ensures in
+    known_is_live c.args.self.now c.args.block read read_too
+
+pub returns-then-is_full-clause-err : goal.returns-then-is_full-clause-err
+returns-then-is_full-clause-err g c =
+    let read : AreRead c.args.self.now.blocks = subst (λ (s : Store). AreRead s.blocks) c.self.view_is c.self.invariant.read in
+    let read_too : IsRead c.args.block (block_text c.args.block) = read_again c.args.block c.bytes-text.result.now c.bytes-text.ensures in (
+      (
+        unknown c.args.self.now c.args.block c.hash.result.bytes read read_too c.hash.ensures c.in_default.ensures,
+        no_clash c.args.self.now c.args.block c.hash.result.bytes c.hash.ensures c.in_default.ensures,
+        c.if-is_full.ensures.0 refl,
+      ),
+      refl,
+    )
+
+pub returns-then-is_full-clause-one : goal.returns-then-is_full-clause-one
+returns-then-is_full-clause-one g c =
+    let read : AreRead c.args.self.now.blocks = subst (λ (s : Store). AreRead s.blocks) c.self.view_is c.self.invariant.read in
+    let read_too : IsRead c.args.block (block_text c.args.block) = read_again c.args.block c.bytes-text.result.now c.bytes-text.ensures in
+    known_is_live c.args.self.now c.args.block read read_too
+
+pub returns-then-is_err-clause-err : goal.returns-then-is_err-clause-err
+returns-then-is_err-clause-err g c =
+    let read : AreRead c.args.self.now.blocks = subst (λ (s : Store). AreRead s.blocks) c.self.view_is c.self.invariant.read in
+    let read_too : IsRead c.args.block (block_text c.args.block) = read_again c.args.block c.bytes-text.result.now c.bytes-text.ensures in
+    let allowed : IsAllowed c.args.self.now c.args.block = record {
+      unknown = unknown c.args.self.now c.args.block c.hash.result.bytes read read_too c.hash.ensures c.in_default.ensures;
+      alone = no_clash c.args.self.now c.args.block c.hash.result.bytes c.hash.ensures c.in_default.ensures;
+      room = λ full. let e : false ≡ true = c.if-is_full.ensures.1 full in absurd {A = ⊥} cc;
+    } in
+    let items : List Stored = c.self.inside.blocks.items in
+    let same : c.push.new.self.items ≡ items = c.push.ensures.items ∙ ap (λ (t : Bool). cond t (items ++ c.new.result ∷ []) items) c.if-is_err.ensures.negation in
+    (allowed, ap (λ (xs : List Stored). record { capacity = c.self.inside.max_volatile; blocks = xs }) same ∙ c.self.view_is)
+
+pub returns-then-is_err-clause-one : goal.returns-then-is_err-clause-one
+returns-then-is_err-clause-one g c =
+    let read : AreRead c.args.self.now.blocks = subst (λ (s : Store). AreRead s.blocks) c.self.view_is c.self.invariant.read in
+    let read_too : IsRead c.args.block (block_text c.args.block) = read_again c.args.block c.bytes-text.result.now c.bytes-text.ensures in
+    known_is_live c.args.self.now c.args.block read read_too
+
+pub invariant_of-self-2 : goal.invariant_of-self-2
+invariant_of-self-2 g c =
+    let old : Store = record { capacity = c.self.inside.max_volatile; blocks = c.self.inside.blocks.items } in
+    let items : List Stored = c.self.inside.blocks.items in
+    let is : c.push.new.self.items ≡ items ++ unmarked c.args.block ∷ [] =
+    c.push.ensures.items ∙ (ap (λ (t : Bool). cond t (items ++ c.new.result ∷ []) items) c.if-is_err.ensures.negation ∙ ap (λ (x : Stored). items ++ x ∷ []) c.new.ensures) in
+    let read_too : IsRead c.args.block (block_text c.args.block) = read_again c.args.block c.bytes-text.result.now c.bytes-text.ensures in
+    let none : HasNoneAt old (block_hash_of c.args.block) =
+    subst (HasNoneAt old) c.hash.ensures (subst (λ (s : Store). HasNoneAt s c.hash.result.bytes) (sym c.self.view_is) c.in_default.ensures) in
+    let room : IsFull old → ⊥ = λ full. let e : false ≡ true = c.if-is_full.ensures.1 (subst IsFull c.self.view_is full) in absurd {A = ⊥} cc in
+    record {
+      is_set = set_with old c.args.block c.push.new.self.items is c.self.invariant.is_set none room;
+      read = read_with old c.args.block c.push.new.self.items is c.self.invariant.read read_too;
+    }
+
+pub returns-clause-ok : goal.returns-clause-ok
+returns-clause-ok g c =
+    let old : Store = record { capacity = c.self.inside.max_volatile; blocks = c.self.inside.blocks.items } in
+    let items : List Stored = c.self.inside.blocks.items in
+    let is : c.push.new.self.items ≡ items ++ unmarked c.args.block ∷ [] =
+    c.push.ensures.items ∙ (ap (λ (t : Bool). cond t (items ++ c.new.result ∷ []) items) c.if-is_err.ensures.negation ∙ ap (λ (x : Stored). items ++ x ∷ []) c.new.ensures) in
+    let read : AreRead c.args.self.now.blocks = subst (λ (s : Store). AreRead s.blocks) c.self.view_is c.self.invariant.read in
+    let read_too : IsRead c.args.block (block_text c.args.block) = read_again c.args.block c.bytes-text.result.now c.bytes-text.ensures in
+    let allowed : IsAllowed c.args.self.now c.args.block = record {
+      unknown = unknown c.args.self.now c.args.block c.hash.result.bytes read read_too c.hash.ensures c.in_default.ensures;
+      alone = no_clash c.args.self.now c.args.block c.hash.result.bytes c.hash.ensures c.in_default.ensures;
+      room = λ full. let e : false ≡ true = c.if-is_full.ensures.1 full in absurd {A = ⊥} cc;
+    } in
+    (allowed, subst (λ (s : Store). IsInserted s c.args.block (with_blocks old c.push.new.self.items)) c.self.view_is (inserted old c.args.block c.push.new.self.items is))
+
+pub returns-clause-one : goal.returns-clause-one
+returns-clause-one g c =
+    let read : AreRead c.args.self.now.blocks = subst (λ (s : Store). AreRead s.blocks) c.self.view_is c.self.invariant.read in
+    let read_too : IsRead c.args.block (block_text c.args.block) = read_again c.args.block c.bytes-text.result.now c.bytes-text.ensures in
+    known_is_live c.args.self.now c.args.block read read_too
+
+pub returns-clause-set : goal.returns-clause-set
+returns-clause-set g c =
+    let old : Store = record { capacity = c.self.inside.max_volatile; blocks = c.self.inside.blocks.items } in
+    let items : List Stored = c.self.inside.blocks.items in
+    let is : c.push.new.self.items ≡ items ++ unmarked c.args.block ∷ [] =
+    c.push.ensures.items ∙ (ap (λ (t : Bool). cond t (items ++ c.new.result ∷ []) items) c.if-is_err.ensures.negation ∙ ap (λ (x : Stored). items ++ x ∷ []) c.new.ensures) in
+    let none : HasNoneAt old (block_hash_of c.args.block) =
+    subst (HasNoneAt old) c.hash.ensures (subst (λ (s : Store). HasNoneAt s c.hash.result.bytes) (sym c.self.view_is) c.in_default.ensures) in
+    let room : IsFull old → ⊥ = λ full. let e : false ≡ true = c.if-is_full.ensures.1 (subst IsFull c.self.view_is full) in absurd {A = ⊥} cc in
+    set_with old c.args.block c.push.new.self.items is c.self.invariant.is_set none room
+
+pub returns-clause-live : goal.returns-clause-live
+returns-clause-live g c =
+    let old : Store = record { capacity = c.self.inside.max_volatile; blocks = c.self.inside.blocks.items } in
+    let items : List Stored = c.self.inside.blocks.items in
+    let is : c.push.new.self.items ≡ items ++ unmarked c.args.block ∷ [] =
+    c.push.ensures.items ∙ (ap (λ (t : Bool). cond t (items ++ c.new.result ∷ []) items) c.if-is_err.ensures.negation ∙ ap (λ (x : Stored). items ++ x ∷ []) c.new.ensures) in
+    subst (λ (s : Store). GainsLive s c.args.block (with_blocks old c.push.new.self.items)) c.self.view_is (live_with old c.args.block c.push.new.self.items is)

@@ -1,0 +1,20 @@
+//! The store of live blocks: those that may still come into a selected chain, found by hash and by predecessor.
+//!
+//! ```text
+//! let mut store = BlockStore::<TestScheme>::new(alloc, genesis.max_volatile());
+//! store.insert(block)?; // or why not: Known, Clash, VolatileFull
+//! for next in &store.successors(Some(tip))? {
+//!     println!("{}", next.block().number());
+//! }
+//! store.drop_up_to(immutable_tip.number);
+//! ```
+#![tactic(auto)]
+
+mod insert_fault;
+mod scan;
+mod store;
+mod stored_block;
+
+pub use insert_fault::InsertFault;
+pub use store::BlockStore;
+pub use stored_block::StoredBlock;

@@ -1,0 +1,143 @@
+//! The store of live blocks.
+
+ghost use Rattle.std.specs.Prelude.{◌≡◌, ◌↔◌, [], length, map, option_map, IsTrue, MatchOption, OnOk, IfOk, IfErr};
+ghost use Rattle.block.specs.View.{bytes_of};
+ghost use Rattle.blockstore.specs.Stored.{empty_store, IsSet, HasBlock};
+ghost use Rattle.blockstore.specs.Insertion.{IsKnown, IsFull, IsAllowed, IsInsertFault, IsInserted};
+ghost use Rattle.blockstore.specs.Answers.{HasNoneAt, IsAt, AreSuccessors, IsMarkSet, IsCutTo};
+ghost use Rattle.blockstore.specs.Live.{HoldsNothing, GainsLive, FollowsChain, KeepsLive};
+
+use crate::insert_fault::InsertFault;
+use crate::scan;
+use crate::stored_block::StoredBlock;
+use block::CheckedBlock;
+use ident::BlockHash;
+use std::alloc::{AllocError, Global};
+use std::marker::Model;
+use witness_pool::SigScheme;
+
+/// The live blocks: those that may still come into a selected chain, whose numbers are past the immutable part of the
+/// selected one. They come in any order, and no two of them have one hash. Each call takes time that grows with the
+/// live blocks, and compares their hashes and numbers alone, unless it says otherwise.
+#[derive(Drop)]
+pub struct BlockStore<S: SigScheme> {
+    alloc: Global,
+    max_volatile: u64,
+    blocks: Vec<StoredBlock<S>>,
+}
+
+impl<S: SigScheme> Model for BlockStore<S> {
+    ghost use Rattle.blockstore.specs.Stored.{Store, coded_store};
+
+    ghost Value = { Store };
+
+    ghost coded = { coded_store };
+
+    ghost use Rattle.blockstore.specs.HeldStore.{store_of, IsHeldStore};
+
+    ghost view = { store_of };
+
+    ghost invariant = { IsHeldStore };
+}
+
+impl<S: SigScheme> BlockStore<S> {
+    /// A store of at most so many live blocks, without one. Takes no memory.
+    pub fn new(alloc: Global, max_volatile: u64) -> BlockStore<S>
+        ensures empty { result ≡ empty_store max_volatile }
+        ensures live { HoldsNothing result }
+    {
+        BlockStore {
+            alloc,
+            max_volatile,
+            blocks: Vec::new(alloc),
+        }
+    }
+
+    /// How many live blocks there are, in constant time.
+    pub fn len(&self) -> usize
+        ensures count { result ≡ length self.now.blocks }
+        // No two have one hash, and there are at most as many as may be.
+        ensures set { IsSet self.now }
+    {
+        self.blocks.len()
+    }
+
+    /// Whether there is no live block, in constant time.
+    pub fn is_empty(&self) -> bool
+        ensures { IsTrue result ↔ (self.now.blocks ≡ []) }
+    {
+        self.blocks.is_empty()
+    }
+
+    /// Whether there are as many live blocks as may be, in constant time.
+    pub fn is_full(&self) -> bool
+        ensures { IsTrue result ↔ IsFull self.now }
+    {
+        self.blocks.len() as u64 >= self.max_volatile
+    }
+
+    /// The live block with this hash, if there is one.
+    pub fn get(&self, hash: BlockHash) -> Option<&StoredBlock<S>>
+        ensures { MatchOption result (HasNoneAt self.now hash.bytes)
+            (λ found. IsAt self.now hash.bytes found.now) }
+    {
+        scan::with_hash(&self.blocks, hash)
+    }
+
+    /// The live blocks that name this one as the block before them, in no order that is promised: None asks for the
+    /// first blocks of chains. Copies no block. Err where there is no memory for the references.
+    pub fn successors(
+        &self,
+        previous: Option<BlockHash>,
+    ) -> Result<Vec<&StoredBlock<S>>, AllocError>
+        ensures { IfOk result (λ found.
+            AreSuccessors self.now (option_map bytes_of previous) (map (λ x. x.now) found.items)) }
+    {
+        scan::after(self.alloc, &self.blocks, previous)
+    }
+
+    /// Takes the block in, without a mark. Err where one of the reasons applies, and then nothing changes. A mark will
+    /// take no more memory. Texts are compared where hashes agree, and then that of one block.
+    pub fn insert(&mut self, block: CheckedBlock<S>) -> Result<(), InsertFault>
+        ensures ok { OnOk result (IsAllowed self.old block × IsInserted self.old block self.new) }
+        ensures err { IfErr result (λ fault. IsInsertFault self.old block fault × (self.new ≡ self.old)) }
+        // A live block with its text is this block.
+        ensures one { IsKnown self.old block ↔ HasBlock self.old block }
+        ensures set { IsSet self.new }
+        ensures live { OnOk result (GainsLive self.old block self.new) }
+    {
+        let text = block.bytes();
+        if let Some(stored) = self.get(block.hash()) {
+            if stored.block().has_text(text) {
+                return Err(InsertFault::Known);
+            }
+            return Err(InsertFault::Clash);
+        }
+        if self.is_full() {
+            return Err(InsertFault::VolatileFull);
+        }
+        if self.blocks.push(StoredBlock::new(block)).is_err() {
+            return Err(InsertFault::OutOfMemory);
+        }
+        Ok(())
+    }
+
+    /// Marks the live block with this hash as one that no valid chain will ever have. Nothing changes where no live
+    /// block has the hash. Takes no memory.
+    pub fn mark_invalid(&mut self, hash: BlockHash)
+        ensures marks { IsMarkSet self.old hash.bytes self.new }
+        ensures set { IsSet self.new }
+        ensures live { KeepsLive self.old self.new }
+    {
+        scan::mark(&mut self.blocks, hash);
+    }
+
+    /// Takes out all blocks with a number up to this one. Takes no memory.
+    pub fn drop_up_to(&mut self, number: u64)
+        ensures cut { IsCutTo self.old number self.new }
+        ensures set { IsSet self.new }
+        ensures live { FollowsChain self.old number self.new }
+    {
+        scan::keep_past(&mut self.blocks, number);
+    }
+}

@@ -1,0 +1,5 @@
+pub mod Lasts
+pub mod Beside
+pub mod Databases
+pub mod Forks
+pub mod ForCallers

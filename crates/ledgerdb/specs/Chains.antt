@@ -1,0 +1,34 @@
+-- Of which chain a ledger database is, and what a fork makes ready for a chain.
+use Rattle.std.specs.Prelude.{◌≡◌, ℕ, ◌-◌, List, [], ◌∷◌, ◌++◌, length, take}
+use Rattle.model.specs.Block.{Block}
+use Rattle.model.specs.Ledger.{Network}
+use Rattle.model.specs.Applying.{LedgerState, IsStateOf}
+use Rattle.ledgerdb.specs.Values.{Database, Prepared}
+
+-- a chain without so many of its last blocks
+abbrev pub without_last : ℕ → List Block → List Block
+without_last back chain = take (length chain - back) chain
+
+module _ (network : Network) where
+  -- beside each of the blocks that come after a chain stands the state of that chain with the blocks up to it
+  abbrev pub AreStatesOf : List Block → List Block → List LedgerState → Type 0
+  AreStatesOf root [] [] = Unit {0}
+  AreStatesOf root [] (t ∷ ts) = ⊥
+  AreStatesOf root (b ∷ bs) [] = ⊥
+  AreStatesOf root (b ∷ bs) (t ∷ ts) =
+      IsStateOf network (root ++ b ∷ []) t × AreStatesOf (root ++ b ∷ []) bs ts
+
+  -- DATABASE OF A CHAIN
+  -- The chain is an older part and blocks after it: the anchor is the older part's state, and beside each of the blocks
+  -- stands the state of the chain up to it.
+  pub record IsDatabaseOf (chain : List Block) (db : Database) : Type 0 where
+    pub older : List Block
+    pub blocks : List Block
+    pub parts : chain ≡ older ++ blocks
+    pub anchor : IsStateOf network older db.anchor
+    pub states : AreStatesOf older blocks db.states
+
+  -- what a fork makes ready for blocks that come after a chain: beside each the state of that chain with the blocks up
+  -- to it
+  abbrev pub IsPreparedOf : List Block → List Block → Prepared → Type 0
+  IsPreparedOf root blocks prepared = AreStatesOf root blocks prepared.states

@@ -1,0 +1,4 @@
+pub mod Values
+pub mod Chains
+pub mod Faults
+pub mod Inside

@@ -1,0 +1,157 @@
+//! The states of the last blocks of a chain.
+
+use crate::applying::apply_all;
+use crate::fork_fault::ForkFault;
+use crate::prepared::Prepared;
+use crate::states::{drop_newest, drop_oldest, newest, newest_but};
+use block::CheckedBlock;
+use ledger::LedgerState;
+use std::alloc::{AllocError, Global};
+use std::collections::LinkedList;
+use std::marker::Model;
+use witness_pool::SigScheme;
+
+/// The most states that a list holds.
+const MOST_STATES: u64 = 0x7fff_ffff_ffff_ffff;
+
+/// The states of the last k blocks of a chain after an anchor, so that a fork from up to k blocks back can be judged
+/// without applying the chain anew (the Consensus and Storage Layer report, ledger database). States share what they
+/// have in common, so that each takes memory for what its block changed.
+#[derive(Drop)]
+pub struct LedgerDb {
+    alloc: Global,
+    k: u64,
+    anchor: LedgerState,
+    states: LinkedList<LedgerState>,
+}
+
+impl Model for LedgerDb {
+    ghost use Rattle.ledgerdb.specs.Values.{Database, coded_database};
+
+    ghost Value = { Database };
+
+    ghost coded = { coded_database };
+
+    ghost use Rattle.ledgerdb.specs.Inside.{database_of, IsBounded};
+
+    ghost view = { database_of };
+
+    ghost invariant = { IsBounded };
+}
+
+impl LedgerDb {
+    ghost use Rattle.std.specs.Prelude.{◌≡◌, ◌+◌, ◌-◌, ◌^◌, ◌≤◌, min, List, ◌++◌, length, IfOk, IfErr};
+    ghost use Rattle.model.specs.Genesis.{Genesis};
+    ghost use Rattle.model.specs.Block.{Block};
+    ghost use Rattle.model.specs.Ledger.{Network, network_of};
+    ghost use Rattle.model.specs.Applying.{IsStateOf, AreStates};
+    ghost use Rattle.ledgerdb.specs.Values.{depth, count, state_back};
+    ghost use Rattle.ledgerdb.specs.Chains.{without_last, IsDatabaseOf, IsPreparedOf};
+    ghost use Rattle.ledgerdb.specs.Faults.{IsForkFault, IsFaultOnChain};
+
+    /// A database whose only state is the anchor, which will keep the states of the last k blocks after it. A k of 2^63
+    /// or more counts as 2^63 - 1, which is more states than any memory holds. Takes no memory: no room is taken ahead.
+    pub fn new(alloc: Global, anchor: LedgerState, k: u64) -> LedgerDb
+        ensures depth { depth result ≡ 0 }
+        ensures k { result.k ≡ min k (2 ^ 63 - 1) }
+        ensures state { state_back result 0 ≡ anchor }
+        // It is a database of each chain whose state the anchor is.
+        ensures chain { (network : Network) (chain : List Block) →
+            IsStateOf network chain anchor → IsDatabaseOf network chain result }
+    {
+        LedgerDb {
+            alloc,
+            k: k.min(MOST_STATES),
+            anchor,
+            states: LinkedList::new(alloc),
+        }
+    }
+
+    /// How many blocks may be rolled back: at most k.
+    pub fn depth(&self) -> usize
+        ensures depth { result ≡ depth self.now }
+        ensures within { result ≤ self.now.k }
+    {
+        self.states.len()
+    }
+
+    /// The newest state. Copies nothing, and takes no memory.
+    pub fn state(&self) -> &LedgerState
+        ensures state { result.now ≡ state_back self.now 0 }
+        ensures chain { (network : Network) (chain : List Block) →
+            IsDatabaseOf network chain self.now → IsStateOf network chain result.now }
+    {
+        newest(&self.anchor, &self.states)
+    }
+
+    /// The state `back` blocks ago, `back` at most the depth. Takes time that grows with `back`, and no memory. Err
+    /// where 2^63 copies share its outputs already.
+    pub fn state_at(&self, back: usize) -> Result<LedgerState, AllocError>
+        requires { back ≤ depth self.now }
+        ensures state { IfOk result (λ state. state ≡ state_back self.now back) }
+        ensures chain { IfOk result (λ state. (network : Network) (chain : List Block) →
+            IsDatabaseOf network chain self.now → IsStateOf network (without_last back chain) state) }
+    {
+        newest_but(&self.anchor, &self.states, back).try_clone()
+    }
+
+    /// What is needed to roll the last `back` blocks back, `back` at most the depth, and to put these blocks in their
+    /// place: the states that they make, each block applied once. Else the first block that isn't applied, counted from
+    /// 0, with its first fault; or OutOfMemory, where the blocks before some place are applied and the one at it has none
+    /// of the first four faults. The database stays. Takes the time to apply the blocks, and time that grows with `back`.
+    ///
+    /// ```text
+    /// match db.fork(2, &blocks) {
+    ///     Ok(prepared) => db.commit(prepared),
+    ///     Err(ForkFault::Refused(index, fault)) => println!("{}: {fault}", blocks[index].number()),
+    ///     Err(ForkFault::OutOfMemory) => .., // try again later
+    /// }
+    /// ```
+    pub fn fork<S: SigScheme>(
+        &self,
+        back: usize,
+        blocks: &[CheckedBlock<S>],
+    ) -> Result<Prepared, ForkFault>
+        requires { back ≤ depth self.now }
+        ensures back { IfOk result (λ prepared. prepared.back ≡ back) }
+        ensures count { IfOk result (λ prepared. count prepared ≡ length blocks.now) }
+        ensures applied { IfOk result (λ prepared.
+            AreStates S.verifies (state_back self.now back) blocks.now prepared.states) }
+        ensures refused { IfErr result (IsForkFault S.verifies (state_back self.now back) blocks.now) }
+        // The same, said of the chain whose database it is.
+        ensures chain { IfOk result (λ prepared. (genesis : Genesis) (chain : List Block) →
+            IsDatabaseOf (network_of genesis S.verifies) chain self.now →
+            IsPreparedOf (network_of genesis S.verifies) (without_last back chain) blocks.now prepared) }
+        ensures chain_refused { IfErr result (λ fault. (genesis : Genesis) (chain : List Block) →
+            IsDatabaseOf (network_of genesis S.verifies) chain self.now →
+            IsFaultOnChain (network_of genesis S.verifies) (without_last back chain) blocks.now fault) }
+    {
+        let root = newest_but(&self.anchor, &self.states, back);
+        let states = apply_all(self.alloc, root, blocks)?;
+        Ok(Prepared { back, states })
+    }
+
+    /// Rolls back as many blocks as the fork does, and puts its blocks in their place. At most k states stay after the
+    /// anchor: older ones are dropped, and the anchor moves on. Takes no memory, and time that grows with the blocks
+    /// rolled back and put on, not with k.
+    pub fn commit(&mut self, prepared: Prepared)
+        requires { prepared.back ≤ depth self.old }
+        ensures depth { depth self.new ≡ min self.old.k (depth self.old - prepared.back + count prepared) }
+        ensures k { self.new.k ≡ self.old.k }
+        ensures chain { (network : Network) (chain blocks : List Block) →
+            IsDatabaseOf network chain self.old →
+            IsPreparedOf network (without_last prepared.back chain) blocks prepared →
+            IsDatabaseOf network (without_last prepared.back chain ++ blocks) self.new }
+    {
+        let k = self.k as usize;
+        let mut newer = prepared.states;
+        drop_newest(&mut self.states, prepared.back);
+        drop_oldest(
+            &mut self.anchor,
+            &mut self.states,
+            k.saturating_sub(newer.len()),
+        );
+        drop_oldest(&mut self.anchor, &mut newer, k);
+        self.states.append(&mut newer).unwrap();
+    }
+}

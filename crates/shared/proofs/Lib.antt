@@ -1,0 +1,4 @@
+pub mod Journals
+pub mod Views
+pub mod Moves
+pub mod Calls

@@ -1,0 +1,251 @@
+-- THE RULE OF THE HEIGHT (this project's own)
+-- One word tells the height to all threads. What it stands for is a journal that exists in this rule alone: the word is
+-- the height after it, and each thread has a seat, whose view says which beginning of the journal its owner has seen.
+-- One seat at a time has the right to write.
+use Rattle.std.specs.Prelude.{◌≡◌, ℕ, suc, ◌+◌, ◌≤◌, List, [], ◌∷◌, ◌++◌, length, Some, None, slice_get, Bool, true, false}
+use mathlib.Core.Option.{some}
+use lib.ListN.{get_elem?}
+use Rattle.atomic_table.specs.Table as table
+use Rattle.atomic_table.specs.Seated.{TableId}
+use Rattle.model.specs.Signature.{Verifies}
+use Rattle.model.specs.Rules.{Params}
+use Rattle.model.specs.Genesis.{Genesis}
+use Rattle.model.specs.Ledger.{network_of}
+use Rattle.model.specs.History.{Open, OutOfMemory, length_after}
+use Rattle.model.specs.Journal.{JournalEntry, Journal, Knowledge, history_of, calls_of, IsLegalJournal, BeginsWithSeen}
+
+-- the height after a journal: how many blocks the chain has that is then selected
+abbrev pub height_after : Journal → ℕ
+height_after journal = length_after (history_of journal)
+
+-- ---- what a seat knows
+
+-- what a seat is for: to give callers their numbers, this one next; for the calls of a caller; to carry the right to
+-- write from one seat to another; or no more for anything
+pub data Role : Type 0 where
+  Deals : (next : ℕ) → Role
+  Calls : (caller : ℕ) → Role
+  Carries : Role
+  Spent : Role
+
+-- The genesis; what the seat is for; whether it has the right to write; the journal that was seen, and what was seen of
+-- it before a note came; the calls that its caller made; how often its caller read the height, and what it read last.
+pub record SeatView : Type 0 where
+  pub genesis : Genesis
+  pub role : Role
+  pub writes : Bool
+  pub seen : Journal
+  pub before : Journal
+  pub calls : Journal
+  pub loads : ℕ
+  pub last : ℕ
+
+-- the first seat deals and writes
+abbrev pub first_view : Genesis → SeatView
+first_view genesis =
+    record { genesis = genesis; role = Deals 0; writes = true; seen = []; before = []; calls = []; loads = 0; last = 0 }
+
+-- ---- how the right goes from one seat to another, by a note
+
+-- the seat without the right
+abbrev pub without_right : SeatView → SeatView
+without_right v =
+    record {
+      genesis = v.genesis;
+      role = v.role;
+      writes = false;
+      seen = v.seen;
+      before = v.before;
+      calls = v.calls;
+      loads = v.loads;
+      last = v.last;
+    }
+
+-- the note: it has the right, and what was seen
+abbrev pub note_of : SeatView → SeatView
+note_of v =
+    record {
+      genesis = v.genesis;
+      role = Carries;
+      writes = true;
+      seen = v.seen;
+      before = [];
+      calls = [];
+      loads = 0;
+      last = 0;
+    }
+
+-- the seat that takes a note in has the right, and has seen what the note has; it keeps what it had seen before
+abbrev pub with_note : SeatView → SeatView → SeatView
+with_note v note =
+    record {
+      genesis = v.genesis;
+      role = v.role;
+      writes = true;
+      seen = note.seen;
+      before = v.seen;
+      calls = v.calls;
+      loads = v.loads;
+      last = v.last;
+    }
+
+-- a genesis that nobody has, and the name of no table
+abbrev pub no_genesis : Genesis
+no_genesis =
+    record {
+      params = record {
+        network = 0;
+        min_fee_a = 0;
+        min_fee_b = 0;
+        min_utxo = 0;
+        max_tx_size = 0;
+        max_body_size = 0;
+      };
+      k = 0;
+      max_volatile = 0;
+      max_mempool = 0;
+      grants = [];
+    }
+
+abbrev pub no_table : TableId
+no_table = record { words = 0; slots = 0; views_name = 0; atom = 0; block = 0; offset = 0; slot_names = [] }
+
+-- an entry of no journal
+abbrev pub no_entry : JournalEntry
+no_entry = record { caller = 0; peer = None; entry = record { event = Open; reply = OutOfMemory } }
+
+-- the note that was taken in
+abbrev pub spent_view : SeatView
+spent_view =
+    record {
+      genesis = no_genesis;
+      role = Spent;
+      writes = false;
+      seen = [];
+      before = [];
+      calls = [];
+      loads = 0;
+      last = 0;
+    }
+
+-- ---- how callers get their numbers
+
+abbrev pub next_role : Role → Role
+next_role (Deals next) = Deals (suc next)
+next_role role = role
+
+-- the seat that has given a number
+abbrev pub has_dealt : SeatView → SeatView
+has_dealt v =
+    record {
+      genesis = v.genesis;
+      role = next_role v.role;
+      writes = v.writes;
+      seen = v.seen;
+      before = v.before;
+      calls = v.calls;
+      loads = v.loads;
+      last = v.last;
+    }
+
+abbrev pub dealt_role : Role → Role
+dealt_role (Deals next) = Calls next
+dealt_role role = Spent
+
+-- the seat of the new caller, who made no call
+abbrev pub new_caller : SeatView → SeatView
+new_caller v =
+    record {
+      genesis = v.genesis;
+      role = dealt_role v.role;
+      writes = false;
+      seen = v.seen;
+      before = [];
+      calls = [];
+      loads = 0;
+      last = 0;
+    }
+
+-- ---- the rule
+
+-- a look: the word is the height of a legal journal, which begins with what was seen and has then been seen
+abbrev pub FitsRole : Journal → ℕ → List ℕ → ℕ → Journal → Role → Type 0
+FitsRole log dealer seats by calls (Deals next) = (by ≡ dealer) × (next ≡ length seats)
+FitsRole log dealer seats by calls (Calls caller) = (slice_get seats caller ≡ Some by) × (calls_of caller log ≡ calls)
+FitsRole log dealer seats by calls Carries = Unit {0}
+FitsRole log dealer seats by calls Spent = Unit {0}
+
+-- What a seat knows is so: the journal begins with what was seen, and who has the right is the one writer and has seen
+-- all of it.
+pub record Fits (genesis : Genesis) (log : Journal) (writer dealer : ℕ) (seats : List ℕ) (by : ℕ)
+    (v : SeatView) : Type 0 where
+  pub genesis_is : v.genesis ≡ genesis
+  pub seen : BeginsWithSeen log v.seen
+  pub before : BeginsWithSeen log v.before
+  pub right : v.writes ≡ true → (by ≡ writer) × (v.seen ≡ log)
+  pub role : FitsRole log dealer seats by v.calls v.role
+
+-- There is a legal journal of which the word is the height. Callers who have no number have no call in it.
+pub record IsKept {S : Type 0} (verifies : Verifies) (genesis : Genesis) (s : table.State S SeatView) : Type 0 where
+  pub log : Journal
+  pub writer : ℕ
+  pub dealer : ℕ
+  pub seats : List ℕ
+  pub legal : IsLegalJournal (network_of genesis verifies) log
+  pub word : s.words ≡ height_after log ∷ []
+  pub unknown : (caller : ℕ) → length seats ≤ caller → calls_of caller log ≡ []
+  pub fits : (by : ℕ) (v : SeatView) → get_elem? s.views by ≡ some v → (v.role ≡ Spent → ⊥)
+      → Fits genesis log writer dealer seats by v
+
+-- ---- what the steps tell
+
+-- the caller's calls in the journal are those that its seat knows
+abbrev pub KnowsCalls : Role → Journal → Journal → Type 0
+KnowsCalls (Calls caller) journal calls = calls_of caller journal ≡ calls
+KnowsCalls role journal calls = Unit {0}
+
+-- a look: the word is the height of a legal journal, which begins with what was seen, and which has then been seen
+pub record IsLooked (verifies : Verifies) (v : SeatView) (height : ℕ) (w : SeatView) : Type 0 where
+  pub same : w ≡ record {
+    genesis = v.genesis;
+    role = v.role;
+    writes = v.writes;
+    seen = w.seen;
+    before = v.before;
+    calls = v.calls;
+    loads = v.loads + 1;
+    last = height;
+  }
+  pub seen : BeginsWithSeen w.seen v.seen
+  pub legal : IsLegalJournal (network_of v.genesis verifies) w.seen
+  pub height_is : height ≡ height_after w.seen
+  pub calls : KnowsCalls v.role w.seen v.calls
+
+-- a look after a note: what the note brought begins with what had been seen before
+abbrev pub IsCompared : SeatView → SeatView → Type 0
+IsCompared v w = (w ≡ v) × BeginsWithSeen v.seen v.before
+
+-- the seat that has written an entry of its own
+abbrev pub with_entry : SeatView → JournalEntry → SeatView
+with_entry v entry =
+    record {
+      genesis = v.genesis;
+      role = v.role;
+      writes = v.writes;
+      seen = v.seen ++ entry ∷ [];
+      before = v.before;
+      calls = v.calls ++ entry ∷ [];
+      loads = v.loads;
+      last = v.last;
+    }
+
+-- a store: the entry stands at the end of the journal
+abbrev pub IsWritten : JournalEntry → SeatView → SeatView → Type 0
+IsWritten entry v w = (w ≡ with_entry v entry) × KnowsCalls v.role w.seen w.calls
+
+-- ---- what a caller's seat stands for
+
+-- what the caller of the number knows
+abbrev pub knowledge_of : ℕ → SeatView → Knowledge
+knowledge_of number v =
+    record { caller = number; seen = v.seen; calls = v.calls; loads = v.loads; last = v.last }

@@ -1,0 +1,40 @@
+//! The callers of a shared core.
+
+use crate::heights::HeightSeat;
+use crate::room::Room;
+use std::marker::{Model, PhantomData};
+
+/// One who calls a shared core, from one thread at a time. It knows which beginning of the journal it has seen, and its
+/// own calls; that is for contracts alone and takes no memory.
+#[derive(Drop)]
+pub struct Caller<B: Room> {
+    pub(crate) number: u64,
+    pub(crate) seat: HeightSeat,
+    pub(crate) room: PhantomData<B>,
+}
+
+impl<B: Room> Model for Caller<B> {
+    ghost use Rattle.model.specs.Journal.{Knowledge};
+    ghost use Rattle.model.specs.Codes.{coded_knowledge};
+
+    ghost Value = { Knowledge };
+
+    ghost coded = { coded_knowledge };
+
+    ghost use Rattle.shared.specs.Callers.{caller_view, IsCallerOf};
+
+    ghost view = { caller_view };
+
+    ghost invariant = { IsCallerOf B.table B.genesis };
+}
+
+impl<B: Room> Caller<B> {
+    ghost use Rattle.std.specs.Prelude.{◌≡◌};
+
+    /// The number of the caller, from 0 on.
+    pub fn number(&self) -> u64
+        ensures { result ≡ self.now.caller }
+    {
+        self.number
+    }
+}

@@ -1,0 +1,111 @@
+//! A shared core that is being opened.
+
+ghost use Rattle.std.specs.Prelude.{◌≡◌, [], IfOk, IfErr};
+ghost use Rattle.shared.specs.Heights.{has_dealt, new_caller, Deals};
+ghost use Rattle.shared.specs.Opening.{IsOpenFault, newcomers};
+
+use crate::caller::Caller;
+use crate::desk::Desk;
+use crate::heights::{Dealing, HeightSeat, Heights};
+use crate::open_fault::OpenFault;
+use crate::room::Room;
+use crate::shared::Shared;
+use atomic_table::Table;
+use chain_core::Core;
+use genesis::Genesis;
+use std::alloc::{AllocError, Global};
+use std::marker::{Model, PhantomData};
+use std::sync::Mutex;
+use witness_pool::SigScheme;
+
+/// The most callers that a shared core has.
+pub const MAX_CALLERS: usize = 64;
+
+/// A shared core that has no name yet: its word gets one when the program runs, and [`Opened::named`] takes the name.
+#[derive(Drop)]
+pub struct Opened<S: SigScheme> {
+    alloc: Global,
+    callers: usize,
+    core: Core<S>,
+    heights: Heights<S>,
+    seat: HeightSeat,
+}
+
+impl<S: SigScheme> Model for Opened<S> {
+    ghost use Rattle.shared.specs.OpenedCores.{OpenedCore, coded_opened, opened_view, IsOpenedInside};
+
+    ghost Value = { OpenedCore };
+
+    ghost coded = { coded_opened };
+
+    ghost view = { opened_view };
+
+    ghost invariant = { IsOpenedInside };
+}
+
+/// A seat for the calls of a new caller.
+fn deal<S: SigScheme>(heights: &Heights<S>, seat: &mut HeightSeat, number: u64) -> HeightSeat
+    requires word { heights.now.shared.table_id.words ≡ 1 }
+    requires seat { seat.old.table_id ≡ heights.now.shared.table_id }
+    requires deals { seat.old.me.0.role ≡ Deals number }
+    ensures new { (result.me ≡ (new_caller seat.old.me.0, [])) × (result.table_id ≡ seat.old.table_id) }
+    ensures seat { (seat.new.me ≡ (has_dealt seat.old.me.0, seat.old.me.1)) × (seat.new.table_id ≡ seat.old.table_id) }
+{
+    heights.shared.split_seat::<Dealing>(seat)
+}
+
+impl<S: SigScheme> Opened<S> {
+    /// A core of this genesis for so many callers, 1 to 64, before anything arrived.
+    pub fn new(alloc: Global, genesis: Genesis, callers: usize) -> Result<Opened<S>, OpenFault>
+        ensures genesis { IfOk result (λ opened. opened.genesis ≡ genesis) }
+        ensures callers { IfOk result (λ opened. opened.callers ≡ callers) }
+        ensures fault { IfErr result (IsOpenFault callers) }
+    {
+        if callers == 0 || callers > MAX_CALLERS {
+            return Err(OpenFault::BadCallers);
+        }
+        let (heights, seat) = Table::of_words(alloc, &[0], &genesis)?;
+        let core = Core::new(alloc, genesis)?;
+        Ok(Opened {
+            alloc,
+            callers,
+            core,
+            heights,
+            seat,
+        })
+    }
+
+    /// The shared core under a name, and its callers, with the numbers from 0 on. A program passes `Brand`.
+    pub fn named<B: Room>(self) -> Result<(Shared<S, B>, Vec<Caller<B>>), AllocError>
+        requires table { self.table ≡ B.table }
+        requires genesis { self.genesis ≡ B.genesis }
+        // No caller made a call or has seen anything.
+        ensures { IfOk result (λ opened. opened.1.items ≡ newcomers self.callers) }
+    {
+        let Opened {
+            alloc,
+            callers,
+            core,
+            heights,
+            mut seat,
+        } = self;
+        let mut all = Vec::with_capacity(alloc, callers)?;
+        for number in 0..callers as u64 {
+            let dealt = deal(&heights, &mut seat, number);
+            all.push(Caller {
+                number,
+                seat: dealt,
+                room: PhantomData,
+            })?;
+        }
+        let desk = Desk {
+            alloc,
+            core,
+            entries: Vec::new(alloc),
+            writer: seat,
+            room: PhantomData,
+        };
+        let desk = Mutex::new(desk);
+        Ok((Shared { heights, desk }, all))
+    }
+}
