@@ -103,13 +103,13 @@ fn made(alloc: Global, input: Input, coin: u64, ones: u64, id: TxId) -> Option<T
 }
 
 /// The payment, signed for its own identifier.
-fn payment(alloc: Global, input: Input, coin: u64, ones: u64) -> Option<Tx> {
+pub fn payment(alloc: Global, input: Input, coin: u64, ones: u64) -> Option<Tx> {
     let id = made(alloc, input, coin, ones, TxId::from_bytes([0; 32]))?.id();
     made(alloc, input, coin, ones, id)
 }
 
 /// The output of this index of a transaction.
-fn output_of(transaction: TxId, index: u16) -> Input {
+pub fn output_of(transaction: TxId, index: u16) -> Input {
     Input { transaction, index }
 }
 

@@ -4,3 +4,5 @@ pub use Rattle.block.proofs.OneAnswer.{same_read, is_no_other, not_both, same_fa
 pub use Rattle.block.proofs.Parts.{transactions_nest}
 -- The header of a block of transactions that are handed in, where its numbers are in range.
 pub use Rattle.block.proofs.FullBlocks.{full_header}
+-- Blocks may cross threads, checked or seen.
+pub use Rattle.block.proofs.Crossing.{CheckedBlock-send, CheckedBlock-sync, Seen-send}

@@ -6,3 +6,4 @@ pub mod FullBlocks
 pub mod OneAnswer
 pub mod SeenBlocks
 pub mod ForCallers
+pub mod Crossing

@@ -12,6 +12,7 @@ use Rattle.model.specs.Block.{Block, SpellsBlock, block_hash_of, block_text}
 use Rattle.model.specs.Genesis.{Genesis}
 use Rattle.model.specs.Chain.{HaveDistinctHashes, live_blocks, immutable_length}
 use Rattle.model.proofs.Lists.{all_of_member, all_from_members, all_push, all_weaker, contains_first, contains_later, contains_cases, contains_filter}
+use Rattle.model.proofs.MappedLists.{contains_map, contains_before, filter_member}
 use Rattle.model.proofs.Chains.{one_with_hash}
 use Rattle.model.proofs.LegalHistories.{narrower_distinct}
 use Rattle.model.proofs.BlockTexts.{one_block, block_text_is}
@@ -20,8 +21,8 @@ use Rattle.blockstore.specs.Tests.{has_hash, names, is_past, marked_at}
 use Rattle.blockstore.specs.Insertion.{IsKnown, IsClash, IsFull, IsInserted}
 use Rattle.blockstore.specs.Answers.{HasNoneAt, IsAt, AreSuccessors, IsMarkedAt, IsMarkSet, IsCutTo}
 use Rattle.blockstore.specs.Live.{HoldsLive, GainsLive, FollowsChain, KeepsLive}
-use Rattle.blockstore.proofs.Lists.{contains_map, contains_before, filter_member, map_filter, map_same, map_push, all_filter, all_map, distinct_filter, distinct_push, no_longer}
-use Rattle.blockstore.proofs.Sets.{same_count, distinct_by_count}
+use Rattle.blockstore.proofs.Lists.{map_filter, map_same, map_push, all_filter, all_map, distinct_filter, distinct_push, no_longer}
+use Rattle.model.proofs.Sets.{same_count, distinct_by_count}
 use Rattle.blockstore.proofs.Tests.{hash_is, hash_is_not, previous_is, previous_passes, is_marked, marked_is, same_block}
 
 abbrev pub block_of : Stored → Block

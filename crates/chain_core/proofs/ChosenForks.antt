@@ -18,7 +18,8 @@ use Rattle.model.specs.Ledger.{Network}
 use Rattle.model.specs.Applying.{LedgerState, IsStateOf}
 use Rattle.chain_core.specs.Held.{IsSound}
 use Rattle.chain_core.specs.Forks.{Fork, IsFork, AreLongest, IsLeast, IsChosenFork}
-use Rattle.chain_core.proofs.Candidates.{candidate_front, candidate_goes_on, candidate_of_fork}
+use Rattle.model.proofs.Candidates.{candidate_front}
+use Rattle.chain_core.proofs.Candidates.{candidate_goes_on, candidate_of_fork}
 
 -- ---- the selection
 

@@ -1,4 +1,3 @@
-pub mod Sets
 pub mod Candidates
 pub mod GrownForks
 pub mod ChosenForks
@@ -11,3 +10,5 @@ pub mod Arrivals
 pub mod Runs
 pub mod ToldChains
 pub mod FollowerCalls
+pub mod Crossing
+pub mod ForCallers

@@ -11,7 +11,7 @@ use Rattle.model.specs.Codes.{refusal_at, refusal_back}
 use Rattle.model.proofs.Lists.{contains_filter}
 use Rattle.model.proofs.BlockTexts.{one_block, block_text_is}
 use Rattle.chain_core.specs.Judgements.{IsClash, IsClashWith, IsJudged}
-use Rattle.chain_core.proofs.Candidates.{live_is_kept, live_number}
+use Rattle.model.proofs.Candidates.{live_is_kept, live_number}
 use Rattle.chain_core.proofs.Steps.{state}
 
 -- no refusal with a lesser number applies

@@ -11,11 +11,12 @@ use Rattle.model.specs.Chain.{IsSelection, Stays, Changes, HaveDistinctHashes, i
 use Rattle.model.specs.Follower.{Followers}
 use Rattle.model.specs.History.{State, opening, live_of, Refusal, TooLarge, Malformed, BodyHashMismatch, TooOld, Known, Clash, VolatileFull, Applies, IsRefused, Arrive, Kept, Refused, IsChange, Keeps, Step}
 use Rattle.model.proofs.Lists.{all_from_members, all_weaker, all_push, contains_first, contains_later, contains_cases, contains_filter}
+use Rattle.model.proofs.MappedLists.{filter_member}
 use Rattle.model.proofs.Selections.{selection_valid, selection_not_shorter}
 use Rattle.model.proofs.LegalHistories.{narrower_distinct, distinct_with}
 use Rattle.chain_core.specs.Held.{Stands, opening_held, held_of, IsSound}
-use Rattle.chain_core.proofs.Sets.{same_count, distinct_by_count}
-use Rattle.chain_core.proofs.Candidates.{filter_member, live_is_kept, selection_over}
+use Rattle.model.proofs.Sets.{same_count, distinct_by_count}
+use Rattle.model.proofs.Candidates.{live_is_kept, selection_over}
 
 -- two lists of kept blocks have the same live blocks, as members and in number
 pub record SameLive (genesis : Genesis) (chain kept other : List Block) : Type 0 where

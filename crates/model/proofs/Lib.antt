@@ -28,3 +28,6 @@ pub mod ExampleSizes
 pub mod ExampleConditions
 pub mod ExamplePayments
 pub mod ExampleMints
+pub mod MappedLists
+pub mod Sets
+pub mod Candidates

@@ -28,7 +28,7 @@ pub neither_greater : (x y : List ℕ) → slice_cmp nat_cmp x y ≢ Greater →
 neither_greater x y a b = order_of x y (slice_cmp nat_cmp x y) refl a (λ e. b (IsTotalOrder.antisymm nat_list_cmp_total y x ∙ e))
 
 -- the blocks past the first n have numbers past n
-past_numbers : (n : ℕ) (c : List Block) → IsLinked genesis_tip c → n ≤ length c → AllByRecursion (λ b. n < b.header.number) (drop n c)
+pub past_numbers : (n : ℕ) (c : List Block) → IsLinked genesis_tip c → n ≤ length c → AllByRecursion (λ b. n < b.header.number) (drop n c)
 past_numbers n c linked long =
     let parts : IsLinked genesis_tip (take n c ++ drop n c) = subst (IsLinked genesis_tip) (sym (take-append-drop n c)) linked in
     let front = tip_number genesis_tip (take n c) (linked_front genesis_tip (take n c) (drop n c) parts) in

@@ -1,10 +1,10 @@
 -- What the steps of a caller's seat say of what its caller knows.
-use Rattle.std.proofs.Common.{◌≡◌, List, [], ◌∷◌, ◌++◌, length, map, refl, sym, ap, ◌∙◌, subst, ℕ, ◌+◌, Ok}
+use Rattle.std.proofs.Common.{◌≡◌, List, [], ◌∷◌, ◌++◌, length, refl, sym, ap, ◌∙◌, subst, ℕ, Ok}
 use Rattle.std.proofs.lemmas.List.{map-append}
 use Rattle.model.specs.Signature.{Verifies}
 use Rattle.model.specs.Genesis.{Genesis}
 use Rattle.model.specs.Ledger.{Network, network_of}
-use Rattle.model.specs.History.{State, Event, Arrive, Reply, Entry, opening, Step, IsLegal}
+use Rattle.model.specs.History.{State, Arrive, Entry, opening, Step, IsLegal}
 use Rattle.model.specs.Journal.{JournalEntry, Journal, history_of, calls_of, IsLegalJournal, IsCalled, IsLook}
 use Rattle.model.proofs.LegalHistories.{run_length}
 use Rattle.model.proofs.ToldChains.{run_on}

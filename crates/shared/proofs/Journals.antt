@@ -1,10 +1,8 @@
 -- Journals: what they begin with, and whose calls stand in them.
-use Rattle.std.proofs.Common.{◌≡◌, ◌≢◌, ℕ, zero, suc, ◌<◌, ◌==◌, List, [], ◌∷◌, ◌++◌, length, filter, cond, Bool, true, false, Some, None, refl, sym, ap, ◌∙◌, subst, append_assoc, append-nil, eq-eqb, ne_eqb, arith}
+use Rattle.std.proofs.Common.{◌≡◌, ◌≢◌, ℕ, zero, suc, ◌<◌, ◌==◌, List, [], ◌∷◌, ◌++◌, length, cond, Bool, Some, None, refl, sym, ap, ◌∙◌, append_assoc, append-nil, eq-eqb, ne_eqb, arith}
 use Rattle.std.specs.Prelude.{slice_get}
 use Rattle.std.proofs.lemmas.List.Elements.{filter-append}
-use Rattle.model.specs.Ledger.{Network}
-use Rattle.model.specs.History.{State, IsLegal}
-use Rattle.model.specs.Journal.{JournalEntry, Journal, calls_of, history_of, BeginsWithSeen, IsLegalJournal}
+use Rattle.model.specs.Journal.{JournalEntry, Journal, calls_of, BeginsWithSeen}
 
 pub begins_all : (journal : Journal) → BeginsWithSeen journal journal
 begins_all journal = ([], sym (append-nil journal))

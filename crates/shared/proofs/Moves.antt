@@ -1,10 +1,10 @@
 -- Each step of a seat keeps the rule of the height.
-use Rattle.std.proofs.Common.{◌≡◌, ◌≢◌, ℕ, zero, suc, ◌+◌, ◌≤◌, List, [], ◌∷◌, ◌++◌, length, set, Bool, true, false, Some, refl, sym, ap, ◌∙◌, subst, inl, inr, ⊎_elim, arith}
+use Rattle.std.proofs.Common.{◌≡◌, ◌≢◌, ℕ, zero, suc, ◌+◌, List, [], ◌∷◌, ◌++◌, length, set, true, Some, refl, sym, ap, ◌∙◌, subst, inl, inr, ⊎_elim, arith}
 use Rattle.std.specs.Prelude.{◌⊎◌, slice_get, slice_index, slice_set}
 use Rattle.std.proofs.lemmas.List.{length_push}
 use mathlib.Core.Option.{some, some-injective, some-ne-none}
 use lib.ListN.{get_elem?}
-use Rattle.atomic_table.specs.Table.{State, Me, Allows, Splits, Joins, opening, keeps}
+use Rattle.atomic_table.specs.Table.{Me, Allows, Splits, Joins, opening, keeps}
 use Rattle.atomic_table.proofs.Lists.{at_set}
 use Rattle.model.specs.Signature.{Verifies}
 use Rattle.model.specs.Genesis.{Genesis}
@@ -12,7 +12,7 @@ use Rattle.model.specs.Ledger.{network_of}
 use Rattle.model.specs.Journal.{JournalEntry, Journal, calls_of, BeginsWithSeen, IsLegalJournal}
 use Rattle.shared.specs.Heights.{height_after, Role, Deals, Calls, Carries, Spent, SeatView, first_view, without_right, note_of, with_note, spent_view, next_role, has_dealt, dealt_role, new_caller, FitsRole, Fits, IsKept, KnowsCalls, IsLooked, IsCompared, with_entry, IsWritten}
 use Rattle.shared.proofs.Journals.{begins_all, begins_nothing, begins_longer, calls_own, calls_other, seat_stays, seat_last, seat_below, one_seat}
-use Rattle.shared.proofs.Views.{FitsAt, AllFit, off, fits_set, fits_push, length_set_view}
+use Rattle.shared.proofs.Views.{AllFit, off, fits_set, fits_push}
 
 -- ---- the opening
 

@@ -1,11 +1,11 @@
 -- The views of all seats, when one changes or one is added.
-use Rattle.std.proofs.Common.{◌≡◌, ◌≢◌, ◌⊎◌, ℕ, zero, suc, List, [], ◌∷◌, ◌++◌, length, set, Bool, true, false, true≢false, refl, sym, ap, ◌∙◌, subst, inl, inr, ⊎_elim, arith}
+use Rattle.std.proofs.Common.{◌≡◌, ◌≢◌, ◌⊎◌, ℕ, zero, suc, List, [], ◌∷◌, ◌++◌, length, set, true, false, true≢false, refl, sym, ap, subst, inl, inr, ⊎_elim}
 use mathlib.Core.Option.{some, some-injective, some-ne-none}
 use lib.ListN.{get_elem?}
 use Rattle.atomic_table.proofs.Lists.{at_set}
 use Rattle.model.specs.Genesis.{Genesis}
 use Rattle.model.specs.Journal.{Journal}
-use Rattle.shared.specs.Heights.{Role, Deals, Calls, Carries, Spent, SeatView, Fits}
+use Rattle.shared.specs.Heights.{Spent, SeatView, Fits}
 
 -- a seat that still serves fits
 abbrev pub FitsAt : Genesis → Journal → ℕ → ℕ → List ℕ → ℕ → SeatView → Type 0

@@ -8,7 +8,6 @@ use lib.ListN.{get_elem?}
 use Rattle.atomic_table.specs.Table as table
 use Rattle.atomic_table.specs.Seated.{TableId}
 use Rattle.model.specs.Signature.{Verifies}
-use Rattle.model.specs.Rules.{Params}
 use Rattle.model.specs.Genesis.{Genesis}
 use Rattle.model.specs.Ledger.{network_of}
 use Rattle.model.specs.History.{Open, OutOfMemory, length_after}

@@ -13,7 +13,7 @@ use std::test::Fail;
 use witness_pool::TestScheme;
 
 /// A database of the chain without a block.
-fn new_db(alloc: Global, k: u64) -> Result<LedgerDb, Fail> {
+pub fn new_db(alloc: Global, k: u64) -> Result<LedgerDb, Fail> {
     let text = document(alloc, "k", "2", &[OUTPUT])?;
     let genesis = Genesis::from_toml(alloc, text.as_str())?;
     let opening = LedgerState::new(alloc, &genesis)?;
@@ -21,7 +21,7 @@ fn new_db(alloc: Global, k: u64) -> Result<LedgerDb, Fail> {
 }
 
 /// The block of these payments after another, or the first one, in this slot.
-fn make(
+pub fn make(
     alloc: Global,
     before: Option<&CheckedBlock<TestScheme>>,
     slot: u64,
@@ -37,7 +37,7 @@ fn make(
 }
 
 /// What a fork that rolls so many blocks back is refused for, or None where it is put on.
-fn switch(
+pub fn switch(
     db: &mut LedgerDb,
     back: usize,
     blocks: &[CheckedBlock<TestScheme>],
@@ -55,7 +55,7 @@ fn switch(
 }
 
 /// The slot and the fees of the state so many blocks ago, and None where the database doesn't go back so far.
-fn seen(db: &LedgerDb, back: usize) -> Result<Option<(u64, u64)>, Fail> {
+pub fn seen(db: &LedgerDb, back: usize) -> Result<Option<(u64, u64)>, Fail> {
     if back > db.depth() {
         return Ok(None);
     }

@@ -3,6 +3,8 @@
 #![tactic(auto)]
 
 #[cfg(test)]
+mod chainsel_tests;
+#[cfg(test)]
 mod core_tests;
 #[cfg(test)]
 mod documents;

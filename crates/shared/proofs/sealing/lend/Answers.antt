@@ -1,5 +1,5 @@
-use Rattle.std.proofs.Common.{◌≡◌, [], true, refl, sym, ap, ◌∙◌, subst, arith}
-use Rattle.shared.specs.Heights.{Carries, Spent, Role, SeatView}
+use Rattle.std.proofs.Common.{◌≡◌, sym, ap, ◌∙◌, arith}
+use Rattle.shared.specs.Heights.{Carries, Spent}
 use Rattle.shared.proofs.Moves.{lends, takes_in}
 use Rattle.shared.proofs.sealing.lend.Goals as goal
 

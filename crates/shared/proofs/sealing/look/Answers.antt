@@ -1,5 +1,4 @@
-use Rattle.std.proofs.Common.{◌≡◌, [], true, refl, sym, ap, ◌∙◌, subst, arith}
-use Rattle.shared.specs.Heights.{Carries, Spent, Role, SeatView}
+use Rattle.std.proofs.Common.{arith}
 use Rattle.shared.proofs.Moves.{looks}
 use Rattle.shared.proofs.sealing.look.Goals as goal
 

@@ -1,4 +1,4 @@
-use Rattle.std.proofs.Common.{◌≡◌, ◌∷◌, ◌++◌, [], sym, subst, arith}
+use Rattle.std.proofs.Common.{◌≡◌, sym, subst, arith}
 use Rattle.atomic_table.specs.Table.{Allows}
 use Rattle.model.specs.Journal.{JournalEntry}
 use Rattle.shared.specs.Heights.{IsKept, IsWritten}

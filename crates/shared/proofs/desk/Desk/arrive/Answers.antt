@@ -4,7 +4,7 @@ use Rattle.model.specs.Ledger.{network_of}
 use Rattle.model.specs.History.{Arrive, Step, IsLegal}
 use Rattle.model.specs.Journal.{Journal, Knowledge, history_of, IsLegalJournal, IsCalled}
 use Rattle.chain_core.specs.Views.{arrive_reply_of}
-use Rattle.shared.specs.Heights.{height_after, knowledge_of}
+use Rattle.shared.specs.Heights.{knowledge_of}
 use Rattle.shared.specs.Entries.{arrival_by}
 use Rattle.shared.proofs.Calls.{height_of_legal, call_of, arrival_legal}
 use Rattle.shared.proofs.desk.Desk.arrive.Goals as goal

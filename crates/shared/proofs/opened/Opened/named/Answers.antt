@@ -1,4 +1,4 @@
-use Rattle.std.proofs.Common.{◌≡◌, [], refl, sym, ap, ◌∙◌, subst}
+use Rattle.std.proofs.Common.{refl, sym, ap, ◌∙◌, subst}
 use Rattle.model.specs.Ledger.{network_of}
 use Rattle.model.specs.History.{opening, IsLegal}
 use Rattle.model.specs.Journal.{Journal, history_of}

@@ -13,7 +13,7 @@ abbrev pub without : ℕ → List Block → List Block
 without k bs = take k bs ++ drop (suc k) bs
 
 -- the list is what stands before the element at k, that element, and what stands behind
-split_at : (k : ℕ) (bs : List Block) (b : Block) → k < length bs → get_or bs k b ≡ b → bs ≡ take k bs ++ b ∷ drop (suc k) bs
+pub split_at : (k : ℕ) (bs : List Block) (b : Block) → k < length bs → get_or bs k b ≡ b → bs ≡ take k bs ++ b ∷ drop (suc k) bs
 split_at zero [] b below is = absurd (omega arith)
 split_at zero (x ∷ xs) b below is = λ i. is i ∷ xs
 split_at (suc k) [] b below is = absurd (omega arith)

@@ -1,0 +1,4 @@
+use Rattle.bench.proofs.heights.measure.Given as goal
+
+abbrev pub ghosts-run : goal.ghosts-run
+ghosts-run g a = record { table = a.opened.table; genesis = a.opened.genesis }

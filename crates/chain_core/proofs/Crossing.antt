@@ -1,0 +1,45 @@
+-- What a core holds and what it answers may go to another thread, whatever the scheme of signatures. A type whole, as it
+-- has its parts, since a `search` that goes down through them runs out of steps.
+use denote.RattleType.{RattleType}
+use denote.Param.Send.{IsSend, sendable}
+use Rattle.std.proofs.Crossing.{crosses}
+use Rattle.persistent_map.proofs.tree.Tree.TheLaws.TheKnot as tree
+use Rattle.utxo_rules.specs.contracts.utxo.Utxo as Utxo
+use Rattle.utxo_rules.proofs.params.Params.TheSendSync as params
+use Rattle.genesis.proofs.genesis.Genesis.TheSendSync as genesis
+use Rattle.ledger.proofs.tip.Tip.TheSendSync as tip
+use Rattle.ledger.specs.contracts.ledger_state.LedgerState as LedgerState
+use Rattle.witness_pool.specs.declared.scheme.SigScheme.{Ghosts}
+use Rattle.block.proofs.ForCallers.{CheckedBlock-send}
+use Rattle.chain_core.specs.contracts.selected.Selected as Selected
+use Rattle.chain_core.specs.contracts.node_core.Core as Core
+use Rattle.chain_core.specs.contracts.follower.Instruction as Instruction
+use Rattle.chain_core.specs.contracts.event.Reply as Reply
+
+utxo_send : IsSend (Utxo.the_field).row
+utxo_send = search (crosses, tree.crosses, sendable) depth 60 fits 20000
+
+state_send : IsSend (LedgerState.the_field).row
+state_send =
+    let u = utxo_send in
+    let p = params.the_field_send in
+    let t = tip.the_field_send in
+    search (crosses, sendable) depth 20
+
+module _ (S : RattleType) (scheme : Ghosts S.Denot) where
+  selected_send : IsSend (Selected.the_field S scheme).row
+  selected_send = let b = CheckedBlock-send S scheme in let l = state_send in search (crosses, sendable) depth 20
+
+  pub Core-send : IsSend (Core.the_field S scheme).row
+  Core-send =
+      let b = CheckedBlock-send S scheme in
+      let l = state_send in
+      let s = selected_send in
+      let g = genesis.the_send in
+      search (crosses, sendable) depth 20
+
+  instruction_send : IsSend (Instruction.the_field S scheme).row
+  instruction_send = let b = CheckedBlock-send S scheme in search (crosses, sendable) depth 20
+
+  pub Reply-send : IsSend (Reply.the_field S scheme).row
+  Reply-send = let i = instruction_send in search (crosses, sendable) depth 20

@@ -1,0 +1,17 @@
+pub mod Places
+pub mod Deaths
+pub mod AtHand
+pub mod Through
+pub mod Keeping
+pub mod Switching
+pub mod Founds
+pub mod Lists
+pub mod Tips
+pub mod Parents
+pub mod Walks
+pub mod EndLemmas
+pub mod Nexts
+pub mod Leasts
+pub mod Turns
+pub mod Settling
+pub mod ForCallers

@@ -1,0 +1,30 @@
+use Rattle.std.proofs.Common.{◌≡◌, ◌≢◌, ◌↔◌, ℕ, Bool, true, false, List, [], ◌∷◌, refl, sym, ap, ◌∙◌}
+use Rattle.std.specs.Prelude.{IsTrue, not, bytes_eq, ◌||◌}
+use Rattle.std.specs.List.{AllByRecursion, list_any}
+use Rattle.std.proofs.lemmas.Slice.Eq.{bytes_eq-Decides}
+use Rattle.ident.specs.declared.block_hash.BlockHash.{BlockHash}
+use Rattle.chainsel.proofs.links.is_unfound.Goals as goal
+
+abbrev IsOther : List ℕ → BlockHash → Type 0
+IsOther hash other = other.bytes ≢ hash
+
+abbrev is_among : List ℕ → List BlockHash → Bool
+is_among hash hs = list_any (λ y. bytes_eq y.bytes hash) hs
+
+-- a hash that is among others doesn't differ from each of them
+unfound : (hash : List ℕ) (hs : List BlockHash) (found : Bool) → found ≡ is_among hash hs → IsTrue (not found) ↔ AllByRecursion (IsOther hash) hs
+unfound hash [] found is = ((λ _. tt), (λ _. ap not is))
+unfound hash (h ∷ hs) found is = by (bytes_eq h.bytes hash) refl is (unfound hash hs found)
+  where
+    by : (t : Bool) → bytes_eq h.bytes hash ≡ t → found ≡ (t || is_among hash hs) → (found ≡ is_among hash hs → IsTrue (not found) ↔ AllByRecursion (IsOther hash) hs) → IsTrue (not found) ↔ AllByRecursion (IsOther hash) (h ∷ hs)
+    by true passes same more = (
+      (λ holds. absurd (let e : false ≡ true = sym (ap not same) ∙ holds in cc)),
+      (λ all. absurd (all.0 ((bytes_eq-Decides h.bytes hash).0 passes))),
+    )
+    by false fails same more = (
+      (λ holds. ((λ e. let f : false ≡ true = sym fails ∙ (bytes_eq-Decides h.bytes hash).1 e in cc), (more same).0 holds)),
+      (λ all. (more same).1 all.1),
+    )
+
+pub returns : goal.returns
+returns c = unfound c.args.hash.bytes c.args.invalid.now c.contains.result c.contains.ensures.value

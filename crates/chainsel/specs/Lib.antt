@@ -1,0 +1,5 @@
+pub mod Dead
+pub mod Ready
+pub mod Choices
+pub mod Paths
+pub mod Ends

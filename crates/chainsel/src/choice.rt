@@ -1,0 +1,35 @@
+//! What a selection answers.
+
+use block::CheckedBlock;
+use ident::BlockHash;
+use ledgerdb::Prepared;
+use witness_pool::SigScheme;
+
+/// What becomes of the selected chain when a block comes.
+#[derive(Drop)]
+pub enum Choice<S: SigScheme> {
+    /// It stays: no candidate is longer.
+    Keep,
+    /// It becomes the longest candidate, of several the one with the least hash at its end.
+    Switch(Switch<S>),
+}
+
+/// How one selected chain becomes the next.
+#[derive(Drop)]
+pub struct Switch<S: SigScheme> {
+    /// How many of its last blocks are rolled back, at most k.
+    pub back: usize,
+    /// The blocks that are put on, the oldest first.
+    pub blocks: Vec<CheckedBlock<S>>,
+    /// The states that these make, for the ledger database that the selection was asked with.
+    pub prepared: Prepared,
+}
+
+/// What a selection answers.
+#[derive(Drop)]
+pub struct Selection<S: SigScheme> {
+    /// What becomes of the selected chain.
+    pub choice: Choice<S>,
+    /// The hashes of the blocks that were found to be in no valid chain, now or ever: live ones, or the one that came.
+    pub invalid: Vec<BlockHash>,
+}

@@ -1,0 +1,65 @@
+//! Whether a block may come next, by its header alone.
+
+ghost use Rattle.std.specs.Prelude.{◌≡◌, ◌≢◌, ◌↔◌, ◌+◌, ◌≤◌, ◌<◌, ◌^◌, IsTrue, Some, length, take};
+ghost use Rattle.std.specs.List.{AllByRecursion};
+ghost use Rattle.model.specs.Chain.{genesis_tip, tip_at, tip_after, Follows};
+ghost use Rattle.chainsel.specs.Paths.{IsFit};
+
+use block::CheckedBlock;
+use blockstore::StoredBlock;
+use ident::BlockHash;
+use witness_pool::SigScheme;
+
+/// Whether the number is the next one after the other.
+fn is_next(before: u64, number: u64) -> bool
+    ensures { IsTrue result ↔ (number ≡ before + 1) }
+{
+    before < number && number - before == 1
+}
+
+/// Whether the block names this one as the block before it.
+fn names<S: SigScheme>(block: &CheckedBlock<S>, hash: BlockHash) -> bool
+    ensures { IsTrue result ↔ (block.now.header.previous ≡ Some hash.bytes) }
+{
+    block.previous() == Some(hash)
+}
+
+/// Whether the block may come next after the other.
+pub fn follows<S: SigScheme>(before: &CheckedBlock<S>, block: &CheckedBlock<S>) -> bool
+    ensures next { IsTrue result ↔ Follows (tip_at before.now) block.now }
+    // Numbers are of 64 bits.
+    ensures range { block.now.header.number < 2 ^ 64 }
+{
+    is_next(before.number(), block.number())
+        && names(block, before.hash())
+        && before.slot() < block.slot()
+}
+
+/// Whether the block may come next after the first `keep` blocks of the chain.
+pub fn follows_chain<S: SigScheme>(
+    chain: &[CheckedBlock<S>],
+    keep: usize,
+    block: &CheckedBlock<S>,
+) -> bool
+    requires { keep ≤ length chain.now }
+    ensures { IsTrue result ↔ Follows (tip_after genesis_tip (take keep chain.now)) block.now }
+{
+    match chain[..keep].last() {
+        Some(last) => follows(last, block),
+        None => block.number() == 1 && block.previous().is_none() && 0 < block.slot(),
+    }
+}
+
+/// Whether the block with this hash isn't among those that were found dead by now.
+fn is_unfound(invalid: &[BlockHash], hash: BlockHash) -> bool
+    ensures { IsTrue result ↔ AllByRecursion (λ other. other.bytes ≢ hash.bytes) invalid.now }
+{
+    !invalid.contains(&hash)
+}
+
+/// Whether nothing is known against a live block: it has no mark, and isn't among those that were found dead by now.
+pub fn is_fit<S: SigScheme>(invalid: &[BlockHash], stored: &StoredBlock<S>) -> bool
+    ensures { IsTrue result ↔ IsFit invalid.now stored.now }
+{
+    !stored.is_invalid() && is_unfound(invalid, stored.block().hash())
+}

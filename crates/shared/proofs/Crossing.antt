@@ -1,0 +1,50 @@
+-- A shared core may be used by several threads, and a caller may go to another one, whatever the scheme of signatures and
+-- whatever the core's name. A type whole, as it has its parts, since a `search` that goes down through them runs out of
+-- steps.
+use denote.RattleType.{RattleType}
+use denote.Builtin.{unit}
+use denote.Param.Send.{IsSend, IsSync, struct_sync, sendable}
+use denote.Struct.Declared.{shape}
+use Rattle.std.proofs.Crossing.{crosses}
+use Rattle.std.proofs.Crossing as heap
+use Rattle.std.proofs.sync.Mutex.TheSendSync as mutex
+use Rattle.std.specs.contracts.alloc.Global as Global
+use Rattle.std.specs.contracts.impls.GlobalAllocator.TheImpl as allocator
+use Rattle.atomic_table.proofs.shared.Seat.TheSendSync as seat
+use Rattle.atomic_table.proofs.owned.Table.TheSendSync as table
+use Rattle.genesis.specs.contracts.genesis.Genesis as Genesis
+use Rattle.witness_pool.specs.declared.scheme.SigScheme as scheme
+use Rattle.chain_core.proofs.ForCallers.{Core-send, Reply-send}
+use Rattle.chain_core.proofs.event.RawEvent.TheSendSync as event
+use Rattle.shared.specs.declared.room.Room as room
+use Rattle.shared.specs.contracts.caller.Caller as Caller
+use Rattle.shared.specs.contracts.heights.View as View
+use Rattle.shared.specs.contracts.heights.HeightRule as HeightRule
+use Rattle.shared.specs.contracts.heights.HeightRuleTableRuleUnitViewGenesis.TheImpl as rule
+use Rattle.shared.specs.contracts.journal_entry.JournalEntry as JournalEntry
+use Rattle.shared.specs.contracts.desk.Desk as Desk
+use Rattle.shared.specs.contracts.shared.Shared as Shared
+use Rattle.shared.proofs.caller.Caller.TheSendSync as caller
+
+unit_send : IsSend unit
+unit_send = search sendable
+
+pub Caller-send : (B : RattleType) (b : room.Ghosts B.Denot) → IsSend (Caller.the_field B b).row
+Caller-send = caller.the_send
+
+module _ (S : RattleType) (s : scheme.Ghosts S.Denot) where
+  entry_send : IsSend (JournalEntry.the_field S s).row
+  entry_send = let r = Reply-send S s in let e = event.the_field_send in search (crosses, sendable) depth 20
+
+  module _ (B : RattleType) (b : room.Ghosts B.Denot) where
+    desk_send : IsSend (Desk.the_field S B s b).row
+    desk_send = let c = Core-send S s in let e = entry_send in search (seat.the_send, crosses, sendable) depth 20
+
+    -- the word, and the lock with what lies under it
+    pub Shared-sync : IsSync (Shared.the_field S B b s).row
+    Shared-sync =
+        struct_sync (shape (Shared.the_type S B b s)) (
+          table.the_field_sync unit View.the_row Genesis.the_row (HeightRule.the_row S) Global.the_row
+              (rule.ghosts S s rule.no_dict) allocator.ghosts unit_send heap.send heap.sync heap.frees,
+          (mutex.the_sync (Desk.the_row S B s b) desk_send, tt),
+        )
