@@ -1,6 +1,8 @@
 //! The store of live blocks.
 
 ghost use Rattle.std.specs.Prelude.{◌≡◌, ◌↔◌, [], length, map, option_map, IsTrue, MatchOption, OnOk, IfOk, IfErr};
+ghost use Rattle.model.specs.Block.{Block, block_text};
+ghost use Rattle.block.specs.Read.{IsRead};
 ghost use Rattle.block.specs.View.{bytes_of};
 ghost use Rattle.blockstore.specs.Stored.{empty_store, IsSet, HasBlock};
 ghost use Rattle.blockstore.specs.Insertion.{IsKnown, IsFull, IsAllowed, IsInsertFault, IsInserted};
@@ -78,8 +80,11 @@ impl<S: SigScheme> BlockStore<S> {
 
     /// The live block with this hash, if there is one.
     pub fn get(&self, hash: BlockHash) -> Option<&StoredBlock<S>>
-        ensures { MatchOption result (HasNoneAt self.now hash.bytes)
+        ensures found { MatchOption result (HasNoneAt self.now hash.bytes)
             (λ found. IsAt self.now hash.bytes found.now) }
+        // A live block with the text of one that was read is that block.
+        ensures one { (b : Block) → IsRead b (block_text b) → IsKnown self.now b ↔ HasBlock self.now b }
+        ensures set { IsSet self.now }
     {
         scan::with_hash(&self.blocks, hash)
     }

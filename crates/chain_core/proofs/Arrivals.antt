@@ -1,49 +1,106 @@
 -- An arrival, from what its parts promise.
-use Rattle.std.proofs.Common.{◌≡◌, ℕ, ◌++◌, List, [], ◌∷◌, Some, None, sym, subst}
+use Rattle.std.proofs.Common.{◌≡◌, ◌≢◌, ℕ, List, [], ◌∷◌, Contains, Option, Some, None, refl, sym, subst, ◌∙◌, inl, inr}
+use Rattle.std.specs.List.{AllByRecursion}
+use Rattle.std.proofs.lemmas.Bool.{cases_lt}
+use Rattle.std.proofs.lemmas.List.{length-map}
 use Rattle.block.specs.Read.{IsRead}
-use Rattle.model.specs.Block.{Block}
+use Rattle.model.specs.Block.{Block, block_hash_of}
 use Rattle.model.specs.Genesis.{Genesis}
 use Rattle.model.specs.Ledger.{Network, network_of}
-use Rattle.model.specs.Chain.{IsSelection}
+use Rattle.model.specs.Chain.{IsSelection, Stays, Changes, immutable_length}
 use Rattle.model.specs.Follower.{Followers}
-use Rattle.model.specs.History.{State, Refusal, Applies, Arrive, Kept, Refused, IsChange, Step}
-use Rattle.chain_core.specs.Held.{Held, Stands, held_of, IsSound}
+use Rattle.model.specs.History.{State, Refusal, TooOld, Known, Clash, Applies, Arrive, Kept, Refused, IsChange, Keeps, Step}
+use Rattle.model.proofs.Lists.{all_from_members, all_weaker, contains_later}
+use Rattle.blockstore.specs.Stored.{Stored, blocks_of}
+use Rattle.blockstore.specs.Live.{HoldsLive}
+use Rattle.chainsel.specs.Ready.{IsReady}
+use Rattle.chainsel.proofs.ForCallers.{settled_live}
+use Rattle.chain_core.specs.declared.chain_db.ChainDb.{ChainDb}
+use Rattle.chain_core.specs.declared.chain_db.Change.{Change}
+use Rattle.chain_core.specs.ChainDbs.{IsWhole, HasState, IsAdded}
+use Rattle.chain_core.specs.Held.{Held, Stands, held_of}
 use Rattle.chain_core.specs.Judgements.{IsJudged}
-use Rattle.chain_core.proofs.Steps.{state, none_over, refused_step, kept_step_of, sound_with, sound_after}
 
--- a refusal is a step of each state that the core stands for
-pub refused_arrival : (network : Network) (kept chain shown_kept shown_chain : List Block) (followers : Followers) (now : Held) (bytes : List ℕ) (b : Block) (r : Refusal) → held_of network.genesis kept chain followers ≡ now → shown_kept ≡ kept → shown_chain ≡ chain
-    → IsRead b bytes → IsJudged network.genesis (state shown_kept shown_chain) b (Some r) → (s : State) → Stands now s → (t : State) × Step (network_of now.genesis network.verifies) s (Arrive bytes) (Refused r) t × Stands now t
-refused_arrival network kept chain shown_kept shown_chain followers now bytes b r view same_kept same_chain read judged =
-    let here : IsJudged network.genesis (state kept chain) b (Some r) = subst (λ (s : State). IsJudged network.genesis s b (Some r)) (λ i. state (same_kept i) (same_chain i)) judged in
+-- ---- a block to which no refusal applies may be put in
+
+-- the state in which nothing is kept but the live blocks
+abbrev pub at_rest : {S : Type 0} → ChainDb S → State
+at_rest a = record { kept = blocks_of a.store; chain = a.chain.items; followers = [] }
+
+pub rests : {S : Type 0} (network : Network) (a : ChainDb S) → IsWhole network a → HasState network.genesis a (at_rest a)
+rests network a whole = record { chain = refl; live = settled_live network a.chain.items a.store a.db whole.settled }
+
+pub is_ready : {S : Type 0} (network : Network) (a : ChainDb S) (b : Block) (bytes : List ℕ) → IsWhole network a → IsRead b bytes → IsJudged network.genesis (at_rest a) b None → IsReady network a.chain.items a.store a.db b
+is_ready network a b bytes whole read judged =
+    let none : (r : Refusal) → Applies network.genesis (at_rest a) bytes r → ⊥ = judged bytes read in
+    let live = (rests network a whole).live in
+    record {
+      settled = whole.settled;
+      past = elim (cases_lt (immutable_length network.genesis a.chain.items) b.header.number) [ inl young ↦ young | inr old ↦ absurd (none TooOld (b, read.read, old)) ];
+      alone = all_from_members (λ c. block_hash_of c ≢ block_hash_of b) (blocks_of a.store)
+          (λ c member same. none Clash (b, read.read, (c, inl ((live.members c).0 member), same, λ text. none Known (c, (live.members c).0 member, text))));
+    }
+
+-- ---- steps of each state that the core stands for
+
+state_of : {S : Type 0} (genesis : Genesis) (a : ChainDb S) (followers : Followers) (s : State) → Stands (held_of genesis (blocks_of a.store) a.chain.items followers) s → HasState genesis a s
+state_of genesis a followers s stands = record {
+  chain = stands.chain;
+  live = record { members = stands.members; count = sym (length-map a.store.blocks (λ (x : Stored). x.block)) ∙ stands.count };
+}
+
+-- the block is judged so beside each state
+abbrev pub IsJudgedAt : {S : Type 0} → Genesis → ChainDb S → Block → Option Refusal → Type 0
+IsJudgedAt genesis a b answer = (s : State) → HasState genesis a s → IsJudged genesis s b answer
+
+-- a refusal
+pub refused_arrival : {S : Type 0} (network : Network) (a : ChainDb S) (followers : Followers) (now : Held) (bytes : List ℕ) (b : Block) (r : Refusal) → held_of network.genesis (blocks_of a.store) a.chain.items followers ≡ now → IsRead b bytes
+    → IsJudgedAt network.genesis a b (Some r) → (s : State) → Stands now s → (t : State) × Step (network_of now.genesis network.verifies) s (Arrive bytes) (Refused r) t × Stands now t
+refused_arrival network a followers now bytes b r view read judged =
     subst (λ (h : Held). (s : State) → Stands h s → (t : State) × Step (network_of h.genesis network.verifies) s (Arrive bytes) (Refused r) t × Stands h t) view
-    (λ s stands. refused_step network kept chain bytes r followers s (here bytes read) stands)
+    (λ s stands. (s, (judged s (state_of network.genesis a followers s stands) bytes read, refl), stands))
 
--- no refusal applies where none is told
-pub not_refused : (genesis : Genesis) (kept chain shown_kept shown_chain : List Block) (bytes : List ℕ) (b : Block) → shown_kept ≡ kept → shown_chain ≡ chain → IsRead b bytes
-    → IsJudged genesis (state shown_kept shown_chain) b None → (r : Refusal) → Applies genesis (state kept chain) bytes r → ⊥
-not_refused genesis kept chain shown_kept shown_chain bytes b same_kept same_chain read judged =
-    let here : IsJudged genesis (state kept chain) b None = subst (λ (s : State). IsJudged genesis s b None) (λ i. state (same_kept i) (same_chain i)) judged in
-    here bytes read
-
--- a block that is kept is kept by each state that the core stands for
-pub kept_arrival : (network : Network) (kept chain new_kept new_chain : List Block) (followers : Followers) (now : Held) (bytes : List ℕ) (b : Block) (back added : ℕ) → held_of network.genesis kept chain followers ≡ now → IsSound network kept chain → IsRead b bytes
-    → ((r : Refusal) → Applies network.genesis (state kept chain) bytes r → ⊥) → new_kept ≡ kept ++ b ∷ [] → IsSelection network new_kept chain new_chain → IsChange chain new_chain back added
-    → (s : State) → Stands now s → (t : State) × Step (network_of now.genesis network.verifies) s (Arrive bytes) (Kept back added) t × Stands (held_of network.genesis new_kept new_chain followers) t
-kept_arrival network kept chain new_kept new_chain followers now bytes b back added view sound read none pushed selection change =
-    let selected : IsSelection network (kept ++ b ∷ []) chain new_chain = subst (λ (bs : List Block). IsSelection network bs chain new_chain) pushed selection in
-    subst (λ (h : Held). (s : State) → Stands h s → (t : State) × Step (network_of h.genesis network.verifies) s (Arrive bytes) (Kept back added) t × Stands (held_of network.genesis new_kept new_chain followers) t) view
-    (λ s stands. subst (λ (bs : List Block). (t : State) × Step network s (Arrive bytes) (Kept back added) t × Stands (held_of network.genesis bs new_chain followers) t) (sym pushed)
-    (kept_step_of network kept chain b bytes new_chain back added followers s sound read.read none selected change stands))
-
--- the core is sound after it
-pub sound_kept : (network : Network) (kept chain new_kept new_chain : List Block) (bytes : List ℕ) (b : Block) → IsSound network kept chain → IsRead b bytes
-    → ((r : Refusal) → Applies network.genesis (state kept chain) bytes r → ⊥) → new_kept ≡ kept ++ b ∷ [] → IsSelection network new_kept chain new_chain → IsSound network new_kept new_chain
-sound_kept network kept chain new_kept new_chain bytes b sound read none pushed selection =
-    sound_after network new_kept chain new_chain (subst (λ (bs : List Block). IsSound network bs chain) (sym pushed) (sound_with network kept chain bytes b sound read.read none)) selection
-
--- where none is told, none applies to any state that the core stands for
-pub none_applies : (genesis : Genesis) (kept chain : List Block) (followers : Followers) (now : Held) (bytes : List ℕ) → held_of genesis kept chain followers ≡ now → ((r : Refusal) → Applies genesis (state kept chain) bytes r → ⊥)
+-- where none is told, none applies
+pub none_applies : {S : Type 0} (genesis : Genesis) (a : ChainDb S) (followers : Followers) (now : Held) (bytes : List ℕ) (b : Block) → held_of genesis (blocks_of a.store) a.chain.items followers ≡ now → IsRead b bytes → IsJudgedAt genesis a b None
     → (s : State) → Stands now s → (r : Refusal) → Applies now.genesis s bytes r → ⊥
-none_applies genesis kept chain followers now bytes view none =
-    subst (λ (h : Held). (s : State) → Stands h s → (r : Refusal) → Applies h.genesis s bytes r → ⊥) view (none_over genesis kept chain bytes followers none)
+none_applies genesis a followers now bytes b view read judged =
+    subst (λ (h : Held). (s : State) → Stands h s → (r : Refusal) → Applies h.genesis s bytes r → ⊥) view (λ s stands. judged s (state_of genesis a followers s stands) bytes read)
+
+selection_members : (network : Network) (kept old new : List Block) → AllByRecursion (Contains kept) old → IsSelection network kept old new → AllByRecursion (Contains kept) new
+selection_members network kept old new members (Stays none) = members
+selection_members network kept old new members (Changes c chosen) = chosen.candidate.members
+
+-- a block that is kept
+pub kept_arrival : {S : Type 0} (network : Network) (old new : ChainDb S) (followers : Followers) (now : Held) (bytes : List ℕ) (b : Block) (told : Change) → held_of network.genesis (blocks_of old.store) old.chain.items followers ≡ now → IsRead b bytes
+    → IsJudgedAt network.genesis old b None → IsAdded network old b new told
+    → (s : State) → Stands now s → (t : State) × Step (network_of now.genesis network.verifies) s (Arrive bytes) (Kept told.back told.added) t × Stands (held_of network.genesis (blocks_of new.store) new.chain.items followers) t
+kept_arrival {S} network old new followers now bytes b told view read judged added =
+    subst (λ (h : Held). (s : State) → Stands h s → (t : State) × Step (network_of h.genesis network.verifies) s (Arrive bytes) (Kept told.back told.added) t × Stands (held_of network.genesis (blocks_of new.store) new.chain.items followers) t) view each
+  where
+    each : (s : State) → Stands (held_of network.genesis (blocks_of old.store) old.chain.items followers) s
+        → (t : State) × Keeps network s bytes told.back told.added t × Stands (held_of network.genesis (blocks_of new.store) new.chain.items followers) t
+    each s stands =
+        let has = state_of network.genesis old followers s stands in
+        let live : HoldsLive network.genesis s.kept old.chain.items old.store = subst (λ (c : List Block). HoldsLive network.genesis s.kept c old.store) (sym has.chain) has.live in
+        let after = added.live s.kept live in
+        let in_old : AllByRecursion (Contains s.kept) old.chain.items = subst (AllByRecursion (Contains s.kept)) (sym stands.chain) stands.chain_kept in
+        let in_both = all_weaker (Contains s.kept) (Contains (b ∷ s.kept)) old.chain.items (λ c member. contains_later b s.kept c member) in_old in
+        let selection : IsSelection network (b ∷ s.kept) old.chain.items new.chain.items = added.selected s.kept live in_old in (
+          record { kept = b ∷ s.kept; chain = new.chain.items; followers = s.followers },
+          record {
+            block = b;
+            read = read.read;
+            not_refused = judged s has bytes read;
+            kept = refl;
+            followers = refl;
+            selection = subst (λ (c : List Block). IsSelection network (b ∷ s.kept) c new.chain.items) stands.chain selection;
+            change = subst (λ (c : List Block). IsChange c new.chain.items told.back told.added) stands.chain added.change;
+          },
+          record {
+            chain = refl;
+            followers = stands.followers;
+            members = after.members;
+            count = length-map new.store.blocks (λ (x : Stored). x.block) ∙ after.count;
+            chain_kept = selection_members network (b ∷ s.kept) old.chain.items new.chain.items in_both selection;
+          },
+        )

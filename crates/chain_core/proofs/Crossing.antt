@@ -3,15 +3,19 @@
 use denote.RattleType.{RattleType}
 use denote.Param.Send.{IsSend, sendable}
 use Rattle.std.proofs.Crossing.{crosses}
+use Rattle.std.proofs.collections.LinkedList.TheSendSync as list
 use Rattle.persistent_map.proofs.tree.Tree.TheLaws.TheKnot as tree
 use Rattle.utxo_rules.specs.contracts.utxo.Utxo as Utxo
 use Rattle.utxo_rules.proofs.params.Params.TheSendSync as params
 use Rattle.genesis.proofs.genesis.Genesis.TheSendSync as genesis
 use Rattle.ledger.proofs.tip.Tip.TheSendSync as tip
 use Rattle.ledger.specs.contracts.ledger_state.LedgerState as LedgerState
+use Rattle.ledgerdb.specs.contracts.ledger_db.LedgerDb as LedgerDb
 use Rattle.witness_pool.specs.declared.scheme.SigScheme.{Ghosts}
 use Rattle.block.proofs.ForCallers.{CheckedBlock-send}
-use Rattle.chain_core.specs.contracts.selected.Selected as Selected
+use Rattle.blockstore.specs.contracts.stored_block.StoredBlock as StoredBlock
+use Rattle.blockstore.specs.contracts.store.BlockStore as BlockStore
+use Rattle.chain_core.specs.contracts.chain_db.ChainDb as ChainDb
 use Rattle.chain_core.specs.contracts.node_core.Core as Core
 use Rattle.chain_core.specs.contracts.follower.Instruction as Instruction
 use Rattle.chain_core.specs.contracts.event.Reply as Reply
@@ -26,15 +30,27 @@ state_send =
     let t = tip.the_field_send in
     search (crosses, sendable) depth 20
 
+db_send : IsSend (LedgerDb.the_field).row
+db_send = let l = state_send in search (list.the_send, crosses, sendable) depth 20
+
 module _ (S : RattleType) (scheme : Ghosts S.Denot) where
-  selected_send : IsSend (Selected.the_field S scheme).row
-  selected_send = let b = CheckedBlock-send S scheme in let l = state_send in search (crosses, sendable) depth 20
+  stored_send : IsSend (StoredBlock.the_field S scheme).row
+  stored_send = let b = CheckedBlock-send S scheme in search (crosses, sendable) depth 20
+
+  store_send : IsSend (BlockStore.the_field S scheme).row
+  store_send = let s = stored_send in search (crosses, sendable) depth 20
+
+  chain_db_send : IsSend (ChainDb.the_field S scheme).row
+  chain_db_send =
+      let b = CheckedBlock-send S scheme in
+      let s = store_send in
+      let d = db_send in
+      search (crosses, sendable) depth 20
 
   pub Core-send : IsSend (Core.the_field S scheme).row
   Core-send =
       let b = CheckedBlock-send S scheme in
-      let l = state_send in
-      let s = selected_send in
+      let d = chain_db_send in
       let g = genesis.the_send in
       search (crosses, sendable) depth 20
 

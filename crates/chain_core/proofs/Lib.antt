@@ -1,10 +1,6 @@
-pub mod Candidates
-pub mod GrownForks
-pub mod ChosenForks
-pub mod SwitchedStates
-pub mod Steps
+pub mod NextStores
+pub mod Adding
 pub mod Tips
-pub mod Leasts
 pub mod Refusals
 pub mod Arrivals
 pub mod Runs

@@ -1,18 +1,24 @@
 -- From what is found among the blocks to the first refusal that applies.
-use Rattle.std.proofs.Common.{◌≡◌, ℕ, ◌+◌, ◌<◌, ◌≤◌, ◌↔◌, List, length, Contains, sym, ap, subst, ◌∙◌, arith, inl, inr, ◌⊎◌, lit<}
-use Rattle.std.specs.Prelude.{Any, nat_lt, filter, Some, None}
-use Rattle.std.proofs.lemmas.Bool.{cases_lt, lt-ltb}
+use Rattle.std.proofs.Common.{◌≡◌, ℕ, ◌+◌, ◌<◌, ◌≤◌, ◌↔◌, List, Contains, refl, sym, ap, subst, ◌∙◌, arith, inl, inr, ◌⊎◌, lit<}
+use Rattle.std.specs.Prelude.{Any, Some, None}
+use Rattle.std.proofs.lemmas.Bool.{cases_lt}
 use Rattle.block.specs.Read.{IsRead}
 use Rattle.model.specs.Block.{Block, block_hash_of, block_text, body_hash_of}
 use Rattle.model.specs.Genesis.{Genesis}
-use Rattle.model.specs.Chain.{immutable_length, live_blocks}
+use Rattle.model.specs.Ledger.{Network}
+use Rattle.model.specs.Chain.{immutable_length}
 use Rattle.model.specs.History.{State, Refusal, TooLarge, Malformed, BodyHashMismatch, TooOld, Known, Clash, VolatileFull, refusal_number, Applies, IsRefused}
 use Rattle.model.specs.Codes.{refusal_at, refusal_back}
-use Rattle.model.proofs.Lists.{contains_filter}
 use Rattle.model.proofs.BlockTexts.{one_block, block_text_is}
-use Rattle.chain_core.specs.Judgements.{IsClash, IsClashWith, IsJudged}
-use Rattle.model.proofs.Candidates.{live_is_kept, live_number}
-use Rattle.chain_core.proofs.Steps.{state}
+use Rattle.model.proofs.Chains.{one_with_hash}
+use Rattle.model.proofs.MappedLists.{contains_map}
+use Rattle.blockstore.specs.Stored.{Stored, Store, HasBlock, IsSet, blocks_of}
+use Rattle.blockstore.specs.Insertion.{IsKnown, IsClash, IsFull}
+use Rattle.blockstore.specs.Answers.{HasNoneAt, IsAt}
+use Rattle.blockstore.proofs.ForCallers.{HoldsState, IsChainClash, known_over, clash_over, full_over}
+use Rattle.chain_core.specs.declared.chain_db.ChainDb.{ChainDb}
+use Rattle.chain_core.specs.ChainDbs.{IsWhole, HasState}
+use Rattle.chain_core.specs.Judgements.{IsClashWith, IsJudged}
 
 -- no refusal with a lesser number applies
 abbrev pub NoneBelow : Genesis → State → List ℕ → ℕ → Type 0
@@ -55,138 +61,95 @@ none_of_reading genesis s b bytes read Known lower applies = omega arith
 none_of_reading genesis s b bytes read Clash lower applies = omega arith
 none_of_reading genesis s b bytes read VolatileFull lower applies = omega arith
 
-pub old_applies : (genesis : Genesis) (kept chain : List Block) (b : Block) (bytes : List ℕ) → IsRead b bytes → Applies genesis (state kept chain) bytes TooOld ↔ (b.header.number ≤ immutable_length genesis chain)
-old_applies genesis kept chain b bytes read = (
-  (λ applies. subst (λ (c : Block). c.header.number ≤ immutable_length genesis chain) (one_block applies.0 b bytes applies.1 read.read) applies.2),
+old_applies : (genesis : Genesis) (s : State) (b : Block) (bytes : List ℕ) → IsRead b bytes → Applies genesis s bytes TooOld ↔ (b.header.number ≤ immutable_length genesis s.chain)
+old_applies genesis s b bytes read = (
+  (λ applies. subst (λ (c : Block). c.header.number ≤ immutable_length genesis s.chain) (one_block applies.0 b bytes applies.1 read.read) applies.2),
   (λ le. (b, read.read, le)),
 )
 
-any_member : (P : Block → Type 0) (bs : List Block) (c : Block) → Contains bs c → P c → Any P bs
-any_member P bs c member holds = (member.0, c, member.1, member.2, holds)
+-- ---- the judgement, as the code comes to it, for each state with the chain and the live blocks
 
-pub known_applies : (genesis : Genesis) (kept chain : List Block) (b : Block) (bytes : List ℕ) → IsRead b bytes
-    → Applies genesis (state kept chain) bytes Known ↔ Any (λ c. (immutable_length genesis chain < c.header.number) × (block_text c ≡ block_text b)) kept
-known_applies genesis kept chain b bytes read =
-    let text : block_text b ≡ bytes = block_text_is b bytes read.read in (
-      (λ applies. any_member (λ c. (immutable_length genesis chain < c.header.number) × (block_text c ≡ block_text b)) kept applies.0 (live_is_kept genesis kept chain applies.0 applies.1)
-          (live_number genesis kept chain applies.0 applies.1, applies.2 ∙ sym text)),
-      (λ any. (any.1, contains_filter (λ d. nat_lt (immutable_length genesis chain) d.header.number) kept any.1 (any.0, any.2, any.3) (lt-ltb (immutable_length genesis chain) any.1.header.number any.4.0), any.4.1 ∙ text)),
+module _ {S : Type 0} (network : Network) (a : ChainDb S) (s : State) (whole : IsWhole network a) (has : HasState network.genesis a s) (b : Block) where
+  -- the number is past the immutable part
+  abbrev IsYoung : Type 0
+  IsYoung = immutable_length network.genesis a.chain.items < b.header.number
+
+  -- the state's live blocks are held, as many as may be
+  holds : HoldsState network.genesis s a.store
+  holds = record { live = has.live; capacity = whole.capacity }
+
+  at_chain : (n : ℕ) → n ≡ immutable_length network.genesis a.chain.items → n ≡ immutable_length network.genesis s.chain
+  at_chain n is = is ∙ ap (immutable_length network.genesis) has.chain
+
+  pub judged_old : (n : ℕ) → n ≡ immutable_length network.genesis a.chain.items → b.header.number ≤ n → IsJudged network.genesis s b (Some TooOld)
+  judged_old n is old bytes read =
+      refused_by network.genesis s bytes TooOld (none_of_reading network.genesis s b bytes read) ((old_applies network.genesis s b bytes read).1 (let e = at_chain n is in omega (arith, e, old)))
+
+  below_known : IsYoung → (bytes : List ℕ) → IsRead b bytes → NoneBelow network.genesis s bytes 5
+  below_known young bytes read =
+      none_below_next network.genesis s bytes TooOld (none_of_reading network.genesis s b bytes read)
+      (λ applies. let le = (old_applies network.genesis s b bytes read).0 applies in let e = at_chain (immutable_length network.genesis a.chain.items) refl in omega (arith, le, e, young))
+
+  pub judged_known : IsYoung → IsKnown a.store b → IsJudged network.genesis s b (Some Known)
+  judged_known young known bytes read =
+      refused_by network.genesis s bytes Known (below_known young bytes read) ((known_over network.genesis s a.store b bytes holds read.read).0 known)
+
+  below_clash : IsYoung → (IsKnown a.store b → ⊥) → (bytes : List ℕ) → IsRead b bytes → NoneBelow network.genesis s bytes 6
+  below_clash young unknown bytes read =
+      none_below_next network.genesis s bytes Known (below_known young bytes read) (λ applies. unknown ((known_over network.genesis s a.store b bytes holds read.read).1 applies))
+
+  pub judged_clash : IsYoung → (IsKnown a.store b → ⊥) → IsClash a.store b ⊎ IsChainClash s b → IsJudged network.genesis s b (Some Clash)
+  judged_clash young unknown clash bytes read =
+      refused_by network.genesis s bytes Clash (below_clash young unknown bytes read) ((clash_over network.genesis s a.store b bytes holds read.read).0 clash)
+
+  below_full : IsYoung → (IsKnown a.store b → ⊥) → (IsClash a.store b → ⊥) → (IsChainClash s b → ⊥) → (bytes : List ℕ) → IsRead b bytes → NoneBelow network.genesis s bytes 7
+  below_full young unknown alone no_clash bytes read =
+      none_below_next network.genesis s bytes Clash (below_clash young unknown bytes read)
+      (λ applies. elim ((clash_over network.genesis s a.store b bytes holds read.read).1 applies) [ inl live ↦ alone live | inr there ↦ no_clash there ])
+
+  pub judged_full : IsYoung → (IsKnown a.store b → ⊥) → (IsClash a.store b → ⊥) → (IsChainClash s b → ⊥) → IsFull a.store → IsJudged network.genesis s b (Some VolatileFull)
+  judged_full young unknown alone no_clash full bytes read =
+      refused_by network.genesis s bytes VolatileFull (below_full young unknown alone no_clash bytes read) ((full_over network.genesis s a.store bytes holds).0 full)
+
+  pub judged_none : IsYoung → (IsKnown a.store b → ⊥) → (IsClash a.store b → ⊥) → (IsChainClash s b → ⊥) → (IsFull a.store → ⊥) → IsJudged network.genesis s b None
+  judged_none young unknown alone no_clash room bytes read =
+      none_at_all network.genesis s bytes
+      (none_below_next network.genesis s bytes VolatileFull (below_full young unknown alone no_clash bytes read) (λ applies. room ((full_over network.genesis s a.store bytes holds).1 applies)))
+
+-- ---- what is found by a hash
+
+-- what was read from some bytes is what is read from its text
+pub read_again : (b : Block) (bytes : List ℕ) → IsRead b bytes → IsRead b (block_text b)
+read_again b bytes read = subst (IsRead b) (sym (block_text_is b bytes read.read)) read
+
+-- a stored block has the text
+pub known_at : (store : Store) (b : Block) (found : Stored) (hash : List ℕ) → IsAt store hash found → block_text found.block ≡ block_text b → IsKnown store b
+known_at store b found hash at same = (found.block, contains_map (λ (x : Stored). x.block) store.blocks found at.member, same)
+
+-- a stored block has the hash and another text
+pub other_at : (store : Store) (b : Block) (found : Stored) (hash : List ℕ) → IsSet store → IsKnown store b ↔ HasBlock store b → IsAt store hash found → hash ≡ block_hash_of b → (block_text found.block ≡ block_text b → ⊥)
+    → (IsKnown store b → ⊥) × IsClash store b
+other_at store b found hash is_set one at is other =
+    let live = contains_map (λ (x : Stored). x.block) store.blocks found at.member in (
+      (λ known. other (ap block_text (one_with_hash (blocks_of store) found.block b is_set.distinct live (one.0 known) (at.same ∙ is)))),
+      (found.block, live, at.same ∙ is, other),
     )
 
-pub clash_applies : (genesis : Genesis) (kept chain : List Block) (b : Block) (bytes : List ℕ) → IsRead b bytes
-    → Applies genesis (state kept chain) bytes Clash ↔ (Any (λ c. (immutable_length genesis chain < c.header.number) × IsClash c b) kept ⊎ Any (λ c. IsClash c b) chain)
-clash_applies genesis kept chain b bytes read = (to, back)
+-- none has the hash
+pub none_at : (store : Store) (b : Block) (hash : List ℕ) → IsKnown store b ↔ HasBlock store b → HasNoneAt store hash → hash ≡ block_hash_of b → (IsKnown store b → ⊥) × (IsClash store b → ⊥)
+none_at store b hash one none is = ((λ known. none b (one.0 known) (sym is)), (λ clash. none clash.0 clash.1 (clash.2 ∙ sym is)))
+
+-- a block of the chain has the hash and another text
+pub clash_in : (s : State) (b : Block) (hash bytes : List ℕ) (shown : List Block) → shown ≡ s.chain → IsRead b bytes → hash ≡ block_hash_of b → Any (λ c. IsClashWith hash bytes c) shown ↔ IsChainClash s b
+clash_in s b hash bytes shown same read is = (to, back)
   where
     text : block_text b ≡ bytes
     text = block_text_is b bytes read.read
 
-    to : Applies genesis (state kept chain) bytes Clash → Any (λ c. (immutable_length genesis chain < c.header.number) × IsClash c b) kept ⊎ Any (λ c. IsClash c b) chain
-    to applies =
-        let c = applies.2.0 in
-        let same : applies.0 ≡ b = one_block applies.0 b bytes applies.1 read.read in
-        let clash : IsClash c b = (applies.2.2 ∙ ap block_hash_of same, λ texts. applies.2.3 (texts ∙ text)) in
-        elim applies.2.1 [
-          | inl live ↦ inl (any_member (λ d. (immutable_length genesis chain < d.header.number) × IsClash d b) kept c (live_is_kept genesis kept chain c live) (live_number genesis kept chain c live, clash))
-          | inr in_chain ↦ inr (any_member (λ d. IsClash d b) chain c in_chain clash)
-        ]
+    to : Any (λ c. IsClashWith hash bytes c) shown → IsChainClash s b
+    to any = (any.1, subst (λ (bs : List Block). Contains bs any.1) same (any.0, any.2, any.3), any.4.0 ∙ is, λ texts. any.4.1 (texts ∙ text))
 
-    back : Any (λ c. (immutable_length genesis chain < c.header.number) × IsClash c b) kept ⊎ Any (λ c. IsClash c b) chain → Applies genesis (state kept chain) bytes Clash
-    back (inl any) = (
-      b,
-      read.read,
-      (
-        any.1,
-        inl (contains_filter (λ d. nat_lt (immutable_length genesis chain) d.header.number) kept any.1 (any.0, any.2, any.3) (lt-ltb (immutable_length genesis chain) any.1.header.number any.4.0)),
-        any.4.1.0,
-        λ texts. any.4.1.1 (texts ∙ sym text),
-      ),
-    )
-    back (inr any) = (b, read.read, (any.1, inr (any.0, any.2, any.3), any.4.0, λ texts. any.4.1 (texts ∙ sym text)))
-
--- ---- the judgement, as the code comes to it
-
--- what was found of a block among the kept ones and in the chain
-pub record Found (genesis : Genesis) (kept chain : List Block) (b : Block) (m : ℕ) : Type 0 where
-  pub immutable : m ≡ immutable_length genesis chain
-  pub young : m < b.header.number
-
--- a live block with the same text
-abbrev pub IsKnown : ℕ → List Block → Block → Type 0
-IsKnown m kept b = Any (λ c. (m < c.header.number) × (block_text c ≡ block_text b)) kept
-
-abbrev pub HasLiveClash : ℕ → List Block → Block → Type 0
-HasLiveClash m kept b = Any (λ c. (m < c.header.number) × IsClash c b) kept
-
-abbrev pub HasClash : List Block → Block → Type 0
-HasClash chain b = Any (λ c. IsClash c b) chain
-
--- the same, told by the block's text and hash
-
-pub known_by_text : (m : ℕ) (kept : List Block) (b : Block) (bytes : List ℕ) → IsRead b bytes → Any (λ c. (m < c.header.number) × (block_text c ≡ bytes)) kept ↔ IsKnown m kept b
-known_by_text m kept b bytes read =
-    let text : bytes ≡ block_text b = sym (block_text_is b bytes read.read) in (
-      (λ any. subst (λ (t : List ℕ). Any (λ c. (m < c.header.number) × (block_text c ≡ t)) kept) text any),
-      (λ any. subst (λ (t : List ℕ). Any (λ c. (m < c.header.number) × (block_text c ≡ t)) kept) (sym text) any),
-    )
-
-pub live_clash_by_text : (m : ℕ) (kept : List Block) (b : Block) (hash bytes : List ℕ) → IsRead b bytes → hash ≡ block_hash_of b
-    → Any (λ c. (m < c.header.number) × IsClashWith hash bytes c) kept ↔ HasLiveClash m kept b
-live_clash_by_text m kept b hash bytes read same =
-    let text : bytes ≡ block_text b = sym (block_text_is b bytes read.read) in
-    let are : (hash, bytes) ≡ (block_hash_of b, block_text b) = λ i. (same i, text i) in (
-      (λ any. subst (λ (p : List ℕ × List ℕ). Any (λ c. (m < c.header.number) × IsClashWith p.0 p.1 c) kept) are any),
-      (λ any. subst (λ (p : List ℕ × List ℕ). Any (λ c. (m < c.header.number) × IsClashWith p.0 p.1 c) kept) (sym are) any),
-    )
-
-pub clash_by_text : (chain : List Block) (b : Block) (hash bytes : List ℕ) → IsRead b bytes → hash ≡ block_hash_of b → Any (λ c. IsClashWith hash bytes c) chain ↔ HasClash chain b
-clash_by_text chain b hash bytes read same =
-    let text : bytes ≡ block_text b = sym (block_text_is b bytes read.read) in
-    let are : (hash, bytes) ≡ (block_hash_of b, block_text b) = λ i. (same i, text i) in (
-      (λ any. subst (λ (p : List ℕ × List ℕ). Any (λ c. IsClashWith p.0 p.1 c) chain) are any),
-      (λ any. subst (λ (p : List ℕ × List ℕ). Any (λ c. IsClashWith p.0 p.1 c) chain) (sym are) any),
-    )
-
-pub judged_old : (genesis : Genesis) (kept chain : List Block) (b : Block) (m : ℕ) → m ≡ immutable_length genesis chain → b.header.number ≤ m → IsJudged genesis (state kept chain) b (Some TooOld)
-judged_old genesis kept chain b m is old bytes read =
-    refused_by genesis (state kept chain) bytes TooOld (none_of_reading genesis (state kept chain) b bytes read) ((old_applies genesis kept chain b bytes read).1 (omega arith))
-
-below_known : (genesis : Genesis) (kept chain : List Block) (b : Block) (m : ℕ) (bytes : List ℕ) → Found genesis kept chain b m → IsRead b bytes → NoneBelow genesis (state kept chain) bytes 5
-below_known genesis kept chain b m bytes found read =
-    none_below_next genesis (state kept chain) bytes TooOld (none_of_reading genesis (state kept chain) b bytes read)
-    (λ applies. let le = (old_applies genesis kept chain b bytes read).0 applies in let is = found.immutable in let past = found.young in omega arith)
-
-pub judged_known : (genesis : Genesis) (kept chain : List Block) (b : Block) (m : ℕ) → Found genesis kept chain b m → IsKnown m kept b → IsJudged genesis (state kept chain) b (Some Known)
-judged_known genesis kept chain b m found known bytes read =
-    refused_by genesis (state kept chain) bytes Known (below_known genesis kept chain b m bytes found read)
-    ((known_applies genesis kept chain b bytes read).1 (subst (λ (i : ℕ). IsKnown i kept b) found.immutable known))
-
-below_clash : (genesis : Genesis) (kept chain : List Block) (b : Block) (m : ℕ) (bytes : List ℕ) → Found genesis kept chain b m → (IsKnown m kept b → ⊥) → IsRead b bytes → NoneBelow genesis (state kept chain) bytes 6
-below_clash genesis kept chain b m bytes found not_known read =
-    none_below_next genesis (state kept chain) bytes Known (below_known genesis kept chain b m bytes found read)
-    (λ applies. not_known (subst (λ (i : ℕ). IsKnown i kept b) (sym found.immutable) ((known_applies genesis kept chain b bytes read).0 applies)))
-
-pub judged_clash : (genesis : Genesis) (kept chain : List Block) (b : Block) (m : ℕ) → Found genesis kept chain b m → (IsKnown m kept b → ⊥) → HasLiveClash m kept b ⊎ HasClash chain b → IsJudged genesis (state kept chain) b (Some Clash)
-judged_clash genesis kept chain b m found not_known clash bytes read =
-    refused_by genesis (state kept chain) bytes Clash (below_clash genesis kept chain b m bytes found not_known read)
-    ((clash_applies genesis kept chain b bytes read).1 (subst (λ (i : ℕ). HasLiveClash i kept b ⊎ HasClash chain b) found.immutable clash))
-
-below_full : (genesis : Genesis) (kept chain : List Block) (b : Block) (m : ℕ) (bytes : List ℕ) → Found genesis kept chain b m → (IsKnown m kept b → ⊥) → (HasLiveClash m kept b → ⊥) → (HasClash chain b → ⊥) → IsRead b bytes
-    → NoneBelow genesis (state kept chain) bytes 7
-below_full genesis kept chain b m bytes found not_known no_live_clash no_clash read =
-    none_below_next genesis (state kept chain) bytes Clash (below_clash genesis kept chain b m bytes found not_known read)
-    (λ applies. elim (subst (λ (i : ℕ). HasLiveClash i kept b ⊎ HasClash chain b) (sym found.immutable) ((clash_applies genesis kept chain b bytes read).0 applies)) [ inl live ↦ no_live_clash live | inr in_chain ↦ no_clash in_chain ])
-
-pub judged_full : (genesis : Genesis) (kept chain : List Block) (b : Block) (m count : ℕ) → Found genesis kept chain b m → (IsKnown m kept b → ⊥) → (HasLiveClash m kept b → ⊥) → (HasClash chain b → ⊥)
-    → count ≡ length (filter (λ c. nat_lt m c.header.number) kept) → genesis.max_volatile ≤ count → IsJudged genesis (state kept chain) b (Some VolatileFull)
-judged_full genesis kept chain b m count found not_known no_live_clash no_clash counted full bytes read =
-    let live : count ≡ length (live_blocks genesis kept chain) = counted ∙ ap (λ i. length (filter (λ c. nat_lt i c.header.number) kept)) found.immutable in
-    let applies : genesis.max_volatile ≤ length (live_blocks genesis kept chain) = omega arith in
-    refused_by genesis (state kept chain) bytes VolatileFull (below_full genesis kept chain b m bytes found not_known no_live_clash no_clash read) applies
-
-pub judged_none : (genesis : Genesis) (kept chain : List Block) (b : Block) (m count : ℕ) → Found genesis kept chain b m → (IsKnown m kept b → ⊥) → (HasLiveClash m kept b → ⊥) → (HasClash chain b → ⊥)
-    → count ≡ length (filter (λ c. nat_lt m c.header.number) kept) → count < genesis.max_volatile → IsJudged genesis (state kept chain) b None
-judged_none genesis kept chain b m count found not_known no_live_clash no_clash counted room bytes read =
-    let live : count ≡ length (live_blocks genesis kept chain) = counted ∙ ap (λ i. length (filter (λ c. nat_lt i c.header.number) kept)) found.immutable in
-    none_at_all genesis (state kept chain) bytes
-    (none_below_next genesis (state kept chain) bytes VolatileFull (below_full genesis kept chain b m bytes found not_known no_live_clash no_clash read)
-    (λ applies. let le : genesis.max_volatile ≤ length (live_blocks genesis kept chain) = applies in omega arith))
+    back : IsChainClash s b → Any (λ c. IsClashWith hash bytes c) shown
+    back clash =
+        let there : Contains shown clash.0 = subst (λ (bs : List Block). Contains bs clash.0) (sym same) clash.1 in
+        (there.0, clash.0, there.1, there.2, (clash.2 ∙ sym is, λ texts. clash.3 (texts ∙ sym text)))

@@ -10,7 +10,10 @@ use Rattle.chain_core.specs.declared.event.RawEvent.{RawEvent}
 use Rattle.chain_core.specs.declared.event.Reply.{Reply}
 use Rattle.chain_core.specs.Views.{event_of, reply_of, history_of, IsReplyTo, AreRepliesTo}
 use Rattle.chain_core.specs.Held.{Held, Stands, opening_held}
-use Rattle.chain_core.proofs.Steps.{opening_stands}
+
+-- a new core stands for the opening state
+opening_stands : (genesis : Genesis) → Stands (opening_held genesis) opening
+opening_stands genesis = record { chain = refl; followers = refl; members = λ b. ((λ member. member), (λ member. member)); count = refl; chain_kept = tt }
 
 history_more : {S : Type 0} (es : List RawEvent) (rs : List (Reply S)) (e : RawEvent) (r : Reply S) → length es ≡ length rs → history_of (es ++ e ∷ []) (rs ++ r ∷ []) ≡ history_of es rs ++ record { event = event_of e; reply = reply_of r } ∷ []
 history_more [] [] e r long = refl

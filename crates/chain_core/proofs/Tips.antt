@@ -1,9 +1,8 @@
--- The last block of a chain is where it ends, and the last of the states after it the one that it has then.
+-- The last block of a chain is where it ends.
 use Rattle.std.proofs.Common.{◌≡◌, suc, ◌-◌, List, [], ◌∷◌, length, Some, None, ap, ◌∙◌, arith}
 use Rattle.std.specs.Prelude.{slice_get, unwrap_or, replicate}
 use Rattle.model.specs.Block.{Block, block_hash_of}
-use Rattle.model.specs.Applying.{LedgerState, last_state}
-use Rattle.model.specs.Chain.{Tip, tip_at, tip_after, tip_hash, genesis_tip, tip_point}
+use Rattle.model.specs.Chain.{Tip, tip_at, tip_after, genesis_tip, tip_point}
 
 some_same : {X : Type 0} (x y : X) → Some x ≡ Some y → x ≡ y
 some_same x y e = cc
@@ -15,18 +14,6 @@ tip_of_last tip (x ∷ y ∷ ys) b last =
     let step : suc (length (y ∷ ys) - 1) ≡ length (x ∷ y ∷ ys) - 1 = omega arith in
     tip_of_last (tip_at x) (y ∷ ys) b (ap (slice_get (x ∷ y ∷ ys)) step ∙ last)
 
--- the hash of a chain's last block
-pub tip_hash_of_last : (bs : List Block) (b : Block) → slice_get bs (length bs - 1) ≡ Some b → tip_hash bs ≡ block_hash_of b
-tip_hash_of_last bs b last = ap (λ (t : Tip). unwrap_or t.hash []) (tip_of_last genesis_tip bs b last)
-
 -- the point of a chain's last block
 pub point_of_last : (bs : List Block) (b : Block) → slice_get bs (length bs - 1) ≡ Some b → tip_point bs ≡ record { number = b.header.number; hash = block_hash_of b }
 point_of_last bs b last = ap (λ (t : Tip). record { number = t.number; hash = unwrap_or t.hash (replicate 32 0) }) (tip_of_last genesis_tip bs b last)
-
--- the last of some states
-pub state_of_last : (s : LedgerState) (ts : List LedgerState) (t : LedgerState) → slice_get ts (length ts - 1) ≡ Some t → last_state s ts ≡ t
-state_of_last s [] t last = absurd (let e : None ≡ Some t = last in cc)
-state_of_last s (u ∷ []) t last = some_same u t last
-state_of_last s (u ∷ v ∷ vs) t last =
-    let step : suc (length (v ∷ vs) - 1) ≡ length (u ∷ v ∷ vs) - 1 = omega arith in
-    state_of_last u (v ∷ vs) t (ap (slice_get (u ∷ v ∷ vs)) step ∙ last)

@@ -4,8 +4,6 @@ use Rattle.std.specs.List.{AllByRecursion}
 use Rattle.std.specs.Coded.{Coded, code_by, coded×, coded_list, coded_option}
 use Rattle.model.specs.Genesis.{Genesis}
 use Rattle.model.specs.Block.{Block}
-use Rattle.model.specs.Ledger.{Network}
-use Rattle.model.specs.Chain.{IsValidChain, HaveDistinctHashes, live_blocks}
 use Rattle.model.specs.Follower.{Followers}
 use Rattle.model.specs.History.{State, live_of}
 use Rattle.model.specs.Codes.{coded_genesis, coded_block}
@@ -39,13 +37,7 @@ pub record Stands (held : Held) (s : State) : Type 0 where
 abbrev pub opening_held : Genesis → Held
 opening_held genesis = record { genesis = genesis; chain = []; live = []; followers = [] }
 
--- what is held of kept blocks, a chain and followers
+-- what is held of live blocks, a chain and followers
 abbrev pub held_of : Genesis → List Block → List Block → Followers → Held
-held_of genesis kept chain followers =
-    record { genesis = genesis; chain = chain; live = live_blocks genesis kept chain; followers = followers }
-
--- what the fields of a core are: the chain is valid and of kept blocks, and no two live blocks have one hash
-pub record IsSound (network : Network) (kept chain : List Block) : Type 0 where
-  pub valid : IsValidChain network chain
-  pub members : AllByRecursion (Contains kept) chain
-  pub distinct : HaveDistinctHashes (live_blocks network.genesis kept chain)
+held_of genesis live chain followers =
+    record { genesis = genesis; chain = chain; live = live; followers = followers }

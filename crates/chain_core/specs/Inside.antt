@@ -2,16 +2,15 @@
 use Rattle.std.specs.Prelude.{◌≡◌}
 use Rattle.model.specs.Signature.{Verifies}
 use Rattle.model.specs.Ledger.{network_of}
-use Rattle.model.specs.Applying.{opening_state, AreStates}
+use Rattle.blockstore.specs.Stored.{blocks_of}
 use Rattle.chain_core.specs.declared.node_core.Core.TheInside.{Inside}
 use Rattle.chain_core.specs.Views.{followers_of}
-use Rattle.chain_core.specs.Held.{Held, held_of, IsSound}
+use Rattle.chain_core.specs.ChainDbs.{IsWhole}
+use Rattle.chain_core.specs.Held.{Held, held_of}
 
 abbrev pub held : {S : Type 0} → Inside S → Held
-held a = held_of a.genesis a.kept.items a.selected.chain.items (followers_of a.followers.items)
+held a = held_of a.genesis (blocks_of a.chain_db.store) a.chain_db.chain.items (followers_of a.followers.items)
 
--- the chain is sound, and beside each of its blocks stands the state after it
+-- the selected chain, the live blocks and the states belong together
 pub record IsSoundInside {S : Type 0} (verifies : Verifies) (a : Inside S) : Type 0 where
-  pub sound : IsSound (network_of a.genesis verifies) a.kept.items a.selected.chain.items
-  pub opening : a.selected.opening ≡ opening_state a.genesis
-  pub states : AreStates verifies a.selected.opening a.selected.chain.items a.selected.states.items
+  pub whole : IsWhole (network_of a.genesis verifies) a.chain_db

@@ -10,10 +10,6 @@ use Rattle.model.specs.History.{State, Refusal, Applies, IsRefused}
 abbrev pub IsClashWith : List ℕ → List ℕ → Block → Type 0
 IsClashWith hash bytes c = (block_hash_of c ≡ hash) × (block_text c ≢ bytes)
 
--- the same hash, and another text
-abbrev pub IsClash : Block → Block → Type 0
-IsClash c b = IsClashWith (block_hash_of b) (block_text b) c
-
 -- the point has the number and the hash of the block
 abbrev pub IsPointOf : Point → Block → Type 0
 IsPointOf point b = (point.number ≡ b.header.number) × (point.hash.bytes ≡ block_hash_of b)

@@ -1,6 +1,5 @@
 pub mod Held
-pub mod Forks
-pub mod ForkViews
+pub mod ChainDbs
 pub mod Views
 pub mod Texts
 pub mod Judgements

@@ -2,14 +2,11 @@
 #![tactic(auto)]
 
 mod arrival;
+mod chain_db;
 mod event;
 mod follower;
-mod fork;
-mod keeping;
 mod node_core;
 mod refusal;
-mod selected;
-mod selection;
 
 pub use arrival::{ArriveReply, Refusal};
 pub use event::{RawEvent, Reply};

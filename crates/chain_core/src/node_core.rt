@@ -1,17 +1,15 @@
 //! The core: what arrived, and the chain that is selected.
 
 use crate::arrival::{ArriveReply, Refusal};
+use crate::chain_db::ChainDb;
 use crate::event::{RawEvent, Reply};
 use crate::follower::{
     FollowerId, Instruction, NextFault, OpenFault, open_follower, tell_follower,
 };
-use crate::keeping::keep;
 use crate::refusal::first_refusal;
-use crate::selected::Selected;
 use block::{BadBytes, CheckedBlock, NoBlock, Seen};
 use genesis::Genesis;
 use ident::Point;
-use ledger::LedgerState;
 use std::alloc::{AllocError, Global};
 use std::marker::Model;
 use utxo_rules::Utxo;
@@ -27,13 +25,13 @@ use witness_pool::SigScheme;
 /// }
 /// ```
 ///
-/// The core keeps one plain list of all kept blocks, the selected chain, and what each follower was told.
+/// The core keeps the selected chain, the live blocks, the states of the chain's last k blocks, and what each follower
+/// was told.
 #[derive(Drop)]
 pub struct Core<S: SigScheme> {
     alloc: Global,
     genesis: Genesis,
-    kept: Vec<CheckedBlock<S>>,
-    selected: Selected<S>,
+    chain_db: ChainDb<S>,
     followers: Vec<Vec<CheckedBlock<S>>>,
 }
 
@@ -71,16 +69,11 @@ impl<S: SigScheme> Core<S> {
     pub fn new(alloc: Global, genesis: Genesis) -> Result<Core<S>, AllocError>
         ensures { IfOk result (λ core. core ≡ opening_held genesis) }
     {
-        let opening = LedgerState::new(alloc, &genesis)?;
+        let chain_db = ChainDb::new(alloc, &genesis)?;
         Ok(Core {
             alloc,
             genesis,
-            kept: Vec::new(alloc),
-            selected: Selected {
-                opening,
-                chain: Vec::new(alloc),
-                states: Vec::new(alloc),
-            },
+            chain_db,
             followers: Vec::new(alloc),
         })
     }
@@ -89,8 +82,9 @@ impl<S: SigScheme> Core<S> {
     /// the chain is selected anew. Where memory runs out nothing changes.
     ///
     /// Reads and hashes the bytes once, and copies them once where they aren't refused. A refusal takes no memory, but
-    /// for the transactions that are read before it is known. Takes time that grows with the kept
-    /// blocks times the longest fork past the immutable tip.
+    /// for the transactions that are read before it is known. A block that extends the tip is judged once, and one of
+    /// a fork that is not longer isn't judged; beside that it takes a few look-ups among the live blocks, which compare
+    /// hashes and numbers, and one among the blocks of the chain.
     pub fn arrive(&mut self, bytes: &[u8]) -> Result<ArriveReply, AllocError>
         // For every state of the definitions that the core stands for, this is a step to one that it then stands for.
         ensures step { (s : State) → Stands self.old s → (t : State)
@@ -113,23 +107,11 @@ impl<S: SigScheme> Core<S> {
             }
             Err(NoBlock::OutOfMemory) => return Err(AllocError),
         };
-        if let Some(refusal) = first_refusal(
-            &self.genesis,
-            &self.kept,
-            &self.selected.chain,
-            found.point(),
-            found.bytes(),
-        ) {
+        if let Some(refusal) = first_refusal(&self.chain_db, found.point(), found.bytes()) {
             return Ok(ArriveReply::Refused(refusal));
         }
         let block = found.into_checked_block(self.alloc)?;
-        let change = keep(
-            self.alloc,
-            &self.genesis,
-            &mut self.kept,
-            &mut self.selected,
-            block,
-        )?;
+        let change = self.chain_db.add(self.alloc, &self.genesis, block)?;
         Ok(ArriveReply::Kept {
             back: change.back,
             added: change.added,
@@ -140,8 +122,7 @@ impl<S: SigScheme> Core<S> {
     /// to the bytes. Where memory runs out nothing changes.
     ///
     /// Hashes and copies no bytes, and verifies no signature: that was done when they were seen, also of a block that
-    /// is then refused. A refusal takes no memory. Takes time that grows with the kept blocks times the longest fork
-    /// past the immutable tip.
+    /// is then refused. A refusal takes no memory. The rest takes as long as for [`Core::arrive`].
     pub fn arrive_seen(&mut self, seen: Seen<S>) -> Result<ArriveReply, AllocError>
         // For every state of the definitions that the core stands for, this is a step to one that it then stands for.
         ensures step { (s : State) → Stands self.old s → (t : State)
@@ -162,22 +143,10 @@ impl<S: SigScheme> Core<S> {
                 return Ok(ArriveReply::Refused(Refusal::BodyHashMismatch));
             }
         };
-        if let Some(refusal) = first_refusal(
-            &self.genesis,
-            &self.kept,
-            &self.selected.chain,
-            block.point(),
-            block.bytes(),
-        ) {
+        if let Some(refusal) = first_refusal(&self.chain_db, block.point(), block.bytes()) {
             return Ok(ArriveReply::Refused(refusal));
         }
-        let change = keep(
-            self.alloc,
-            &self.genesis,
-            &mut self.kept,
-            &mut self.selected,
-            block,
-        )?;
+        let change = self.chain_db.add(self.alloc, &self.genesis, block)?;
         Ok(ArriveReply::Kept {
             back: change.back,
             added: change.added,
@@ -218,7 +187,7 @@ impl<S: SigScheme> Core<S> {
         ensures genesis { self.new.genesis ≡ self.old.genesis }
         ensures err { OnErr result (self.new ≡ self.old) }
     {
-        tell_follower(&self.selected.chain, &mut self.followers, id)
+        tell_follower(&self.chain_db.chain, &mut self.followers, id)
     }
 
     /// Answers one event.
@@ -265,7 +234,7 @@ impl<S: SigScheme> Core<S> {
     pub fn tip(&self) -> Point
         ensures { point_of result ≡ tip_point self.now.chain }
     {
-        match self.selected.chain.last() {
+        match self.chain_db.chain.last() {
             Some(block) => block.point(),
             None => Point::genesis(),
         }
@@ -275,7 +244,7 @@ impl<S: SigScheme> Core<S> {
     pub fn height(&self) -> u64
         ensures { result ≡ length self.now.chain }
     {
-        self.selected.chain.len() as u64
+        self.chain_db.chain.len() as u64
     }
 
     /// The unspent outputs of the selected chain. Takes no memory.
@@ -284,7 +253,7 @@ impl<S: SigScheme> Core<S> {
         ensures { (ledger : Ledger) × (ledger_of (network_of self.now.genesis S.verifies) self.now.chain ≡ Some ledger)
             × (result.now ≡ ledger.utxo) }
     {
-        self.selected.state().utxo()
+        self.chain_db.state().utxo()
     }
 
     /// The fees of all transactions of the selected chain, in lovelace. Takes no memory.
@@ -292,6 +261,6 @@ impl<S: SigScheme> Core<S> {
         ensures { (ledger : Ledger) × (ledger_of (network_of self.now.genesis S.verifies) self.now.chain ≡ Some ledger)
             × (result ≡ ledger.fees) }
     {
-        self.selected.state().fees()
+        self.chain_db.state().fees()
     }
 }

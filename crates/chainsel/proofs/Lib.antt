@@ -13,5 +13,6 @@ pub mod EndLemmas
 pub mod Nexts
 pub mod Leasts
 pub mod Turns
+pub mod Explaining
 pub mod Settling
 pub mod ForCallers

@@ -66,6 +66,17 @@ all_pass : (p : Block → Bool) (bs : List Block) → ((b : Block) → Contains 
 all_pass p [] each = refl
 all_pass p (x ∷ xs) each = ap (λ (t : Bool). cond t (x ∷ filter p xs) (filter p xs)) (each x (contains_first x xs)) ∙ ap (λ (bs : List Block). x ∷ bs) (all_pass p xs (λ b member. each b (contains_later x xs b member)))
 
+-- with nothing kept but the live blocks, the store holds what is live
+pub settled_live : (network : Network) (chain : List Block) (store : Store) (db : Database) → IsSettled network chain store db → HoldsLive network.genesis (blocks_of store) chain store
+settled_live network chain store db settled =
+    let n = immutable_length network.genesis chain in
+    let same : live_blocks network.genesis (blocks_of store) chain ≡ blocks_of store =
+    all_pass (λ b. nat_lt n b.header.number) (blocks_of store) (λ b member. lt-ltb n b.header.number (all_of_member (λ c. n < c.header.number) (blocks_of store) b settled.past member)) in
+    record {
+      members = λ b. (subst (λ (bs : List Block). Contains bs b) (sym same), subst (λ (bs : List Block). Contains bs b) same);
+      count = sym (length-map store.blocks (λ (s : Stored). s.block)) ∙ sym (ap length same);
+    }
+
 none_passes : (p : Block → Bool) (bs : List Block) → ((b : Block) → Contains bs b → p b ≡ true → ⊥) → filter p bs ≡ []
 none_passes p [] each = refl
 none_passes p (x ∷ xs) each = one (p x) refl (none_passes p xs (λ b member. each b (contains_later x xs b member)))

@@ -45,12 +45,12 @@ module _ (network : Network) (chain : List Block) (store : Store) (db : Database
       linked_join genesis_tip (take keep chain) blocks
       (linked_front genesis_tip (take keep chain) (drop keep chain) (subst (IsLinked genesis_tip) (sym (take-append-drop keep chain)) (chain_valid network chain store db new ready).linked)) way.linked
 
-  led_ends : tip_after genesis_tip led ≡ tip_at end
+  pub led_ends : tip_after genesis_tip led ≡ tip_at end
   led_ends =
       ap (λ (bs : List Block). tip_after genesis_tip (take keep chain ++ bs)) way.ends
       ∙ (ap (tip_after genesis_tip) (sym (append_assoc (take keep chain) way.before (end ∷ []))) ∙ tip_of_end genesis_tip (take keep chain ++ way.before) end)
 
-  led_length : length led ≡ end.header.number
+  pub led_length : length led ≡ end.header.number
   led_length = length_by_number led end led_linked led_ends
 
   -- its blocks are steps

@@ -39,7 +39,7 @@ first_new store invalid new (x ∷ xs) all =
     ]
 
 -- past the block that came all are fit
-fit_after : (store : Store) (invalid : List BlockHash) (new : Block) (after : List Block) → IsLinked (tip_at new) after → AllByRecursion (IsStep store invalid new) after → AllByRecursion (IsFitLive store invalid) after
+pub fit_after : (store : Store) (invalid : List BlockHash) (new : Block) (after : List Block) → IsLinked (tip_at new) after → AllByRecursion (IsStep store invalid new) after → AllByRecursion (IsFitLive store invalid) after
 fit_after store invalid new after linked steps =
     all_weaker (λ b. (new.header.number < b.header.number) × IsStep store invalid new b) (IsFitLive store invalid) after one
     (all_both (λ b. new.header.number < b.header.number) (IsStep store invalid new) after (numbers_past (tip_at new) after linked) steps)

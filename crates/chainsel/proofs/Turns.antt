@@ -1,6 +1,7 @@
 -- One turn of the search: when the chain stays or changes, and which block is found dead.
-use Rattle.std.proofs.Common.{◌≡◌, ℕ, zero, suc, ◌-◌, ◌<◌, ◌≤◌, List, [], ◌∷◌, ◌++◌, length, take, get_or, Contains, Some, None, sym, ap, subst, ◌∙◌, arith}
+use Rattle.std.proofs.Common.{◌≡◌, ℕ, zero, suc, ◌-◌, ◌<◌, ◌≤◌, List, [], ◌∷◌, ◌++◌, length, take, get_or, Contains, Some, None, true, false, sym, ap, subst, ◌∙◌, arith}
 use Rattle.std.specs.Prelude.{Option, MatchOption}
+use Rattle.std.specs.Option.{is_some}
 use Rattle.std.specs.List.{AllByRecursion}
 use Rattle.model.specs.Block.{Block, block_hash_of}
 use Rattle.model.specs.Ledger.{Network}
@@ -27,6 +28,10 @@ use Rattle.chainsel.proofs.Switching.{led_selected, led_change, led_dead, blocks
 pub match_none : {T : Type 0} (A : Type 0) (B : T → Type 0) (o : Option T) → MatchOption o A B → o ≡ None → A
 match_none A B o is none = subst (λ p. MatchOption p A B) none is
 
+pub match_empty : {T : Type 0} (A : Type 0) (B : T → Type 0) (o : Option T) → MatchOption o A B → is_some o ≡ false → A
+match_empty A B None is empty = is
+match_empty A B (Some x) is empty = absurd (let e : true ≡ false = empty in cc)
+
 pub match_some : {T : Type 0} (A : Type 0) (B : T → Type 0) (o : Option T) (x : T) → MatchOption o A B → o ≡ Some x → B x
 match_some A B o x is some = subst (λ p. MatchOption p A B) some is
 
@@ -50,7 +55,7 @@ module _ (network : Network) (chain : List Block) (store : Store) (db : Database
     -- with a way that leads past the chain
     module _ (best : Block) (is : IsBest store invalid new best) (longer : length chain < best.header.number) (immutable keep : ℕ) (same : immutable ≡ immutable_length network.genesis chain) (blocks : List Block)
         (way : IsWay store invalid chain immutable new best keep blocks) where
-      true_way : IsWay store invalid chain (immutable_length network.genesis chain) new best keep blocks
+      pub true_way : IsWay store invalid chain (immutable_length network.genesis chain) new best keep blocks
       true_way = subst (λ (n : ℕ). IsWay store invalid chain n new best keep blocks) same way
 
       front : without_last (length chain - keep) chain ≡ take keep chain
@@ -59,12 +64,16 @@ module _ (network : Network) (chain : List Block) (store : Store) (db : Database
       pub rolled_within : length chain - keep ≤ depth db
       rolled_within = let low = true_way.low in let e = ready.settled.depth in omega (arith, low, e)
 
+      -- the chain of a switch is the one that the way leads on
+      pub led_by : (back : ℕ) (put_on : List Block) → back ≡ length chain - keep → put_on ≡ blocks → without_last back chain ++ put_on ≡ take keep chain ++ blocks
+      led_by back put_on as_back as_blocks =
+          ap (λ (n : ℕ). without_last n chain ++ put_on) as_back ∙ (ap (λ (bs : List Block). bs ++ put_on) front ∙ ap (λ (bs : List Block). take keep chain ++ bs) as_blocks)
+
       pub switches : {S : Type 0} (switch : Switch S) → switch.back ≡ length chain - keep → switch.blocks.items ≡ blocks → switch.prepared.back ≡ switch.back
           → IsPreparedOf network (without_last switch.back chain) switch.blocks.items switch.prepared → IsSwitch network chain store db new switch
       switches switch back put_on prepared_back prepared =
           let within : switch.back ≤ depth db = subst (λ (n : ℕ). n ≤ depth db) (sym back) rolled_within in
-          let led : without_last switch.back chain ++ switch.blocks.items ≡ take keep chain ++ blocks =
-          ap (λ (n : ℕ). without_last n chain ++ switch.blocks.items) back ∙ (ap (λ (bs : List Block). bs ++ switch.blocks.items) front ∙ ap (λ (bs : List Block). take keep chain ++ bs) put_on) in
+          let led = led_by switch.back switch.blocks.items back put_on in
           let valid = prepared_valid network chain switch.blocks.items db switch.prepared ready.settled.database (subst (λ (n : ℕ). n ≤ depth db) (sym prepared_back) within)
           (subst (λ (n : ℕ). IsPreparedOf network (without_last n chain) switch.blocks.items switch.prepared) (sym prepared_back) prepared) in
           let whole : without_last switch.prepared.back chain ++ switch.blocks.items ≡ take keep chain ++ blocks = ap (λ (n : ℕ). without_last n chain ++ switch.blocks.items) prepared_back ∙ led in

@@ -1,16 +1,21 @@
 -- What a selection answers.
-use Rattle.std.specs.Prelude.{◌≡◌, ◌≤◌, List, ◌∷◌, ◌++◌, length, Contains}
+use Rattle.std.specs.Prelude.{◌≡◌, ◌≢◌, ℕ, ◌≤◌, List, ◌∷◌, ◌++◌, length, take, Contains}
 use Rattle.std.specs.List.{AllByRecursion}
+use Rattle.std.specs.Ordering.{nat_cmp}
+use Rattle.std.specs.declared.cmp.Ordering.TheVariants.{Greater}
+use Rattle.std.specs.Cmp.Lexicographic.{slice_cmp}
+use Rattle.model.specs.Genesis.{Genesis}
 use Rattle.model.specs.Block.{Block, block_hash_of}
 use Rattle.model.specs.Ledger.{Network}
-use Rattle.model.specs.Chain.{IsSelection}
+use Rattle.model.specs.Chain.{genesis_tip, tip_after, tip_hash, immutable_length, IsLinked, IsSelection}
 use Rattle.model.specs.History.{IsChange}
 use Rattle.ident.specs.declared.block_hash.BlockHash.{BlockHash}
 use Rattle.blockstore.specs.Stored.{Store, blocks_of}
 use Rattle.blockstore.specs.Live.{HoldsLive}
-use Rattle.ledgerdb.specs.Values.{Database, depth}
+use Rattle.ledgerdb.specs.Values.{Database, depth, count}
 use Rattle.ledgerdb.specs.Chains.{without_last, IsPreparedOf}
 use Rattle.chainsel.specs.Dead.{IsDead}
+use Rattle.chainsel.specs.Paths.{IsStep}
 use Rattle.chainsel.specs.declared.choice.Choice.{Choice}
 use Rattle.chainsel.specs.declared.choice.Choice.TheVariants as choice
 use Rattle.chainsel.specs.declared.choice.Switch.{Switch}
@@ -46,3 +51,45 @@ pub record IsFoundDead (network : Network) (chain live : List Block) (hash : Blo
   pub member : Contains live block
   pub same : block_hash_of block ≡ hash.bytes
   pub dead : IsDead network chain live block
+
+-- The switch can be made: no more blocks are rolled back than the chain has and the database can roll back, and what is
+-- prepared rolls back just as many and puts on just as many as the switch does.
+pub record CanSwitch {S : Type 0} (chain : List Block) (db : Database) (switch : Switch S) : Type 0 where
+  pub on_chain : switch.back ≤ length chain
+  pub within : switch.back ≤ depth db
+  pub back : switch.prepared.back ≡ switch.back
+  pub count : count switch.prepared ≡ length switch.blocks.items
+
+-- where the chain is to change, it can
+abbrev pub IsPossible : {S : Type 0} → List Block → Database → Choice S → Type 0
+IsPossible chain db choice.Keep = Unit {0}
+IsPossible chain db (choice.Switch switch) = CanSwitch chain db switch
+
+-- OPEN PATH (this project's own)
+-- Blocks that go on, each following the one before, from the first `keep` of the selected chain, at least its immutable
+-- part. One of them is the block that came, the others are live, and none has a mark or is told to be dead.
+pub record IsOpenPath (genesis : Genesis) (chain : List Block) (store : Store) (new : Block) (told : List BlockHash)
+    (keep : ℕ) (path : List Block) : Type 0 where
+  pub low : immutable_length genesis chain ≤ keep
+  pub high : keep ≤ length chain
+  pub linked : IsLinked (tip_after genesis_tip (take keep chain)) path
+  pub through : Contains path new
+  pub members : AllByRecursion (IsStep store told new) path
+  pub untold : AllByRecursion (λ hash. hash.bytes ≢ block_hash_of new) told
+
+-- it isn't longer than the selected one, nor as long with a lesser hash at its end
+pub record IsNoBetter (selected other : List Block) : Type 0 where
+  pub longest : length other ≤ length selected
+  pub least : length other ≡ length selected → slice_cmp nat_cmp (tip_hash selected) (tip_hash other) ≢ Greater
+
+-- EXPLAINED CHOICE (this project's own)
+-- With the marks there are, what is told to be dead explains the choice by links alone. Where the chain stays, no open
+-- path makes a longer one of it, and where it changes, none makes a better one than is selected.
+abbrev pub IsExplained : {S : Type 0} → Genesis → (chain : List Block) → Store → (new : Block)
+    → (told : List BlockHash) → Choice S → Type 0
+IsExplained genesis chain store new told choice.Keep =
+    (keep : ℕ) (path : List Block) → IsOpenPath genesis chain store new told keep path
+    → length (take keep chain ++ path) ≤ length chain
+IsExplained genesis chain store new told (choice.Switch switch) =
+    (keep : ℕ) (path : List Block) → IsOpenPath genesis chain store new told keep path
+    → IsNoBetter (without_last switch.back chain ++ switch.blocks.items) (take keep chain ++ path)

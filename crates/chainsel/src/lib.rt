@@ -17,7 +17,8 @@ mod choice;
 mod furthest;
 mod links;
 mod search;
+mod selection;
 mod way;
 
 pub use choice::{Choice, Selection, Switch};
-pub use search::select;
+pub use selection::select;

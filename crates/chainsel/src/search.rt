@@ -1,4 +1,4 @@
-//! The selection rule when a block comes.
+//! The search for the longest way through a block that came.
 
 ghost use Rattle.std.specs.Prelude.{◌≡◌, ◌∷◌, IfOk};
 ghost use Rattle.std.specs.List.{AllByRecursion};
@@ -6,7 +6,7 @@ ghost use Rattle.model.specs.Genesis.{Genesis};
 ghost use Rattle.model.specs.Ledger.{network_of};
 ghost use Rattle.blockstore.specs.Stored.{blocks_of};
 ghost use Rattle.chainsel.specs.Ready.{IsReady};
-ghost use Rattle.chainsel.specs.Choices.{IsChoice, IsFoundDead};
+ghost use Rattle.chainsel.specs.Choices.{IsChoice, IsFoundDead, IsExplained, IsPossible};
 
 use crate::choice::{Choice, Selection, Switch};
 use crate::furthest::furthest;
@@ -18,16 +18,11 @@ use ledgerdb::{ForkFault, LedgerDb};
 use std::alloc::{AllocError, Global};
 use witness_pool::SigScheme;
 
-/// What becomes of the selected chain when this block comes to the live ones (the Consensus and Storage Layer report,
-/// chain selection). Nothing changes: the caller marks what was found dead, and switches.
+/// What becomes of the selected chain when this block comes to the live ones, where a way leads to it from the chain.
 ///
-/// Links are looked at first and the ledger last: where nothing that goes on from the block is longer than the chain,
-/// no block is judged, and one that extends the tip is judged once. A block that is found dead is told, so that it is
-/// never judged again. Takes a look-up of successors for each block that goes on from the new one, a look-up for each
-/// on the way to it, and the time to judge the longest path; all of that once more for each block found dead.
-///
-/// Where the answer is Err, memory ran out.
-pub fn select<S: SigScheme>(
+/// Takes a look-up of successors for each block that goes on from the new one, a look-up for each on the way to it, and
+/// the time to judge the longest path; all of that once more for each block found dead. Err where memory runs out.
+pub fn search<S: SigScheme>(
     alloc: Global,
     store: &BlockStore<S>,
     db: &LedgerDb,
@@ -43,6 +38,12 @@ pub fn select<S: SigScheme>(
         IsReady (network_of genesis S.verifies) chain.now store.now db.now new.now →
         AllByRecursion (IsFoundDead (network_of genesis S.verifies) chain.now (new.now ∷ blocks_of store.now))
         selection.invalid.items) }
+    // What is told explains the choice by links alone: nothing found dead that it rests on is kept back.
+    ensures told { IfOk result (λ selection. (genesis : Genesis) →
+        IsReady (network_of genesis S.verifies) chain.now store.now db.now new.now →
+        IsExplained genesis chain.now store.now new.now selection.invalid.items selection.choice) }
+    // Whatever it was asked with, a switch can be made: the database can commit what is prepared.
+    ensures switch { IfOk result (λ selection. IsPossible chain.now db.now selection.choice) }
 {
     let mut invalid = Vec::new(alloc);
     let immutable = chain.len().saturating_sub(db.depth());
@@ -77,7 +78,7 @@ pub fn select<S: SigScheme>(
 }
 
 /// The chain stays.
-fn keep<S: SigScheme>(invalid: Vec<BlockHash>) -> Selection<S>
+pub fn keep<S: SigScheme>(invalid: Vec<BlockHash>) -> Selection<S>
     ensures choice { result.choice ≡ Choice.Keep }
     ensures invalid { result.invalid.items ≡ invalid.items }
 {

@@ -103,7 +103,8 @@ impl Genesis {
 
     /// How many blocks of the selected chain may be rolled back, 1 to 10,000.
     pub fn k(&self) -> u64
-        ensures { result ≡ self.now.k }
+        ensures k { result ≡ self.now.k }
+        ensures range { IsWithin 1 10000 result }
     {
         self.settings.k
     }

@@ -1,6 +1,6 @@
 //! Arrivals in one order and another, and the chain that is selected.
 
-use super::fixture::{Made, ONE_LIVE_BLOCK, core_on, make, new_core};
+use super::fixture::{MANY_LIVE_BLOCKS, Made, ONE_LIVE_BLOCK, core_on, make, new_core};
 use chain_core::{ArriveReply, Core, RawEvent, Refusal, Reply};
 use ident::Point;
 use std::alloc::{AllocError, Global};
@@ -171,5 +171,38 @@ fn run_of_arrivals(rt: HostRuntime) -> Result<(), Fail> {
         is_answer(&rt, reply, want);
     }
     ends_in(&rt, &core, tip);
+    Ok(())
+}
+
+/// The blocks of a chain.
+fn chain_of(alloc: Global, count: u64) -> Result<Vec<Made>, Fail> {
+    let mut blocks: Vec<Made> = Vec::new(alloc);
+    for slot in 0..count {
+        let next = make(alloc, blocks.last(), slot.saturating_add(1))?;
+        blocks.push(next)?;
+    }
+    Ok(blocks)
+}
+
+/// What a block of the chain is answered when all after it came before.
+fn answer_backwards(made: &Made, count: u64) -> ArriveReply {
+    if made.number == 1 {
+        kept(0, count)
+    } else {
+        KEPT_ASIDE
+    }
+}
+
+// Two thousand blocks, the last one first: with the first one of the chain all are put on.
+#[test]
+fn long_chain_backwards(rt: HostRuntime) -> Result<(), Fail> {
+    let alloc = rt.alloc();
+    let blocks = chain_of(alloc, 2_000)?;
+    let mut core = core_on(alloc, MANY_LIVE_BLOCKS)?;
+    for made in blocks.iter().rev() {
+        let want = answer_backwards(made, 2_000);
+        answers(&rt, &mut core, &made.text, want)?;
+    }
+    assert!(rt; core.height() == 2_000);
     Ok(())
 }

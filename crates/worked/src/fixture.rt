@@ -38,6 +38,21 @@ key = \"0101010101010101010101010101010101010101010101010101010101010101\"
 coin = 1200
 ";
 
+/// The same with 2,000 live blocks.
+pub const MANY_LIVE_BLOCKS: &str = "network = 0
+k = 2
+min_fee_a = 1
+min_fee_b = 100
+min_utxo = 10
+max_tx_size = 4096
+max_body_size = 65536
+max_volatile = 2000
+max_mempool = 100
+[[output]]
+key = \"0101010101010101010101010101010101010101010101010101010101010101\"
+coin = 1200
+";
+
 /// A block's text, with what the next block has to know of it.
 #[derive(Drop)]
 pub struct Made {

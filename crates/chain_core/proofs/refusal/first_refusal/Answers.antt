@@ -1,55 +1,47 @@
-use Rattle.std.proofs.Common.{◌≡◌, true, false, refl, inl, inr, arith}
-use Rattle.chain_core.proofs.Refusals.{Found, known_by_text, live_clash_by_text, clash_by_text, judged_old, judged_known, judged_clash, judged_full, judged_none}
+use Rattle.std.proofs.Common.{◌≡◌, ◌<◌, true, false, refl, sym, ap, ◌∙◌, inl, inr, arith}
+use Rattle.model.specs.Block.{block_text}
+use Rattle.model.specs.Chain.{immutable_length}
+use Rattle.model.proofs.BlockTexts.{block_text_is}
+use Rattle.chain_core.proofs.Refusals.{judged_old, judged_known, judged_clash, judged_full, judged_none, read_again, known_at, other_at, none_at, clash_in}
 use Rattle.chain_core.proofs.refusal.first_refusal.Goals as goal
 
 pub returns-then-point-immutable : goal.returns-then-point-immutable
-returns-then-point-immutable g c = λ b read at.
+returns-then-point-immutable g c = λ network s b whole has read at.
     let number = at.0 in let old = c.if-point-immutable.true in
-    judged_old c.args.genesis.now c.args.kept.now c.args.chain.now b c.immutable_length-immutable.result c.immutable_length-immutable.ensures.count (omega arith)
+    judged_old network c.args.chain_db.now s whole has b c.immutable.result (c.immutable.ensures.immutable network whole) (omega arith)
 
-pub returns-then-is_known : goal.returns-then-is_known
-returns-then-is_known g c = λ b read at.
-    let found : Found c.args.genesis.now c.args.kept.now c.args.chain.now b c.immutable_length-immutable.result =
-    record { immutable = c.immutable_length-immutable.ensures.count; young = let number = at.0 in let young = c.if-point-immutable.false in omega arith } in
-    let known = known_by_text c.immutable_length-immutable.result c.args.kept.now b c.args.bytes.now read in
-    judged_known c.args.genesis.now c.args.kept.now c.args.chain.now b c.immutable_length-immutable.result found (known.0 (c.if-is_known.ensures.0 refl))
+pub returns-then-has_text : goal.returns-then-has_text
+returns-then-has_text g c = λ network s b whole has read at.
+    let young : immutable_length network.genesis c.args.chain_db.now.chain.items < b.header.number = let number = at.0 in let young = c.if-point-immutable.false in let is = c.immutable.ensures.immutable network whole in omega arith in
+    let text = block_text_is b c.args.bytes.now read.read in
+    judged_known network c.args.chain_db.now s whole has b young
+    (known_at c.args.chain_db.now.store b c.in-Some.stored.now c.args.point.hash.bytes c.in-Some.ensures.found (ap block_text (sym c.block.ensures) ∙ (c.if-has_text.ensures.0 refl ∙ sym text)))
 
-pub returns-then-has_live_clash : goal.returns-then-has_live_clash
-returns-then-has_live_clash g c = λ b read at.
-    let found : Found c.args.genesis.now c.args.kept.now c.args.chain.now b c.immutable_length-immutable.result =
-    record { immutable = c.immutable_length-immutable.ensures.count; young = let number = at.0 in let young = c.if-point-immutable.false in omega arith } in
-    let known = known_by_text c.immutable_length-immutable.result c.args.kept.now b c.args.bytes.now read in
-    let live_clash = live_clash_by_text c.immutable_length-immutable.result c.args.kept.now b c.args.point.hash.bytes c.args.bytes.now read at.1 in
-    judged_clash c.args.genesis.now c.args.kept.now c.args.chain.now b c.immutable_length-immutable.result found
-    (λ is. let e : false ≡ true = c.if-is_known.ensures.1 (known.1 is) in cc) (inl (live_clash.0 (c.if-has_live_clash.ensures.0 refl)))
+pub returns-in-Some : goal.returns-in-Some
+returns-in-Some g c = λ network s b whole has read at.
+    let young : immutable_length network.genesis c.args.chain_db.now.chain.items < b.header.number = let number = at.0 in let young = c.if-point-immutable.false in let is = c.immutable.ensures.immutable network whole in omega arith in
+    let text = block_text_is b c.args.bytes.now read.read in
+    let other = other_at c.args.chain_db.now.store b c.in-Some.stored.now c.args.point.hash.bytes c.get.ensures.set (c.get.ensures.one b (read_again b c.args.bytes.now read)) c.in-Some.ensures.found at.1
+    (λ same. let e : false ≡ true = c.if-has_text.ensures.1 (ap block_text c.block.ensures ∙ (same ∙ text)) in cc) in
+    judged_clash network c.args.chain_db.now s whole has b young other.0 (inl other.1)
 
 pub returns-then-has_clash : goal.returns-then-has_clash
-returns-then-has_clash g c = λ b read at.
-    let found : Found c.args.genesis.now c.args.kept.now c.args.chain.now b c.immutable_length-immutable.result =
-    record { immutable = c.immutable_length-immutable.ensures.count; young = let number = at.0 in let young = c.if-point-immutable.false in omega arith } in
-    let known = known_by_text c.immutable_length-immutable.result c.args.kept.now b c.args.bytes.now read in
-    let clash = clash_by_text c.args.chain.now b c.args.point.hash.bytes c.args.bytes.now read at.1 in
-    judged_clash c.args.genesis.now c.args.kept.now c.args.chain.now b c.immutable_length-immutable.result found
-    (λ is. let e : false ≡ true = c.if-is_known.ensures.1 (known.1 is) in cc) (inr (clash.0 (c.if-has_clash.ensures.0 refl)))
+returns-then-has_clash g c = λ network s b whole has read at.
+    let young : immutable_length network.genesis c.args.chain_db.now.chain.items < b.header.number = let number = at.0 in let young = c.if-point-immutable.false in let is = c.immutable.ensures.immutable network whole in omega arith in
+    let none = none_at c.args.chain_db.now.store b c.args.point.hash.bytes (c.get.ensures.one b (read_again b c.args.bytes.now read)) c.in_default.ensures.found at.1 in
+    let clash = clash_in s b c.args.point.hash.bytes c.args.bytes.now c.deref.result.now (c.deref.ensures.value ∙ has.chain) read at.1 in
+    judged_clash network c.args.chain_db.now s whole has b young none.0 (inr (clash.0 (c.if-has_clash.ensures.0 refl)))
 
-pub returns-then-live_count-max_volatile : goal.returns-then-live_count-max_volatile
-returns-then-live_count-max_volatile g c = λ b read at.
-    let found : Found c.args.genesis.now c.args.kept.now c.args.chain.now b c.immutable_length-immutable.result =
-    record { immutable = c.immutable_length-immutable.ensures.count; young = let number = at.0 in let young = c.if-point-immutable.false in omega arith } in
-    let known = known_by_text c.immutable_length-immutable.result c.args.kept.now b c.args.bytes.now read in
-    let live_clash = live_clash_by_text c.immutable_length-immutable.result c.args.kept.now b c.args.point.hash.bytes c.args.bytes.now read at.1 in
-    let clash = clash_by_text c.args.chain.now b c.args.point.hash.bytes c.args.bytes.now read at.1 in
-    judged_full c.args.genesis.now c.args.kept.now c.args.chain.now b c.immutable_length-immutable.result c.live_count.result found
-    (λ is. let e : false ≡ true = c.if-is_known.ensures.1 (known.1 is) in cc) (λ is. let e : false ≡ true = c.if-has_live_clash.ensures.1 (live_clash.1 is) in cc) (λ is. let e : false ≡ true = c.if-has_clash.ensures.1 (clash.1 is) in cc)
-    c.live_count.ensures (let most = c.max_volatile.ensures in let full = c.if-live_count-max_volatile.true in omega arith)
+pub returns-then-is_full : goal.returns-then-is_full
+returns-then-is_full g c = λ network s b whole has read at.
+    let young : immutable_length network.genesis c.args.chain_db.now.chain.items < b.header.number = let number = at.0 in let young = c.if-point-immutable.false in let is = c.immutable.ensures.immutable network whole in omega arith in
+    let none = none_at c.args.chain_db.now.store b c.args.point.hash.bytes (c.get.ensures.one b (read_again b c.args.bytes.now read)) c.in_default.ensures.found at.1 in
+    let clash = clash_in s b c.args.point.hash.bytes c.args.bytes.now c.deref.result.now (c.deref.ensures.value ∙ has.chain) read at.1 in
+    judged_full network c.args.chain_db.now s whole has b young none.0 none.1 (λ is. let e : false ≡ true = c.if-has_clash.ensures.1 (clash.1 is) in cc) (c.if-is_full.ensures.0 refl)
 
 pub returns : goal.returns
-returns g c = λ b read at.
-    let found : Found c.args.genesis.now c.args.kept.now c.args.chain.now b c.immutable_length-immutable.result =
-    record { immutable = c.immutable_length-immutable.ensures.count; young = let number = at.0 in let young = c.if-point-immutable.false in omega arith } in
-    let known = known_by_text c.immutable_length-immutable.result c.args.kept.now b c.args.bytes.now read in
-    let live_clash = live_clash_by_text c.immutable_length-immutable.result c.args.kept.now b c.args.point.hash.bytes c.args.bytes.now read at.1 in
-    let clash = clash_by_text c.args.chain.now b c.args.point.hash.bytes c.args.bytes.now read at.1 in
-    judged_none c.args.genesis.now c.args.kept.now c.args.chain.now b c.immutable_length-immutable.result c.live_count.result found
-    (λ is. let e : false ≡ true = c.if-is_known.ensures.1 (known.1 is) in cc) (λ is. let e : false ≡ true = c.if-has_live_clash.ensures.1 (live_clash.1 is) in cc) (λ is. let e : false ≡ true = c.if-has_clash.ensures.1 (clash.1 is) in cc)
-    c.live_count.ensures (let most = c.max_volatile.ensures in let room = c.if-live_count-max_volatile.false in omega arith)
+returns g c = λ network s b whole has read at.
+    let young : immutable_length network.genesis c.args.chain_db.now.chain.items < b.header.number = let number = at.0 in let young = c.if-point-immutable.false in let is = c.immutable.ensures.immutable network whole in omega arith in
+    let none = none_at c.args.chain_db.now.store b c.args.point.hash.bytes (c.get.ensures.one b (read_again b c.args.bytes.now read)) c.in_default.ensures.found at.1 in
+    let clash = clash_in s b c.args.point.hash.bytes c.args.bytes.now c.deref.result.now (c.deref.ensures.value ∙ has.chain) read at.1 in
+    judged_none network c.args.chain_db.now s whole has b young none.0 none.1 (λ is. let e : false ≡ true = c.if-has_clash.ensures.1 (clash.1 is) in cc) (λ full. let e : false ≡ true = c.if-is_full.ensures.1 full in cc)

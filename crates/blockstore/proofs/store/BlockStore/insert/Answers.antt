@@ -12,7 +12,7 @@ use Rattle.blockstore.proofs.store.BlockStore.insert.Goals as goal
 pub returns-then-has_text-clause-err : goal.returns-then-has_text-clause-err
 returns-then-has_text-clause-err g c =
     let text = block_text_is c.args.block c.bytes-text.result.now c.bytes-text.ensures.read in
-    (known_at c.args.self.now c.args.block c.hash.result.bytes c.in-Some.stored.now c.in-Some.ensures (ap block_text (sym c.block-in-Some.ensures) ∙ (c.if-has_text.ensures.0 refl ∙ sym text)), refl)
+    (known_at c.args.self.now c.args.block c.hash.result.bytes c.in-Some.stored.now c.in-Some.ensures.found (ap block_text (sym c.block-in-Some.ensures) ∙ (c.if-has_text.ensures.0 refl ∙ sym text)), refl)
 
 pub returns-then-has_text-clause-one : goal.returns-then-has_text-clause-one
 returns-then-has_text-clause-one g c =
@@ -29,8 +29,8 @@ returns-in-Some-clause-err g c =
     let other = λ (same : block_text c.in-Some.stored.now.block ≡ block_text c.args.block).
     let e : false ≡ true = c.if-has_text.ensures.1 (ap block_text c.block-in-Some.ensures ∙ (same ∙ text)) in absurd {A = ⊥} cc in (
       (
-        unknown_at c.args.self.now c.args.block c.hash.result.bytes c.in-Some.stored.now is_set read read_too c.hash.ensures c.in-Some.ensures other,
-        clash_at c.args.self.now c.args.block c.hash.result.bytes c.in-Some.stored.now c.hash.ensures c.in-Some.ensures other,
+        unknown_at c.args.self.now c.args.block c.hash.result.bytes c.in-Some.stored.now is_set read read_too c.hash.ensures c.in-Some.ensures.found other,
+        clash_at c.args.self.now c.args.block c.hash.result.bytes c.in-Some.stored.now c.hash.ensures c.in-Some.ensures.found other,
       ),
       refl,
     )
@@ -46,8 +46,8 @@ returns-then-is_full-clause-err g c =
     let read : AreRead c.args.self.now.blocks = subst (λ (s : Store). AreRead s.blocks) c.self.view_is c.self.invariant.read in
     let read_too : IsRead c.args.block (block_text c.args.block) = read_again c.args.block c.bytes-text.result.now c.bytes-text.ensures in (
       (
-        unknown c.args.self.now c.args.block c.hash.result.bytes read read_too c.hash.ensures c.in_default.ensures,
-        no_clash c.args.self.now c.args.block c.hash.result.bytes c.hash.ensures c.in_default.ensures,
+        unknown c.args.self.now c.args.block c.hash.result.bytes read read_too c.hash.ensures c.in_default.ensures.found,
+        no_clash c.args.self.now c.args.block c.hash.result.bytes c.hash.ensures c.in_default.ensures.found,
         c.if-is_full.ensures.0 refl,
       ),
       refl,
@@ -64,8 +64,8 @@ returns-then-is_err-clause-err g c =
     let read : AreRead c.args.self.now.blocks = subst (λ (s : Store). AreRead s.blocks) c.self.view_is c.self.invariant.read in
     let read_too : IsRead c.args.block (block_text c.args.block) = read_again c.args.block c.bytes-text.result.now c.bytes-text.ensures in
     let allowed : IsAllowed c.args.self.now c.args.block = record {
-      unknown = unknown c.args.self.now c.args.block c.hash.result.bytes read read_too c.hash.ensures c.in_default.ensures;
-      alone = no_clash c.args.self.now c.args.block c.hash.result.bytes c.hash.ensures c.in_default.ensures;
+      unknown = unknown c.args.self.now c.args.block c.hash.result.bytes read read_too c.hash.ensures c.in_default.ensures.found;
+      alone = no_clash c.args.self.now c.args.block c.hash.result.bytes c.hash.ensures c.in_default.ensures.found;
       room = λ full. let e : false ≡ true = c.if-is_full.ensures.1 full in absurd {A = ⊥} cc;
     } in
     let items : List Stored = c.self.inside.blocks.items in
@@ -86,7 +86,7 @@ invariant_of-self-2 g c =
     c.push.ensures.items ∙ (ap (λ (t : Bool). cond t (items ++ c.new.result ∷ []) items) c.if-is_err.ensures.negation ∙ ap (λ (x : Stored). items ++ x ∷ []) c.new.ensures) in
     let read_too : IsRead c.args.block (block_text c.args.block) = read_again c.args.block c.bytes-text.result.now c.bytes-text.ensures in
     let none : HasNoneAt old (block_hash_of c.args.block) =
-    subst (HasNoneAt old) c.hash.ensures (subst (λ (s : Store). HasNoneAt s c.hash.result.bytes) (sym c.self.view_is) c.in_default.ensures) in
+    subst (HasNoneAt old) c.hash.ensures (subst (λ (s : Store). HasNoneAt s c.hash.result.bytes) (sym c.self.view_is) c.in_default.ensures.found) in
     let room : IsFull old → ⊥ = λ full. let e : false ≡ true = c.if-is_full.ensures.1 (subst IsFull c.self.view_is full) in absurd {A = ⊥} cc in
     record {
       is_set = set_with old c.args.block c.push.new.self.items is c.self.invariant.is_set none room;
@@ -102,8 +102,8 @@ returns-clause-ok g c =
     let read : AreRead c.args.self.now.blocks = subst (λ (s : Store). AreRead s.blocks) c.self.view_is c.self.invariant.read in
     let read_too : IsRead c.args.block (block_text c.args.block) = read_again c.args.block c.bytes-text.result.now c.bytes-text.ensures in
     let allowed : IsAllowed c.args.self.now c.args.block = record {
-      unknown = unknown c.args.self.now c.args.block c.hash.result.bytes read read_too c.hash.ensures c.in_default.ensures;
-      alone = no_clash c.args.self.now c.args.block c.hash.result.bytes c.hash.ensures c.in_default.ensures;
+      unknown = unknown c.args.self.now c.args.block c.hash.result.bytes read read_too c.hash.ensures c.in_default.ensures.found;
+      alone = no_clash c.args.self.now c.args.block c.hash.result.bytes c.hash.ensures c.in_default.ensures.found;
       room = λ full. let e : false ≡ true = c.if-is_full.ensures.1 full in absurd {A = ⊥} cc;
     } in
     (allowed, subst (λ (s : Store). IsInserted s c.args.block (with_blocks old c.push.new.self.items)) c.self.view_is (inserted old c.args.block c.push.new.self.items is))
@@ -121,7 +121,7 @@ returns-clause-set g c =
     let is : c.push.new.self.items ≡ items ++ unmarked c.args.block ∷ [] =
     c.push.ensures.items ∙ (ap (λ (t : Bool). cond t (items ++ c.new.result ∷ []) items) c.if-is_err.ensures.negation ∙ ap (λ (x : Stored). items ++ x ∷ []) c.new.ensures) in
     let none : HasNoneAt old (block_hash_of c.args.block) =
-    subst (HasNoneAt old) c.hash.ensures (subst (λ (s : Store). HasNoneAt s c.hash.result.bytes) (sym c.self.view_is) c.in_default.ensures) in
+    subst (HasNoneAt old) c.hash.ensures (subst (λ (s : Store). HasNoneAt s c.hash.result.bytes) (sym c.self.view_is) c.in_default.ensures.found) in
     let room : IsFull old → ⊥ = λ full. let e : false ≡ true = c.if-is_full.ensures.1 (subst IsFull c.self.view_is full) in absurd {A = ⊥} cc in
     set_with old c.args.block c.push.new.self.items is c.self.invariant.is_set none room
 

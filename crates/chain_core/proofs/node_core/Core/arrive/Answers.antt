@@ -1,53 +1,39 @@
-use Rattle.std.proofs.Common.{sym, subst, ◌∙◌}
+use Rattle.std.proofs.Common.{None, sym, subst}
 use Rattle.block.specs.Read.{IsRead}
 use Rattle.model.specs.Block.{Block}
 use Rattle.model.specs.Ledger.{network_of}
+use Rattle.model.specs.History.{State}
+use Rattle.chain_core.specs.ChainDbs.{HasState}
 use Rattle.chain_core.specs.Views.{followers_of, refusal_of}
-use Rattle.chain_core.proofs.Steps.{sound_with}
-use Rattle.chain_core.proofs.Arrivals.{refused_arrival, not_refused, none_applies, kept_arrival, sound_kept}
+use Rattle.chain_core.proofs.Adding.{whole_same}
+use Rattle.chain_core.proofs.Arrivals.{at_rest, rests, is_ready, IsJudgedAt, refused_arrival, none_applies, kept_arrival}
 use Rattle.chain_core.proofs.ToldChains.{on_err}
 use Rattle.chain_core.proofs.node_core.Core.arrive.Goals as goal
 
 pub returns-in-Some-clause-step : goal.returns-in-Some-clause-step
 returns-in-Some-clause-step g c =
-    refused_arrival (network_of c.self.inside.genesis g.S.SigScheme.verifies) c.self.inside.kept.items c.self.inside.selected.chain.items c.deref.result.now c.deref-2.result.now (followers_of c.self.inside.followers.items) c.args.self.now c.args.bytes.now c.in-Ok.found (refusal_of c.in-Some.refusal)
-    c.self.view_is c.deref.ensures.value c.deref-2.ensures.value c.in-Ok.ensures.ok (c.in-Some.ensures c.in-Ok.found c.bytes.ensures (c.point.ensures.number, c.point.ensures.hash))
+    refused_arrival (network_of c.self.inside.genesis g.S.SigScheme.verifies) c.self.inside.chain_db (followers_of c.self.inside.followers.items) c.args.self.now c.args.bytes.now c.in-Ok.found (refusal_of c.in-Some.refusal) c.self.view_is c.in-Ok.ensures.ok
+    (λ s has. c.in-Some.ensures (network_of c.self.inside.genesis g.S.SigScheme.verifies) s c.in-Ok.found c.self.invariant.whole has c.bytes.ensures (c.point.ensures.number, c.point.ensures.hash))
 
-pub keep-requires-clause-sound : goal.keep-requires-clause-sound
-keep-requires-clause-sound g c =
-    let none = not_refused c.self.inside.genesis c.self.inside.kept.items c.self.inside.selected.chain.items c.deref.result.now c.deref-2.result.now c.args.bytes.now c.in-Ok.found
-    c.deref.ensures.value c.deref-2.ensures.value c.in-Ok.ensures.ok (c.in_default.ensures c.in-Ok.found c.bytes.ensures (c.point.ensures.number, c.point.ensures.hash)) in
+pub add-requires-clause-ready : goal.add-requires-clause-ready
+add-requires-clause-ready g c =
+    let judged : IsJudgedAt c.self.inside.genesis c.self.inside.chain_db c.in_ok-block.block None = subst (λ (b : Block). IsJudgedAt c.self.inside.genesis c.self.inside.chain_db b None) (sym c.in_ok-block.ensures) (λ (s : State) (has : HasState c.self.inside.genesis c.self.inside.chain_db s). c.in_default.ensures (network_of c.self.inside.genesis g.S.SigScheme.verifies) s c.in-Ok.found c.self.invariant.whole has c.bytes.ensures (c.point.ensures.number, c.point.ensures.hash)) in
     let read : IsRead c.in_ok-block.block c.args.bytes.now = subst (λ (b : Block). IsRead b c.args.bytes.now) (sym c.in_ok-block.ensures) c.in-Ok.ensures.ok in
-    sound_with (network_of c.self.inside.genesis g.S.SigScheme.verifies) c.self.inside.kept.items c.self.inside.selected.chain.items c.args.bytes.now c.in_ok-block.block c.self.invariant.sound read.read none
+    is_ready (network_of c.self.inside.genesis g.S.SigScheme.verifies) c.self.inside.chain_db c.in_ok-block.block c.args.bytes.now c.self.invariant.whole read (judged (at_rest c.self.inside.chain_db) (rests (network_of c.self.inside.genesis g.S.SigScheme.verifies) c.self.inside.chain_db c.self.invariant.whole))
 
 pub invariant_of-self-2 : goal.invariant_of-self-2
-invariant_of-self-2 g c =
-    let none = not_refused c.self.inside.genesis c.self.inside.kept.items c.self.inside.selected.chain.items c.deref.result.now c.deref-2.result.now c.args.bytes.now c.in-Ok.found
-    c.deref.ensures.value c.deref-2.ensures.value c.in-Ok.ensures.ok (c.in_default.ensures c.in-Ok.found c.bytes.ensures (c.point.ensures.number, c.point.ensures.hash)) in
-    let read : IsRead c.in_ok-block.block c.args.bytes.now = subst (λ (b : Block). IsRead b c.args.bytes.now) (sym c.in_ok-block.ensures) c.in-Ok.ensures.ok in
-    record {
-      sound = sound_kept (network_of c.self.inside.genesis g.S.SigScheme.verifies) c.self.inside.kept.items c.self.inside.selected.chain.items c.keep.new.kept.items c.keep.new.selected.chain.items c.args.bytes.now c.in_ok-block.block c.self.invariant.sound read none
-          c.in_ok-change.ensures.kept c.in_ok-change.ensures.selected;
-      opening = c.keep.ensures.opening ∙ c.self.invariant.opening;
-      states = c.in_ok-change.ensures.states;
-    }
+invariant_of-self-2 g c = record { whole = c.in_ok-change.ensures.ok.whole }
 
 pub returns-clause-step : goal.returns-clause-step
 returns-clause-step g c =
-    let none = not_refused c.self.inside.genesis c.self.inside.kept.items c.self.inside.selected.chain.items c.deref.result.now c.deref-2.result.now c.args.bytes.now c.in-Ok.found
-    c.deref.ensures.value c.deref-2.ensures.value c.in-Ok.ensures.ok (c.in_default.ensures c.in-Ok.found c.bytes.ensures (c.point.ensures.number, c.point.ensures.hash)) in
+    let judged : IsJudgedAt c.self.inside.genesis c.self.inside.chain_db c.in_ok-block.block None = subst (λ (b : Block). IsJudgedAt c.self.inside.genesis c.self.inside.chain_db b None) (sym c.in_ok-block.ensures) (λ (s : State) (has : HasState c.self.inside.genesis c.self.inside.chain_db s). c.in_default.ensures (network_of c.self.inside.genesis g.S.SigScheme.verifies) s c.in-Ok.found c.self.invariant.whole has c.bytes.ensures (c.point.ensures.number, c.point.ensures.hash)) in
     let read : IsRead c.in_ok-block.block c.args.bytes.now = subst (λ (b : Block). IsRead b c.args.bytes.now) (sym c.in_ok-block.ensures) c.in-Ok.ensures.ok in
-    kept_arrival (network_of c.self.inside.genesis g.S.SigScheme.verifies) c.self.inside.kept.items c.self.inside.selected.chain.items c.keep.new.kept.items c.keep.new.selected.chain.items (followers_of c.self.inside.followers.items) c.args.self.now c.args.bytes.now c.in_ok-block.block
-    c.in_ok-change.change.back c.in_ok-change.change.added c.self.view_is c.self.invariant.sound read none c.in_ok-change.ensures.kept c.in_ok-change.ensures.selected c.in_ok-change.ensures.change
+    kept_arrival (network_of c.self.inside.genesis g.S.SigScheme.verifies) c.self.inside.chain_db c.add.new.self (followers_of c.self.inside.followers.items) c.args.self.now c.args.bytes.now c.in_ok-block.block c.in_ok-change.change c.self.view_is read judged c.in_ok-change.ensures.ok
 
 pub returns-in_err-block-clause-memory : goal.returns-in_err-block-clause-memory
 returns-in_err-block-clause-memory g c =
-    let none = not_refused c.self.inside.genesis c.self.inside.kept.items c.self.inside.selected.chain.items c.deref.result.now c.deref-2.result.now c.args.bytes.now c.in-Ok.found
-    c.deref.ensures.value c.deref-2.ensures.value c.in-Ok.ensures.ok (c.in_default.ensures c.in-Ok.found c.bytes.ensures (c.point.ensures.number, c.point.ensures.hash)) in
-    on_err c.from_residual.result _ (λ b spells empty. none_applies c.self.inside.genesis c.self.inside.kept.items c.self.inside.selected.chain.items (followers_of c.self.inside.followers.items) c.args.self.now c.args.bytes.now c.self.view_is none)
+    on_err c.from_residual.result _ (λ b spells empty. none_applies c.self.inside.genesis c.self.inside.chain_db (followers_of c.self.inside.followers.items) c.args.self.now c.args.bytes.now c.in-Ok.found c.self.view_is c.in-Ok.ensures.ok (λ s has. c.in_default.ensures (network_of c.self.inside.genesis g.S.SigScheme.verifies) s c.in-Ok.found c.self.invariant.whole has c.bytes.ensures (c.point.ensures.number, c.point.ensures.hash)))
 
 pub returns-in_err-change-clause-memory : goal.returns-in_err-change-clause-memory
 returns-in_err-change-clause-memory g c =
-    let none = not_refused c.self.inside.genesis c.self.inside.kept.items c.self.inside.selected.chain.items c.deref.result.now c.deref-2.result.now c.args.bytes.now c.in-Ok.found
-    c.deref.ensures.value c.deref-2.ensures.value c.in-Ok.ensures.ok (c.in_default.ensures c.in-Ok.found c.bytes.ensures (c.point.ensures.number, c.point.ensures.hash)) in
-    on_err c.from_residual-in_err-change.result _ (λ b spells empty. none_applies c.self.inside.genesis c.self.inside.kept.items c.self.inside.selected.chain.items (followers_of c.self.inside.followers.items) c.args.self.now c.args.bytes.now c.self.view_is none)
+    on_err c.from_residual-in_err-change.result _ (λ b spells empty. none_applies c.self.inside.genesis c.self.inside.chain_db (followers_of c.self.inside.followers.items) c.args.self.now c.args.bytes.now c.in-Ok.found c.self.view_is c.in-Ok.ensures.ok (λ s has. c.in_default.ensures (network_of c.self.inside.genesis g.S.SigScheme.verifies) s c.in-Ok.found c.self.invariant.whole has c.bytes.ensures (c.point.ensures.number, c.point.ensures.hash)))

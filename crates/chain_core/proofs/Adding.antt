@@ -1,0 +1,216 @@
+-- A block that is kept: the chain, the store and the states are settled again.
+use Rattle.std.proofs.Common.{◌≡◌, ◌≢◌, ◌↔◌, ◌⊎◌, ℕ, ◌+◌, ◌-◌, ◌<◌, ◌≤◌, true, false, List, [], ◌∷◌, ◌++◌, length, map, Contains, refl, sym, ap, subst, ◌∙◌, arith, inl, inr}
+use Rattle.std.specs.Prelude.{min, Result, Ok, Err, IfOk, OnOk}
+use Rattle.std.specs.declared.alloc.AllocError.{AllocError}
+use Rattle.std.specs.List.{AllByRecursion}
+use Rattle.std.proofs.lemmas.List.{length-append, length-take}
+use Rattle.std.proofs.lemmas.List.Elements.{Contains-append_right}
+use Rattle.model.specs.Block.{Block, block_hash_of}
+use Rattle.model.specs.Genesis.{Genesis}
+use Rattle.model.specs.Ledger.{Network}
+use Rattle.model.specs.Chain.{HaveDistinctHashes, immutable_length}
+use Rattle.model.specs.History.{IsChange}
+use Rattle.model.proofs.Lists.{all_of_member, all_from_members, contains_first, contains_later, contains_cases}
+use Rattle.model.proofs.MappedLists.{contains_map, contains_before}
+use Rattle.model.proofs.Chains.{one_with_hash}
+use Rattle.model.proofs.Selections.{selection_not_shorter}
+use Rattle.ident.specs.declared.block_hash.BlockHash.{BlockHash}
+use Rattle.blockstore.specs.Stored.{Stored, Store, unmarked, HasBlock, blocks_of, IsSet}
+use Rattle.blockstore.specs.Insertion.{IsInserted}
+use Rattle.blockstore.specs.Live.{HoldsLive}
+use Rattle.ledgerdb.specs.Values.{Database, Prepared, depth, count}
+use Rattle.ledgerdb.specs.Chains.{without_last, IsDatabaseOf, IsPreparedOf}
+use Rattle.ledgerdb.proofs.ForCallers.{prepared_count}
+use Rattle.chainsel.specs.Dead.{IsDead}
+use Rattle.chainsel.specs.Ready.{IsSettled, IsReady}
+use Rattle.chainsel.specs.Choices.{IsSelected, IsFoundDead, IsSwitch}
+use Rattle.chainsel.specs.declared.choice.Switch.{Switch}
+use Rattle.chainsel.proofs.ForCallers.{at_hand, dead_with, selection_at_hand, IsNextStore, settled_again, switched_at_hand, depth_next}
+use Rattle.chain_core.specs.declared.chain_db.ChainDb.{ChainDb}
+use Rattle.chain_core.specs.declared.chain_db.Change.{Change}
+use Rattle.chain_core.specs.ChainDbs.{IsWhole, IsAdded, AreMarked, IsTakenIn, IsCutBack, IsCommitted}
+
+module _ (network : Network) (chain : List Block) (store : Store) (db : Database) (new : Block) (ready : IsReady network chain store db new) (invalid : List BlockHash)
+    (found : AllByRecursion (IsFoundDead network chain (new ∷ blocks_of store)) invalid) (mid : Store) (taken : IsTakenIn store new invalid mid) where
+  distinct : HaveDistinctHashes (new ∷ blocks_of store)
+  distinct = (ready.alone, ready.settled.distinct)
+
+  -- the blocks that there were, and this one
+  pub was : (b : Block) → HasBlock mid b → Contains (new ∷ blocks_of store) b
+  was b has =
+      let x = contains_before (λ (s : Stored). s.block) taken.between.blocks b ((taken.marked.blocks b).0 has) in
+      elim ((taken.inserted.members x.0).0 x.1) [
+        | inl old ↦ contains_later new (blocks_of store) b (subst (Contains (blocks_of store)) x.2 (contains_map (λ (s : Stored). s.block) store.blocks x.0 old))
+        | inr is ↦ subst (Contains (new ∷ blocks_of store)) (sym (ap (λ (s : Stored). s.block) is) ∙ x.2) (contains_first new (blocks_of store))
+      ]
+
+  pub still : (b : Block) → Contains (new ∷ blocks_of store) b → HasBlock mid b
+  still b member =
+      (taken.marked.blocks b).1
+      (elim (contains_cases new (blocks_of store) b member) [
+        | inl is ↦ subst (HasBlock taken.between) is (contains_map (λ (s : Stored). s.block) taken.between.blocks (unmarked new) ((taken.inserted.members (unmarked new)).1 (inr refl)))
+        | inr live ↦
+            let x = contains_before (λ (s : Stored). s.block) store.blocks b live in
+            subst (HasBlock taken.between) x.2 (contains_map (λ (s : Stored). s.block) taken.between.blocks x.0 ((taken.inserted.members x.0).1 (inl x.1)))
+      ])
+
+  -- what has a mark is dead
+  pub marks : (s : Stored) → Contains mid.blocks s → s.invalid ≡ true → IsDead network chain (new ∷ blocks_of store) s.block
+  marks s member marked =
+      elim (taken.marked.marks s member marked) [
+        | inl old ↦ elim ((taken.inserted.members old.0).0 old.1) [
+          | inl there ↦
+              subst (IsDead network chain (new ∷ blocks_of store)) old.2
+              (dead_with network chain (blocks_of store) new old.0.block ready.past (all_of_member (λ (x : Stored). x.invalid ≡ true → IsDead network chain (blocks_of store) x.block) store.blocks old.0 ready.settled.marks there old.3))
+          | inr is ↦ absurd (let e : false ≡ true = sym (ap (λ (x : Stored). x.invalid) is) ∙ old.3 in cc)
+        ]
+        | inr named ↦
+            let is = all_of_member (IsFoundDead network chain (new ∷ blocks_of store)) invalid named.0 found named.1 in
+            let there = was s.block (contains_map (λ (x : Stored). x.block) mid.blocks s member) in
+            subst (IsDead network chain (new ∷ blocks_of store)) (one_with_hash (new ∷ blocks_of store) is.block s.block distinct is.member there (is.same ∙ sym named.2)) is.dead
+      ]
+
+  past_all : AllByRecursion (λ b. immutable_length network.genesis chain < b.header.number) (new ∷ blocks_of store)
+  past_all = (ready.past, ready.settled.past)
+
+  -- the chain stays
+  pub kept_store : IsNextStore network chain store db new ready chain mid
+  kept_store = record {
+    was = was;
+    still = λ b member past. still b member;
+    past = all_from_members (λ b. immutable_length network.genesis chain < b.header.number) (blocks_of mid) (λ b member. all_of_member (λ c. immutable_length network.genesis chain < c.header.number) (new ∷ blocks_of store) b past_all (was b member));
+    distinct = taken.set.distinct;
+    marks = marks;
+  }
+
+  -- or changes
+  pub cut_store : (next_chain : List Block) (number : ℕ) (next : Store) → number ≡ immutable_length network.genesis next_chain → IsCutBack mid number next → IsNextStore network chain store db new ready next_chain next
+  cut_store next_chain number next is cut = record {
+    was = λ b has.
+        let x = contains_before (λ (s : Stored). s.block) next.blocks b has in
+        was b (subst (HasBlock mid) x.2 (contains_map (λ (s : Stored). s.block) mid.blocks x.0 ((cut.cut.members x.0).0 x.1).0));
+    still = λ b member past.
+        let x = contains_before (λ (s : Stored). s.block) mid.blocks b (still b member) in
+        let number_of : x.0.block.header.number ≡ b.header.number = ap (λ (c : Block). c.header.number) x.2 in
+        subst (HasBlock next) x.2 (contains_map (λ (s : Stored). s.block) next.blocks x.0 ((cut.cut.members x.0).1 (x.1, omega (arith, past, is, number_of))));
+    past = all_from_members (λ b. immutable_length network.genesis next_chain < b.header.number) (blocks_of next)
+        (λ b member.
+        let x = contains_before (λ (s : Stored). s.block) next.blocks b member in
+        let above = ((cut.cut.members x.0).0 x.1).1 in
+        let number_of : x.0.block.header.number ≡ b.header.number = ap (λ (c : Block). c.header.number) x.2 in
+        omega (arith, above, is, number_of));
+    distinct = cut.set.distinct;
+    marks = λ s member marked. marks s ((cut.cut.members s).0 member).0 marked;
+  }
+
+-- where nothing of it changes it is whole still
+pub whole_same : {S : Type 0} (network : Network) (old new : ChainDb S) → new.chain.items ≡ old.chain.items → new.store ≡ old.store → new.db ≡ old.db → IsWhole network old → IsWhole network new
+whole_same network old new chain store db whole = record {
+  settled = subst (λ (c : List Block). IsSettled network c new.store new.db) (sym chain)
+      (subst (λ (x : Store). IsSettled network old.chain.items x new.db) (sym store) (subst (λ (d : Database). IsSettled network old.chain.items old.store d) (sym db) whole.settled));
+  k = ap (λ (d : Database). d.k) db ∙ whole.k;
+  capacity = ap (λ (x : Store). x.capacity) store ∙ whole.capacity;
+}
+
+-- ---- all that is kept
+
+module _ {S : Type 0} (network : Network) (old : ChainDb S) (new : Block) (whole : IsWhole network old) (ready : IsReady network old.chain.items old.store old.db new) (invalid : List BlockHash)
+    (found : AllByRecursion (IsFoundDead network old.chain.items (new ∷ blocks_of old.store)) invalid) where
+  -- the chain stays
+  pub added_kept : (next : ChainDb S) (told : Change) → IsTakenIn old.store new invalid next.store → next.chain.items ≡ old.chain.items → next.db ≡ old.db → told.back ≡ 0 → told.added ≡ 0
+      → IsSelected network old.store old.chain.items new old.chain.items → IsAdded network old new next told
+  added_kept next told taken same_chain same_db no_back none_added selected = record {
+    selected = subst (IsSelected network old.store old.chain.items new) (sym same_chain) selected;
+    change = subst (λ (c : List Block). IsChange old.chain.items c told.back told.added) (sym same_chain) (no_change old.chain.items told.back told.added no_back none_added);
+    live = λ kept holds. subst (λ (c : List Block). HoldsLive network.genesis (new ∷ kept) c next.store) (sym same_chain)
+        (taken.marked.live network.genesis (new ∷ kept) old.chain.items (taken.gains network.genesis kept old.chain.items holds ready.past));
+    whole = record {
+      settled = subst (λ (d : Database). IsSettled network next.chain.items next.store d) (sym same_db)
+          (subst (λ (c : List Block). IsSettled network c next.store old.db) (sym same_chain)
+          (settled_again network old.chain.items old.store old.db new ready old.chain.items next.store old.db selected
+          (all_from_members (Contains (at_hand old.chain.items old.store new)) old.chain.items (λ b member. Contains-append_right (new ∷ blocks_of old.store) old.chain.items b member))
+          (kept_store network old.chain.items old.store old.db new ready invalid found next.store taken) ready.settled.database ready.settled.depth));
+      k = ap (λ (d : Database). d.k) same_db ∙ whole.k;
+      capacity = taken.marked.capacity ∙ (taken.inserted.capacity ∙ whole.capacity);
+    };
+  }
+    where
+      no_change : (c : List Block) (back added : ℕ) → back ≡ 0 → added ≡ 0 → IsChange c c back added
+      no_change c back added b a = record {
+        common = length c;
+        is_common = record { in_old = omega arith; in_new = omega arith; common = refl; longest = λ m within too same. within };
+        left = omega (arith, b);
+        put_on = omega (arith, a);
+      }
+
+  -- or changes
+  pub added_switched : (switch : Switch S) (mid : Store) (next : ChainDb S) (told : Change) → IsSwitch network old.chain.items old.store old.db new switch → IsTakenIn old.store new invalid mid
+      → next.chain.items ≡ without_last switch.back old.chain.items ++ switch.blocks.items → IsCommitted old.db switch.prepared next.db → IsCutBack mid (length next.chain.items - depth next.db) next.store
+      → told.back ≡ switch.back → told.added ≡ length switch.blocks.items → IsAdded network old new next told
+  added_switched switch mid next told is taken chain_is committed cut back_is added_is = record {
+    selected = selected;
+    change = subst (λ (n : ℕ). IsChange old.chain.items next.chain.items told.back n) (sym added_is)
+        (subst (λ (n : ℕ). IsChange old.chain.items next.chain.items n (length switch.blocks.items)) (sym back_is)
+        (subst (λ (c : List Block). IsChange old.chain.items c switch.back (length switch.blocks.items)) (sym chain_is) is.change));
+    live = λ kept holds. cut.live network.genesis (new ∷ kept) old.chain.items next.chain.items
+        (taken.marked.live network.genesis (new ∷ kept) old.chain.items (taken.gains network.genesis kept old.chain.items holds ready.past)) further number;
+    whole = record {
+      settled = settled_again network old.chain.items old.store old.db new ready next.chain.items next.store next.db selected
+          (subst (AllByRecursion (Contains (at_hand old.chain.items old.store new))) (sym chain_is) (switched_at_hand old.chain.items old.store new switch.back switch.blocks.items is.members))
+          (cut_store network old.chain.items old.store old.db new ready invalid found mid taken next.chain.items (length next.chain.items - depth next.db) next.store number cut)
+          database deep;
+      k = committed.k ∙ whole.k;
+      capacity = cut.cut.capacity ∙ (taken.marked.capacity ∙ (taken.inserted.capacity ∙ whole.capacity));
+    };
+  }
+    where
+      selected : IsSelected network old.store old.chain.items new next.chain.items
+      selected = subst (IsSelected network old.store old.chain.items new) (sym chain_is) is.selected
+
+      longer : length old.chain.items ≤ length next.chain.items
+      longer = selection_not_shorter network (at_hand old.chain.items old.store new) old.chain.items next.chain.items (selection_at_hand network old.chain.items old.store old.db new ready next.chain.items selected)
+
+      further : immutable_length network.genesis old.chain.items ≤ immutable_length network.genesis next.chain.items
+      further = let le = longer in omega (arith, le)
+
+      prepared_is : IsPreparedOf network (without_last switch.prepared.back old.chain.items) switch.blocks.items switch.prepared
+      prepared_is = subst (λ (n : ℕ). IsPreparedOf network (without_last n old.chain.items) switch.blocks.items switch.prepared) (sym is.back) is.prepared
+
+      database : IsDatabaseOf network next.chain.items next.db
+      database =
+          subst (λ (c : List Block). IsDatabaseOf network c next.db) (ap (λ (n : ℕ). without_last n old.chain.items ++ switch.blocks.items) is.back ∙ sym chain_is)
+          (committed.chain network old.chain.items switch.blocks.items ready.settled.database prepared_is)
+
+      within : switch.back ≤ depth old.db
+      within = is.within
+
+      counted : count switch.prepared ≡ length switch.blocks.items
+      counted = prepared_count network (without_last switch.prepared.back old.chain.items) switch.blocks.items switch.prepared prepared_is
+
+      long : length next.chain.items ≡ length old.chain.items - switch.back + length switch.blocks.items
+      long =
+          let e = ap length chain_is in
+          let d = ready.settled.depth in
+          let w = within in
+          omega (arith, e, length-append (without_last switch.back old.chain.items) switch.blocks.items, length-take (length old.chain.items - switch.back) old.chain.items)
+
+      deep : depth next.db ≡ min network.genesis.k (length next.chain.items)
+      deep =
+          committed.depth
+          ∙ (ap (λ (n : ℕ). min n (depth old.db - switch.prepared.back + count switch.prepared)) whole.k
+          ∙ (ap (λ (n : ℕ). min network.genesis.k (depth old.db - n + count switch.prepared)) is.back
+          ∙ (ap (λ (n : ℕ). min network.genesis.k (depth old.db - switch.back + n)) counted
+          ∙ (depth_next network.genesis.k (length old.chain.items) (depth old.db) switch.back (length switch.blocks.items) ready.settled.depth within
+          (let l = long in let le = longer in let d = ready.settled.depth in let w = within in omega (arith, l, le, d, w))
+          ∙ ap (min network.genesis.k) (sym long)))))
+
+      number : length next.chain.items - depth next.db ≡ immutable_length network.genesis next.chain.items
+      number = let d = deep in omega (arith, d)
+
+  pub added_at_switch : (switch : Switch S) (mid next : ChainDb S) (result : Result Change AllocError) → IsSwitch network old.chain.items old.store old.db new switch → IsTakenIn old.store new invalid mid.store
+      → mid.chain.items ≡ old.chain.items → mid.db ≡ old.db → OnOk result (next.chain.items ≡ without_last switch.back mid.chain.items ++ switch.blocks.items) → OnOk result (IsCommitted mid.db switch.prepared next.db)
+      → OnOk result (IsCutBack mid.store (length next.chain.items - depth next.db) next.store) → IfOk result (λ told. (told.back ≡ switch.back) × (told.added ≡ length switch.blocks.items)) → IfOk result (IsAdded network old new next)
+  added_at_switch switch mid next (Err e) is taken same_chain same_db chain_is committed cut told_is = tt
+  added_at_switch switch mid next (Ok told) is taken same_chain same_db chain_is committed cut told_is =
+      added_switched switch mid.store next told is taken (chain_is ∙ ap (λ (c : List Block). without_last switch.back c ++ switch.blocks.items) same_chain)
+      (subst (λ (d : Database). IsCommitted d switch.prepared next.db) same_db committed) cut told_is.0 told_is.1

@@ -1,0 +1,69 @@
+-- The selected chain with what selection stands on, and what becomes of them when a block is kept.
+use Rattle.std.specs.Prelude.{◌≡◌, ◌↔◌, ◌⊎◌, ℕ, ◌+◌, ◌-◌, min, true, List, ◌∷◌, ◌++◌, Contains}
+use Rattle.model.specs.Block.{Block, block_hash_of}
+use Rattle.model.specs.Genesis.{Genesis}
+use Rattle.model.specs.Ledger.{Network}
+use Rattle.model.specs.History.{State, IsChange}
+use Rattle.ident.specs.declared.block_hash.BlockHash.{BlockHash}
+use Rattle.blockstore.specs.Stored.{Stored, Store, HasBlock, IsSet}
+use Rattle.blockstore.specs.Insertion.{IsInserted}
+use Rattle.blockstore.specs.Answers.{IsCutTo}
+use Rattle.blockstore.specs.Live.{HoldsLive, GainsLive, FollowsChain, KeepsLive}
+use Rattle.ledgerdb.specs.Values.{Database, Prepared, depth, count}
+use Rattle.ledgerdb.specs.Chains.{without_last, IsDatabaseOf, IsPreparedOf}
+use Rattle.chainsel.specs.Ready.{IsSettled}
+use Rattle.chainsel.specs.Choices.{IsSelected}
+use Rattle.chain_core.specs.declared.chain_db.ChainDb.{ChainDb}
+use Rattle.chain_core.specs.declared.chain_db.Change.{Change}
+
+-- between two arrivals: settled, with the limits of the genesis
+pub record IsWhole {S : Type 0} (network : Network) (a : ChainDb S) : Type 0 where
+  pub settled : IsSettled network a.chain.items a.store a.db
+  pub k : a.db.k ≡ network.genesis.k
+  pub capacity : a.store.capacity ≡ network.genesis.max_volatile
+
+-- the state has this chain, and its live blocks are those of the store
+pub record HasState {S : Type 0} (genesis : Genesis) (a : ChainDb S) (s : State) : Type 0 where
+  pub chain : a.chain.items ≡ s.chain
+  pub live : HoldsLive genesis s.kept s.chain a.store
+
+-- A block was kept, and the selection rule asked. Where the store had what was live of the kept blocks, it then has what
+-- is live of these and this one.
+pub record IsAdded {S : Type 0} (network : Network) (old : ChainDb S) (block : Block) (new : ChainDb S)
+    (told : Change) : Type 0 where
+  pub selected : IsSelected network old.store old.chain.items block new.chain.items
+  pub change : IsChange old.chain.items new.chain.items told.back told.added
+  pub live : (kept : List Block) → HoldsLive network.genesis kept old.chain.items old.store
+      → HoldsLive network.genesis (block ∷ kept) new.chain.items new.store
+  pub whole : IsWhole network new
+
+-- the same blocks, of which those have a mark that had one, and those of these hashes
+pub record AreMarked (old : Store) (hashes : List BlockHash) (new : Store) : Type 0 where
+  pub capacity : new.capacity ≡ old.capacity
+  pub blocks : (b : Block) → HasBlock new b ↔ HasBlock old b
+  pub marks : (s : Stored) → Contains new.blocks s → s.invalid ≡ true
+      → ((t : Stored) × Contains old.blocks t × (t.block ≡ s.block) × (t.invalid ≡ true))
+      ⊎ ((hash : BlockHash) × Contains hashes hash × (block_hash_of s.block ≡ hash.bytes))
+  pub live : KeepsLive old new
+
+-- the block came in, and the blocks of these hashes have their marks
+pub record IsTakenIn (old : Store) (block : Block) (hashes : List BlockHash) (new : Store) : Type 0 where
+  pub between : Store
+  pub inserted : IsInserted old block between
+  pub gains : GainsLive old block between
+  pub marked : AreMarked between hashes new
+  pub set : IsSet new
+
+-- the blocks past this number are left
+pub record IsCutBack (old : Store) (number : ℕ) (new : Store) : Type 0 where
+  pub cut : IsCutTo old number new
+  pub set : IsSet new
+  pub live : FollowsChain old number new
+
+-- the database is that of the chain that was prepared, as deep as may be
+pub record IsCommitted (old : Database) (prepared : Prepared) (new : Database) : Type 0 where
+  pub depth : depth new ≡ min old.k (depth old - prepared.back + count prepared)
+  pub k : new.k ≡ old.k
+  pub chain : (network : Network) (chain blocks : List Block) → IsDatabaseOf network chain old
+      → IsPreparedOf network (without_last prepared.back chain) blocks prepared
+      → IsDatabaseOf network (without_last prepared.back chain ++ blocks) new

@@ -1,0 +1,158 @@
+//! The selected chain with what selection stands on.
+
+ghost use Rattle.std.specs.Prelude.{◌≡◌, ◌≤◌, ◌+◌, ◌-◌, ◌++◌, [], length, IfOk, OnOk, OnErr, vec_capacity};
+ghost use Rattle.model.specs.Ledger.{Network, network_of};
+ghost use Rattle.model.specs.Chain.{immutable_length};
+ghost use Rattle.model.specs.Applying.{IsStateOf};
+ghost use Rattle.blockstore.specs.Stored.{IsSet};
+ghost use Rattle.chainsel.specs.Ready.{IsReady};
+ghost use Rattle.ledgerdb.specs.Values.{depth};
+ghost use Rattle.ledgerdb.specs.Chains.{without_last};
+ghost use Rattle.chain_core.specs.ChainDbs.{IsWhole, IsAdded, AreMarked, IsTakenIn, IsCutBack, IsCommitted};
+
+use block::CheckedBlock;
+use blockstore::BlockStore;
+use chainsel::{Choice, Selection, Switch, select};
+use genesis::Genesis;
+use ident::BlockHash;
+use ledger::LedgerState;
+use ledgerdb::LedgerDb;
+use std::alloc::{AllocError, Global};
+use witness_pool::SigScheme;
+
+/// How many blocks of the old selected chain were rolled back, and how many of the new one were put on.
+#[derive(Clone, Copy)]
+pub struct Change {
+    pub back: u64,
+    pub added: u64,
+}
+
+/// The selected chain, the live blocks, and the states of the chain's last blocks.
+#[derive(Drop)]
+pub struct ChainDb<S: SigScheme> {
+    pub chain: Vec<CheckedBlock<S>>,
+    pub store: BlockStore<S>,
+    pub db: LedgerDb,
+}
+
+/// Marks the blocks of these hashes as blocks that no valid chain will ever have. Takes no memory.
+fn mark_all<S: SigScheme>(store: &mut BlockStore<S>, invalid: &[BlockHash])
+    ensures marked { AreMarked store.old invalid.now store.new }
+    ensures set { IsSet store.old → IsSet store.new }
+{
+    for hash in invalid {
+        store.mark_invalid(*hash);
+    }
+}
+
+impl<S: SigScheme> ChainDb<S> {
+    /// Before anything is kept. Err where memory runs out for the state before the first block.
+    pub fn new(alloc: Global, genesis: &Genesis) -> Result<ChainDb<S>, AllocError>
+        ensures chain { IfOk result (λ a. a.chain.items ≡ []) }
+        ensures blocks { IfOk result (λ a. a.store.blocks ≡ []) }
+        ensures whole { IfOk result (λ a. IsWhole (network_of genesis.now S.verifies) a) }
+    {
+        let opening = LedgerState::new(alloc, genesis)?;
+        let store = BlockStore::new(alloc, genesis.max_volatile());
+        let db = LedgerDb::new(alloc, opening, genesis.k());
+        Ok(ChainDb {
+            chain: Vec::new(alloc),
+            store,
+            db,
+        })
+    }
+
+    /// How many blocks of the chain are never rolled back. Takes no memory.
+    pub fn immutable(&self) -> usize
+        ensures count { result ≡ length self.now.chain.items - depth self.now.db }
+        ensures immutable { (network : Network) → IsWhole network self.now
+            → result ≡ immutable_length network.genesis self.now.chain.items }
+    {
+        self.chain.len().saturating_sub(self.db.depth())
+    }
+
+    /// The state of the chain. Takes no memory.
+    pub fn state(&self) -> &LedgerState
+        ensures { (network : Network) → IsWhole network self.now
+            → IsStateOf network self.now.chain.items result.now }
+    {
+        self.db.state()
+    }
+
+    /// Keeps the block, and selects the chain anew. Where memory runs out nothing changes.
+    pub fn add(
+        &mut self,
+        alloc: Global,
+        genesis: &Genesis,
+        block: CheckedBlock<S>,
+    ) -> Result<Change, AllocError>
+        requires whole { IsWhole (network_of genesis.now S.verifies) self.old }
+        requires ready { IsReady (network_of genesis.now S.verifies) self.old.chain.items self.old.store
+            self.old.db block }
+        ensures ok { IfOk result (λ change.
+            IsAdded (network_of genesis.now S.verifies) self.old block self.new change) }
+        ensures chain { OnErr result (self.new.chain.items ≡ self.old.chain.items) }
+        ensures store { OnErr result (self.new.store ≡ self.old.store) }
+        ensures db { OnErr result (self.new.db ≡ self.old.db) }
+    {
+        let Selection { choice, invalid } = select(
+            alloc,
+            &self.store,
+            &self.db,
+            &self.chain,
+            &block,
+        )?;
+        match choice {
+            Choice::Keep => {
+                self.insert(block, &invalid)?;
+                Ok(Change { back: 0, added: 0 })
+            }
+            Choice::Switch(switch) => {
+                self.chain.reserve(switch.blocks.len())?;
+                self.insert(block, &invalid)?;
+                self.switch_to(switch)
+            }
+        }
+    }
+
+    /// Takes the block into the store, and marks the blocks of these hashes. Where memory runs out nothing changes.
+    fn insert(&mut self, block: CheckedBlock<S>, invalid: &[BlockHash]) -> Result<(), AllocError>
+        ensures ok { OnOk result (IsTakenIn self.old.store block invalid.now self.new.store) }
+        ensures chain { self.new.chain ≡ self.old.chain }
+        ensures db { self.new.db ≡ self.old.db }
+        ensures err { OnErr result (self.new.store ≡ self.old.store) }
+    {
+        if self.store.insert(block).is_err() {
+            return Err(AllocError);
+        }
+        mark_all(&mut self.store, invalid);
+        Ok(())
+    }
+
+    /// Rolls back and puts on what the switch says, for which there is room.
+    fn switch_to(&mut self, switch: Switch<S>) -> Result<Change, AllocError>
+        requires back { switch.back ≤ length self.old.chain.items }
+        requires depth { switch.prepared.back ≤ depth self.old.db }
+        requires room { length self.old.chain.items + length switch.blocks.items ≤ vec_capacity self.old.chain }
+        ensures chain { OnOk result
+            (self.new.chain.items ≡ without_last switch.back self.old.chain.items ++ switch.blocks.items) }
+        ensures db { OnOk result (IsCommitted self.old.db switch.prepared self.new.db) }
+        ensures store { OnOk result (IsCutBack self.old.store
+            (length self.new.chain.items - depth self.new.db) self.new.store) }
+        ensures change { IfOk result (λ change.
+            (change.back ≡ switch.back) × (change.added ≡ length switch.blocks.items)) }
+        ensures err { OnErr result ⊥ }
+    {
+        let mut blocks = switch.blocks;
+        let change = Change {
+            back: switch.back as u64,
+            added: blocks.len() as u64,
+        };
+        self.chain.truncate(self.chain.len() - switch.back);
+        self.chain.append(&mut blocks)?;
+        self.db.commit(switch.prepared);
+        let immutable = self.immutable();
+        self.store.drop_up_to(immutable as u64);
+        Ok(change)
+    }
+}
