@@ -197,9 +197,10 @@ fn answer_backwards(made: &Made, count: u64) -> ArriveReply {
 #[test]
 fn long_chain_backwards(rt: HostRuntime) -> Result<(), Fail> {
     let alloc = rt.alloc();
-    let blocks = chain_of(alloc, 2_000)?;
+    let mut blocks = chain_of(alloc, 2_000)?;
+    blocks.reverse();
     let mut core = core_on(alloc, MANY_LIVE_BLOCKS)?;
-    for made in blocks.iter().rev() {
+    for made in &blocks {
         let want = answer_backwards(made, 2_000);
         answers(&rt, &mut core, &made.text, want)?;
     }
