@@ -27,8 +27,8 @@ pub record HasState {S : Type 0} (genesis : Genesis) (a : ChainDb S) (s : State)
   pub chain : a.chain.items ≡ s.chain
   pub live : HoldsLive genesis s.kept s.chain a.store
 
--- A block was kept, and the selection rule asked. Where the store had what was live of the kept blocks, it then has what
--- is live of these and this one.
+-- A block was kept, and the selection rule asked. Where the store had what was live of the kept blocks, it then has
+-- what is live of these and this one.
 pub record IsAdded {S : Type 0} (network : Network) (old : ChainDb S) (block : Block) (new : ChainDb S)
     (told : Change) : Type 0 where
   pub selected : IsSelected network old.store old.chain.items block new.chain.items

@@ -83,8 +83,9 @@ impl<S: SigScheme> Core<S> {
     ///
     /// Reads and hashes the bytes once, and copies them once where they aren't refused. A refusal takes no memory, but
     /// for the transactions that are read before it is known. A block that extends the tip is judged once, and one of
-    /// a fork that is not longer isn't judged; beside that it takes a few look-ups among the live blocks, which compare
-    /// hashes and numbers, and one among the blocks of the chain.
+    /// a fork that is not longer isn't judged. The rest grows with the blocks of the chain, whose hashes are compared
+    /// once, and with the live blocks, whose hashes and numbers are compared a few times, and once more for each block
+    /// on the way to the new one and for each that goes on from it.
     pub fn arrive(&mut self, bytes: &[u8]) -> Result<ArriveReply, AllocError>
         // For every state of the definitions that the core stands for, this is a step to one that it then stands for.
         ensures step { (s : State) → Stands self.old s → (t : State)
