@@ -31,3 +31,4 @@ pub mod ExampleMints
 pub mod MappedLists
 pub mod Sets
 pub mod Candidates
+pub mod MempoolPasses

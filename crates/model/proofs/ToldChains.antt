@@ -2,7 +2,6 @@
 use Rattle.std.proofs.Common.{◌≡◌, ℕ, zero, suc, List, [], ◌∷◌, ◌++◌, Some, None, refl, sym, ap, subst, ◌∙◌, inl, inr, ◌⊎◌, append_assoc, append-nil}
 use Rattle.std.specs.Prelude.{slice_set}
 use Rattle.model.specs.Block.{Block}
-use Rattle.model.specs.Genesis.{Genesis}
 use Rattle.model.specs.Ledger.{Network}
 use Rattle.model.specs.Chain.{BeginsWith}
 use Rattle.model.specs.Follower.{Followers, told_by, with_opened}

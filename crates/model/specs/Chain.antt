@@ -1,7 +1,7 @@
 -- Valid chains, the immutable part, candidates and the selection rule (the Consensus and Storage Layer
 -- report, chain selection and the chain database).
 use Rattle.std.specs.Prelude.{◌≡◌, ◌≢◌, ℕ, ◌+◌, ◌-◌, ◌≤◌, ◌<◌, List, [], ◌∷◌, length, take, filter, nat_lt, Contains}
-use Rattle.std.specs.Prelude.{Option, Some, None, IsSome, option_and_then, unwrap_or, replicate}
+use Rattle.std.specs.Prelude.{Option, Some, None, IsSome, unwrap_or, replicate}
 use Rattle.std.specs.List.{AllByRecursion}
 use Rattle.std.specs.Ordering.{nat_cmp}
 use Rattle.std.specs.declared.cmp.Ordering.TheVariants.{Greater}
@@ -9,7 +9,6 @@ use Rattle.std.specs.Cmp.Lexicographic.{slice_cmp}
 use Rattle.model.specs.Genesis.{Genesis}
 use Rattle.model.specs.Ledger.{Network, ledger_of}
 use Rattle.model.specs.Limits.{hash_size}
-use Rattle.model.specs.Transaction.{Transaction, Input, Output}
 use Rattle.model.specs.Block.{Block, block_hash_of, body_size_of}
 
 -- ---- valid chains

@@ -17,7 +17,7 @@ use Rattle.model.specs.Block.{Header, Block}
 use Rattle.model.specs.Utxo.{Utxo}
 use Rattle.model.specs.Rules.{Params}
 use Rattle.model.specs.Genesis.{Grant, Genesis}
-use Rattle.model.specs.Chain.{Tip, Point}
+use Rattle.model.specs.Chain.{Tip}
 use Rattle.model.specs.Applying.{LedgerState}
 use Rattle.model.specs.Follower.{Followers, Instruction, Stay, AddBlock, RollBack}
 use Rattle.model.specs.History.{State, Refusal, TooLarge, Malformed, BodyHashMismatch, TooOld, Known, Clash}

@@ -12,6 +12,7 @@ pub mod Block
 pub mod Ledger
 pub mod Chain
 pub mod Applying
+pub mod Mempool
 pub mod Follower
 pub mod History
 pub mod Journal

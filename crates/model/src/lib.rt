@@ -7,6 +7,7 @@
 mod examples;
 mod histories;
 mod ledgers;
+mod mempool;
 mod opening;
 mod rule_examples;
 mod rules;
@@ -21,6 +22,7 @@ pub use histories::{
     one_selection, one_state, selected_chain, told_chains,
 };
 pub use ledgers::{one_answer_to_a_block, states_of_chains, supply_conserved};
+pub use mempool::{mempool_passes, picked_transactions};
 pub use opening::{opening_outputs, opening_supply};
 pub use rule_examples::{asset_sum_past_64_bits, mint_and_burn, slots_of_intervals, spend_and_fee};
 pub use rules::{
