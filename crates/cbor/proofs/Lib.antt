@@ -6,6 +6,7 @@ pub mod TreeLoops
 pub mod TreeClauses
 pub mod TreeWrites
 pub mod TreeCopies
+pub mod TreeEqs
 pub mod ShapeLaws
 pub mod ListLaws
 pub mod FieldLaws

@@ -6,3 +6,5 @@ pub mod Texts
 pub mod Tree
 pub mod TreeFalls
 pub mod ItemReading
+pub mod Same
+pub mod SameLaws

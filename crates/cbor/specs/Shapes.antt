@@ -1,7 +1,7 @@
 -- Readings of shapes, of which typed readers are made (RFC 8949, 3 and 4.2.1). Each gives what stands first,
 -- an item of the shape or several, as plain data, and the bytes after it; or None where no such item stands there.
 use Rattle.std.specs.Prelude.{ℕ, zero, suc, Bool, not, nat_lt, nat_le, ◌==◌, List, [], ◌∷◌, length, Option, Some}
-use Rattle.std.specs.Prelude.{None, true, false}
+use Rattle.std.specs.Prelude.{None}
 use Rattle.std.specs.Ordering.{nat_cmp, is_lt}
 use Rattle.std.specs.Cmp.Lexicographic.{slice_cmp}
 use Rattle.cbor.specs.Reading.{◌>>=◌, guard, front, head_at, bytes_at, null_at}

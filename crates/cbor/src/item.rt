@@ -1,9 +1,14 @@
 //! Items as a tree (RFC 8949, section 3.1).
 
-ghost use Rattle.std.specs.Prelude.{◌≡◌};
+ghost use Rattle.std.specs.Prelude.{◌≡◌, ◌<◌, ◌^◌, length};
+ghost use Rattle.std.specs.Iterator.Adapters.{IterYieldsInOrder, IterYieldsInReverse};
+ghost use Rattle.std.specs.Slice.Iter.{iter_rest};
+ghost use Rattle.cbor.specs.declared.item.Item.{Item};
+ghost use Rattle.cbor.specs.declared.item.Entry.{Entry};
 ghost use Rattle.cbor.specs.Tree.{members_of, entries_of};
 
 use std::marker::Model;
+use std::slice;
 
 /// An item: a number, bytes, or what items are in.
 #[cycle(items)]
@@ -95,6 +100,16 @@ impl Items {
     {
         &self.members
     }
+
+    /// The members one after the other, in order.
+    pub fn iter(&self) -> slice::Iter<'_, Item>
+        ensures rest { members_of (iter_rest result) ≡ self.now }
+        ensures bound { length (iter_rest result) < 2 ^ 64 }
+        ensures runs { IterYieldsInOrder Item }
+        ensures runs_back { IterYieldsInReverse Item }
+    {
+        self.members.iter()
+    }
 }
 
 impl Entries {
@@ -111,5 +126,41 @@ impl Entries {
         ensures { entries_of result.now ≡ self.now }
     {
         &self.entries
+    }
+
+    /// The entries one after the other, in order.
+    pub fn iter(&self) -> slice::Iter<'_, Entry>
+        ensures rest { entries_of (iter_rest result) ≡ self.now }
+        ensures bound { length (iter_rest result) < 2 ^ 64 }
+        ensures runs { IterYieldsInOrder Entry }
+        ensures runs_back { IterYieldsInReverse Entry }
+    {
+        self.entries.iter()
+    }
+}
+
+impl<'a> IntoIterator for &'a Items {
+    type Item = &'a Item;
+
+    type IntoIter = slice::Iter<'a, Item>;
+
+    ghost into_iter_gives = { λ items it. (members_of (iter_rest it) ≡ items.now) × (length (iter_rest it) < 2 ^ 64)
+        × IterYieldsInOrder Item };
+
+    fn into_iter(self) -> slice::Iter<'a, Item> {
+        self.iter()
+    }
+}
+
+impl<'a> IntoIterator for &'a Entries {
+    type Item = &'a Entry;
+
+    type IntoIter = slice::Iter<'a, Entry>;
+
+    ghost into_iter_gives = { λ entries it. (entries_of (iter_rest it) ≡ entries.now) × (length (iter_rest it) < 2 ^ 64)
+        × IterYieldsInOrder Entry };
+
+    fn into_iter(self) -> slice::Iter<'a, Entry> {
+        self.iter()
     }
 }

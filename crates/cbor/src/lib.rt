@@ -11,6 +11,7 @@ mod major;
 mod reader;
 mod shapes;
 mod tree_clone;
+mod tree_eq;
 mod tree_reader;
 mod tree_writer;
 mod writer;
