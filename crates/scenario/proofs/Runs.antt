@@ -19,9 +19,9 @@ use Rattle.script.specs.declared.fault.LineFault.TheVariants.{BadLine}
 use Rattle.script.specs.Names.{OpenTx}
 use Rattle.script.specs.Meaning.{Means, HasNoFault, is_late_line, parse_within}
 use Rattle.scenario.specs.Run.{Scene, opening_scene, Obeys, Prints, AreObeyed, script_network, BreaksOff, EndsWell, EndsBy}
-use Rattle.scenario.specs.Ending.{fault_of}
+use Rattle.scenario.specs.Run.{fault_of}
 use Rattle.scenario.specs.SessionView.{Holds, Acted, IsObeyed}
-use Rattle.scenario.specs.Written.{AppendsPart}
+use Rattle.scenario.specs.Print.{AppendsPart}
 use Rattle.scenario.proofs.Lines.{first_line, no_line, line_and_rest, prints_more}
 use Rattle.scenario.proofs.Histories.{obeyed}
 use Rattle.scenario.proofs.WrittenParts.{appends_both}

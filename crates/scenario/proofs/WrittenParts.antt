@@ -2,7 +2,7 @@
 use Rattle.std.proofs.Common.{◌≡◌, ℕ, List, [], ◌∷◌, ◌++◌, length, take, drop, Option, Some, None, refl, sym, ◌∙◌, ap, subst, append_assoc, append-nil, rules, arith}
 use Rattle.std.proofs.lemmas.List.{take-append-drop}
 use Rattle.std.specs.Io.KnownBytes.{Appends, Keeps}
-use Rattle.scenario.specs.Written.{AppendsUpTo}
+use Rattle.scenario.specs.Print.{AppendsUpTo}
 
 -- nothing is appended
 pub appends_none : (known : Option (List ℕ)) → Appends known known []

@@ -1,5 +1,3 @@
 pub mod Print
 pub mod Run
 pub mod SessionView
-pub mod Written
-pub mod Ending

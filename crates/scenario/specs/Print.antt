@@ -1,5 +1,6 @@
--- The lines that a script prints.
-use Rattle.std.specs.Prelude.{◌≡◌, ℕ, List, [], ◌∷◌, ◌++◌, decimal, codes, ◌==◌, if◌then◌else◌}
+-- The lines that a script prints, and what of them a writer that fails has written.
+use Rattle.std.specs.Prelude.{◌≡◌, ◌≢◌, ℕ, List, [], ◌∷◌, ◌++◌, Option, decimal, codes, ◌==◌, if◌then◌else◌}
+use Rattle.std.specs.Io.KnownBytes.{Appends}
 use Rattle.model.specs.Block.{Block, SpellsBlock, block_hash_of}
 use Rattle.std.specs.FinMap as finite
 use Rattle.model.specs.Utxo.{outputs_of, coin_of}
@@ -66,3 +67,13 @@ pub record IsNextText (names : List Binding) (name : List ℕ) (reply : Reply) (
   pub text : List ℕ
   pub is_reply : IsNextReplyText names reply text
   pub line : out ≡ codes "next " ++ name ++ codes ": " ++ text ++ 10 ∷ []
+
+-- a beginning of the bytes was written, and these are left
+pub record AppendsUpTo (old new : Option (List ℕ)) (bytes unwritten : List ℕ) : Type 0 where
+  pub part : List ℕ
+  pub begins : bytes ≡ part ++ unwritten
+  pub written : Appends old new part
+
+-- a beginning of the bytes was written, and not all of them
+abbrev pub AppendsPart : Option (List ℕ) → Option (List ℕ) → List ℕ → Type 0
+AppendsPart old new bytes = (unwritten : List ℕ) × (unwritten ≢ []) × AppendsUpTo old new bytes unwritten

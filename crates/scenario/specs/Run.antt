@@ -12,6 +12,8 @@ use Rattle.model.specs.History.{State, opening, Event, Arrive, Open, Next, Reply
 use Rattle.model.specs.History.{Entry, ChainTheorem}
 use Rattle.script.specs.declared.fault.LineFault.{LineFault}
 use Rattle.script.specs.declared.fault.LineFault.TheVariants.{BadLine}
+use Rattle.script.specs.declared.stop.Stop.{Stop}
+use Rattle.script.specs.declared.stop.Stop.TheVariants as stop
 use Rattle.scenario.specs.declared.fault.ScenarioFault.{ScenarioFault}
 use Rattle.scenario.specs.declared.fault.ScenarioFault.TheVariants as fault
 use Rattle.script.specs.Text.{lines_of}
@@ -187,3 +189,8 @@ pub record EndsBy (network : Network) (text : List ℕ) (remaining old new : Opt
   pub out : List ℕ
   pub written : Appends old new out
   pub is_fault : IsFaultOf network text left out why
+
+-- why the line of this number was not run
+abbrev pub fault_of : ℕ → Stop → ScenarioFault
+fault_of number (stop.Fault why) = fault.Line number why
+fault_of number stop.OutOfMemory = fault.OutOfMemory

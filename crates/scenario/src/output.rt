@@ -2,7 +2,7 @@
 
 ghost use Rattle.std.specs.Prelude.{OnOk, OnErr};
 ghost use Rattle.std.specs.Io.KnownBytes.{Appends};
-ghost use Rattle.scenario.specs.Written.{AppendsPart};
+ghost use Rattle.scenario.specs.Print.{AppendsPart};
 
 use std::io::{ErrorKind, Write};
 

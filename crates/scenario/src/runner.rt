@@ -1,8 +1,7 @@
 //! The run of a script.
 
 ghost use Rattle.std.specs.Prelude.{◌≡◌, ℕ, ◌+◌, ◌≤◌, ◌⊎◌, List, [], ◌∷◌, ◌++◌, length, OnOk, IfErr, IfSome};
-ghost use Rattle.scenario.specs.Run.{script_network, EndsWell, EndsBy};
-ghost use Rattle.scenario.specs.Ending.{fault_of};
+ghost use Rattle.scenario.specs.Run.{script_network, EndsWell, EndsBy, fault_of};
 ghost use Rattle.script.specs.declared.fault.LineFault.TheVariants.{BadLine};
 
 use crate::fault::ScenarioFault;

@@ -1,5 +1,11 @@
 //! Verdicts on transactions: which signatures are good, which keys signed, whether the scripts hold. Computed once, and
 //! kept beside the transaction by its type.
+//!
+//! ```text
+//! let checked: CheckedTx<TestScheme> = plain(alloc, tx)?; // on this thread
+//! let all: Vec<CheckedTx<TestScheme>> = Pool::new(OpenGate).check(rt, alloc, 4, txs)?; // by four workers, in order
+//! let good = all.iter().all(|checked| checked.is_signed());
+//! ```
 #![tactic(auto)]
 
 mod checked_tx;

@@ -1,4 +1,4 @@
-use Rattle.scenario.specs.Written.{AppendsUpTo}
+use Rattle.scenario.specs.Print.{AppendsUpTo}
 use Rattle.scenario.proofs.output.write_all.Given as goal
 
 -- the bytes before the rest are written
