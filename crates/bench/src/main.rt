@@ -2,6 +2,7 @@
 //! each measurement of blocks, pools and heights once, and prints their names alone.
 #![tactic(auto)]
 
+mod arrivals;
 mod blocks;
 mod heights;
 mod keys;
@@ -22,6 +23,7 @@ fn main(rt: HostRuntime) -> io::Result<()> {
             "blocks" => return blocks::measure(&rt, Telling::Times),
             "ledger" => return ledger_states::measure(&rt),
             "scripts" => return scripts::measure(&rt),
+            "arrivals" => return arrivals::measure(&rt),
             "pools" => {
                 let measured = pools::measure(&rt, rt.alloc(), Telling::Times)?;
                 return pools::print(&rt, Telling::Times, measured);
@@ -39,6 +41,6 @@ fn main(rt: HostRuntime) -> io::Result<()> {
     heights::print(&rt, Telling::Names, heights::measure(&rt, rt.alloc())?)?;
     println!(rt;
         "to measure: bench persistent_map, bench blocks, bench ledger, bench scripts, bench pools, \
-bench heights"
+bench heights, bench arrivals"
     )
 }
