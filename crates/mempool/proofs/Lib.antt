@@ -1,0 +1,3 @@
+pub mod Ids
+pub mod Passing
+pub mod Submissions

@@ -1,0 +1,39 @@
+-- What the calls of the mempool promise.
+use Rattle.std.specs.Prelude.{◌≡◌, ℕ, List, ◌++◌, [], ◌∷◌, is_some, if◌then◌else◌}
+use Rattle.model.specs.Transaction.{Transaction, SpellsTransaction}
+use Rattle.model.specs.Signature.{Verifies}
+use Rattle.model.specs.Utxo.{Utxo, utxo_after}
+use Rattle.model.specs.Rules.{Params, reason_against}
+use Rattle.model.specs.Mempool.{utxo_after_all, passed, SubmitReply, Answers, IsPoolAfter}
+use Rattle.mempool.specs.Pool.{Waiting, Pool}
+
+-- one more transaction waits
+abbrev pub with_tx : Waiting → Transaction → Waiting
+with_tx w t = record { txs = w.txs ++ t ∷ []; unspent = utxo_after w.unspent t }
+
+-- and it does where there is no reason against it on what those before it leave
+abbrev pub kept_with : Verifies → Params → ℕ → Waiting → Transaction → Waiting
+kept_with verifies params slot w t =
+    if is_some (reason_against verifies params w.unspent slot t) then w else with_tx w t
+
+-- what stays of transactions where they are passed through on these unspent outputs
+abbrev pub passed_on : Verifies → Params → ℕ → Utxo → List Transaction → Waiting
+passed_on verifies params slot utxo txs =
+    record {
+      txs = passed verifies params slot utxo txs;
+      unspent = utxo_after_all utxo (passed verifies params slot utxo txs);
+    }
+
+-- bytes that were submitted were answered so, and left this: what waits, and what that leaves unspent
+pub record IsSubmission (verifies : Verifies) (params : Params) (slot : ℕ) (old : Pool) (bytes : List ℕ)
+    (reply : SubmitReply) (new : Pool) : Type 0 where
+  pub answers : Answers verifies params slot old.waiting.unspent old.capacity old.waiting.txs bytes reply
+  pub after : IsPoolAfter old.waiting.txs bytes reply new.waiting.txs
+  pub unspent : (utxo : Utxo) → old.waiting.unspent ≡ utxo_after_all utxo old.waiting.txs
+      → new.waiting.unspent ≡ utxo_after_all utxo new.waiting.txs
+  pub capacity : new.capacity ≡ old.capacity
+
+-- the same of a transaction, whatever bytes spell it
+abbrev pub IsSubmissionOf : Verifies → Params → ℕ → Pool → Transaction → SubmitReply → Pool → Type 0
+IsSubmissionOf verifies params slot old t reply new = (bytes : List ℕ) → SpellsTransaction t bytes
+    → IsSubmission verifies params slot old bytes reply new

@@ -1,0 +1,4 @@
+pub mod Pool
+pub mod HeldPool
+pub mod Calls
+pub mod View

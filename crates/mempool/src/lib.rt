@@ -1,0 +1,21 @@
+//! The mempool: transactions that wait to come into a block, in the order in which they came.
+//!
+//! ```text
+//! let mut mempool = Mempool::<TestScheme>::new(alloc, 100, state.utxo())?;
+//! match mempool.submit(state.params(), state.slot() + 1, &bytes)? {
+//!     SubmitReply::Added => .., // it waits
+//!     SubmitReply::Refused(reason) => println!("{reason}"),
+//!     SubmitReply::Malformed | SubmitReply::Known | SubmitReply::Full => ..,
+//! }
+//! // Another chain is selected.
+//! let resynced = mempool.resync(state.params(), state.utxo(), state.slot() + 1)?;
+//! mempool.put(resynced);
+//! ```
+#![tactic(auto)]
+
+mod mempool;
+mod reply;
+mod waiting;
+
+pub use mempool::{Mempool, Resynced};
+pub use reply::SubmitReply;

@@ -1,0 +1,169 @@
+//! The mempool.
+
+ghost use Rattle.std.specs.Prelude.{◌≡◌, ◌↔◌, [], length, map, IsTrue, IfOk, OnErr};
+ghost use Rattle.std.specs.Arc.{arc_value};
+ghost use Rattle.model.specs.Mempool.{IsInPool};
+ghost use Rattle.utxo_rules.specs.View.{params_of};
+ghost use Rattle.mempool.specs.Calls.{passed_on, IsSubmission, IsSubmissionOf};
+ghost use Rattle.mempool.specs.View.{reply_of};
+
+use crate::reply::SubmitReply;
+use crate::waiting::Waiting;
+use cbor::CborFault;
+use ident::TxId;
+use indexmap::map::Values;
+use std::alloc::{AllocError, Global};
+use std::marker::Model;
+use std::sync::Arc;
+use tx::Tx;
+use utxo_rules::{CheckFault, Params, Utxo};
+use witness_pool::{CheckedTx, SigScheme, plain};
+
+/// Transactions that wait to come into a block, in the order in which they came: each has no reason against it on what
+/// those before it leave. In contracts it is their list, with what they leave unspent and how many there may be.
+#[derive(Drop)]
+pub struct Mempool<S: SigScheme> {
+    alloc: Global,
+    capacity: u64,
+    waiting: Waiting<S>,
+}
+
+impl<S: SigScheme> Model for Mempool<S> {
+    ghost use Rattle.mempool.specs.Pool as pool;
+    ghost use Rattle.mempool.specs.Pool.{coded_pool};
+
+    ghost Value = { pool.Pool };
+
+    ghost coded = { coded_pool };
+
+    ghost view = { λ m. record { capacity = m.capacity; waiting = m.waiting } };
+}
+
+/// What stays of a mempool on another chain, made ready by [`Mempool::resync`] and taken by [`Mempool::put`]. All memory
+/// that the change needs is in it.
+#[derive(Drop)]
+pub struct Resynced<S: SigScheme> {
+    waiting: Waiting<S>,
+}
+
+impl<S: SigScheme> Model for Resynced<S> {
+    ghost use Rattle.mempool.specs.Pool as pool;
+    ghost use Rattle.mempool.specs.Pool.{coded_waiting};
+
+    ghost Value = { pool.Waiting };
+
+    ghost coded = { coded_waiting };
+
+    ghost view = { λ r. r.waiting };
+}
+
+impl<S: SigScheme> Mempool<S> {
+    /// A mempool for at most so many transactions, without one, on these unspent outputs. Err where memory runs out.
+    pub fn new(alloc: Global, capacity: u64, unspent: &Utxo) -> Result<Mempool<S>, AllocError>
+        ensures { IfOk result (λ m.
+            m ≡ record { capacity = capacity; waiting = record { txs = []; unspent = unspent.now } }) }
+    {
+        Ok(Mempool {
+            alloc,
+            capacity,
+            waiting: Waiting::new(alloc, unspent.try_clone()?),
+        })
+    }
+
+    /// How many transactions wait, in constant time.
+    pub fn len(&self) -> usize
+        ensures { result ≡ length self.now.waiting.txs }
+    {
+        self.waiting.len()
+    }
+
+    /// Whether no transaction waits, in constant time.
+    pub fn is_empty(&self) -> bool
+        ensures { IsTrue result ↔ (self.now.waiting.txs ≡ []) }
+    {
+        self.waiting.len() == 0
+    }
+
+    /// The transactions that wait, in their order. Copies nothing.
+    pub fn iter(&self) -> Values<'_, TxId, Arc<CheckedTx<S>>>
+        ensures { map arc_value result ≡ self.now.waiting.txs }
+    {
+        self.waiting.iter()
+    }
+
+    /// What stays of the transactions on other unspent outputs, judged in their order at this slot: that after the tip's
+    /// of the chain whose outputs these are. Err where memory runs out. Judges each transaction once; no signature is
+    /// verified again. Nothing changes before [`Mempool::put`].
+    pub fn resync(
+        &self,
+        params: &Params,
+        unspent: &Utxo,
+        slot: u64,
+    ) -> Result<Resynced<S>, AllocError>
+        ensures { IfOk result (λ resynced.
+            resynced ≡ passed_on S.verifies (params_of params.now) slot unspent.now self.now.waiting.txs) }
+    {
+        Ok(Resynced {
+            waiting: self.waiting.pass(params, unspent, slot)?,
+        })
+    }
+
+    /// Takes what stays in place of what waits. Takes no memory.
+    pub fn put(&mut self, resynced: Resynced<S>)
+        ensures { self.new ≡ record self.old { waiting = resynced } }
+    {
+        self.waiting = resynced.waiting;
+    }
+
+    /// A transaction with its verdicts is submitted, and judged at this slot: that after the tip's. Err where memory
+    /// runs out, which it does not where the transaction is known: nothing changes.
+    pub fn submit_checked(
+        &mut self,
+        params: &Params,
+        slot: u64,
+        tx: CheckedTx<S>,
+    ) -> Result<SubmitReply, AllocError>
+        ensures ok { IfOk result (λ reply.
+            IsSubmissionOf S.verifies (params_of params.now) slot self.old tx (reply_of reply) self.new) }
+        ensures err { OnErr result (self.new ≡ self.old) }
+        ensures memory { OnErr result (IsInPool self.old.waiting.txs tx → ⊥) }
+    {
+        if self.waiting.has(tx.tx().id()) {
+            return Ok(SubmitReply::Known);
+        }
+        match self.waiting.judge(params, slot, &tx) {
+            Ok(()) => {}
+            Err(CheckFault::Refused(reason)) => return Ok(SubmitReply::Refused(reason)),
+            Err(CheckFault::OutOfMemory) => return Err(AllocError),
+        }
+        if self.waiting.len() as u64 >= self.capacity {
+            return Ok(SubmitReply::Full);
+        }
+        self.waiting.push(Arc::new(self.alloc, tx)?)?;
+        Ok(SubmitReply::Added)
+    }
+
+    /// Bytes of a transaction are submitted, and judged at this slot: that after the tip's. Err where memory runs out:
+    /// nothing changes. Linear in the bytes, with a look-up of the identifier; only a transaction that is new has its
+    /// signatures verified.
+    pub fn submit(
+        &mut self,
+        params: &Params,
+        slot: u64,
+        bytes: &[u8],
+    ) -> Result<SubmitReply, AllocError>
+        ensures ok { IfOk result (λ reply.
+            IsSubmission S.verifies (params_of params.now) slot self.old bytes.now (reply_of reply) self.new) }
+        ensures err { OnErr result (self.new ≡ self.old) }
+    {
+        let tx = match Tx::decode(self.alloc, bytes) {
+            Ok(tx) => tx,
+            Err(CborFault::Malformed) => return Ok(SubmitReply::Malformed),
+            Err(CborFault::OutOfMemory) => return Err(AllocError),
+        };
+        if self.waiting.has(tx.id()) {
+            return Ok(SubmitReply::Known);
+        }
+        self.submit_checked(params, slot, plain(self.alloc, tx)?)
+    }
+}

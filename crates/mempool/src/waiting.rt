@@ -1,0 +1,141 @@
+//! Transactions that wait, in the order in which they came.
+
+ghost use Rattle.std.specs.Prelude.{◌≡◌, ◌↔◌, [], length, map, Contains, IsTrue, IfOk, OnOk, OnErr, IfErr, None};
+ghost use Rattle.std.specs.Arc.{arc_value};
+ghost use Rattle.model.specs.Transaction.{transaction_id_of};
+ghost use Rattle.model.specs.Mempool.{IsInPool};
+ghost use Rattle.model.specs.Rules.{reason_against};
+ghost use Rattle.utxo_rules.specs.View.{params_of};
+ghost use Rattle.utxo_rules.specs.Check.{IsCheckFault};
+ghost use Rattle.mempool.specs.Calls.{with_tx, kept_with, passed_on};
+
+use ident::TxId;
+use indexmap::IndexMap;
+use indexmap::map::Values;
+use std::alloc::{AllocError, Global};
+use std::marker::Model;
+use std::sync::Arc;
+use utxo_rules::{CheckFault, Params, Utxo, apply, check};
+use witness_pool::{CheckedTx, SigScheme};
+
+/// Transactions that wait, each at its identifier, in the order in which they came, and what they leave unspent.
+#[derive(Drop)]
+pub struct Waiting<S: SigScheme> {
+    alloc: Global,
+    txs: IndexMap<TxId, Arc<CheckedTx<S>>>,
+    unspent: Utxo,
+}
+
+impl<S: SigScheme> Model for Waiting<S> {
+    ghost use Rattle.mempool.specs.Pool as pool;
+    ghost use Rattle.mempool.specs.Pool.{coded_waiting};
+
+    ghost Value = { pool.Waiting };
+
+    ghost coded = { coded_waiting };
+
+    ghost use Rattle.mempool.specs.HeldPool.{waiting_of, IsHeldWaiting};
+
+    ghost view = { waiting_of };
+
+    ghost invariant = { IsHeldWaiting };
+}
+
+impl<S: SigScheme> Waiting<S> {
+    /// No transaction waits, and these outputs are unspent. Takes no memory.
+    pub fn new(alloc: Global, unspent: Utxo) -> Waiting<S>
+        ensures { result ≡ record { txs = []; unspent = unspent } }
+    {
+        Waiting {
+            alloc,
+            txs: IndexMap::new(alloc),
+            unspent,
+        }
+    }
+
+    /// The same, with room for so many transactions. Err where memory runs out.
+    fn with_capacity(
+        alloc: Global,
+        unspent: Utxo,
+        capacity: usize,
+    ) -> Result<Waiting<S>, AllocError>
+        ensures { IfOk result (λ w. w ≡ record { txs = []; unspent = unspent }) }
+    {
+        Ok(Waiting {
+            alloc,
+            txs: IndexMap::with_capacity(alloc, capacity)?,
+            unspent,
+        })
+    }
+
+    /// How many transactions wait, in constant time.
+    pub fn len(&self) -> usize
+        ensures { result ≡ length self.now.txs }
+    {
+        self.txs.len()
+    }
+
+    /// The transactions, in their order.
+    pub fn iter(&self) -> Values<'_, TxId, Arc<CheckedTx<S>>>
+        ensures { map arc_value result ≡ self.now.txs }
+    {
+        self.txs.values()
+    }
+
+    /// Whether a transaction of this identifier waits, in constant time.
+    pub fn has(&self, id: TxId) -> bool
+        ensures { IsTrue result ↔ Contains (map transaction_id_of self.now.txs) id.bytes }
+    {
+        self.txs.contains_key(&id)
+    }
+
+    /// Judges a transaction at a slot, on what those that wait leave unspent.
+    pub fn judge(&self, params: &Params, slot: u64, tx: &CheckedTx<S>) -> Result<(), CheckFault>
+        ensures accepted { OnOk result (
+            reason_against S.verifies (params_of params.now) self.now.unspent slot tx.now ≡ None) }
+        ensures refused { IfErr result (IsCheckFault S.verifies (params_of params.now) self.now.unspent slot tx.now) }
+    {
+        check(self.alloc, params, &self.unspent, slot, tx)
+    }
+
+    /// Has a transaction wait after the others. Err where memory runs out: nothing changes.
+    pub fn push(&mut self, tx: Arc<CheckedTx<S>>) -> Result<(), AllocError>
+        requires { IsInPool self.old.txs (arc_value tx) → ⊥ }
+        ensures ok { OnOk result (self.new ≡ with_tx self.old (arc_value tx)) }
+        ensures err { OnErr result (self.new ≡ self.old) }
+    {
+        let mut after = self.unspent.try_clone()?;
+        apply(&mut after, tx.tx())?;
+        let id = tx.tx().id();
+        self.txs.insert(id, tx)?;
+        self.unspent = after;
+        Ok(())
+    }
+
+    /// Has a transaction wait after the others, where there is no reason against it.
+    fn keep(&mut self, params: &Params, slot: u64, tx: &Arc<CheckedTx<S>>) -> Result<(), AllocError>
+        requires { IsInPool self.old.txs (arc_value tx.now) → ⊥ }
+        ensures { OnOk result (
+            self.new ≡ kept_with S.verifies (params_of params.now) slot self.old (arc_value tx.now)) }
+    {
+        match self.judge(params, slot, tx) {
+            Ok(()) => self.push(Arc::try_clone(tx)?),
+            Err(CheckFault::Refused(_)) => Ok(()),
+            Err(CheckFault::OutOfMemory) => Err(AllocError),
+        }
+    }
+
+    /// What stays of the transactions where they are passed through in their order, at a slot and on other unspent
+    /// outputs. Err where memory runs out. Judges each once; nothing is verified or hashed again.
+    pub fn pass(&self, params: &Params, unspent: &Utxo, slot: u64) -> Result<Waiting<S>, AllocError>
+        ensures { IfOk result (λ kept.
+            kept ≡ passed_on S.verifies (params_of params.now) slot unspent.now self.now.txs) }
+    {
+        let unspent = unspent.try_clone()?;
+        let mut kept = Waiting::with_capacity(self.alloc, unspent, self.txs.len())?;
+        for tx in self.txs.values() {
+            kept.keep(params, slot, tx)?;
+        }
+        Ok(kept)
+    }
+}
