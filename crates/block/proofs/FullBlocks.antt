@@ -6,7 +6,7 @@ use Rattle.std.specs.Prelude.{IfErr}
 use Rattle.std.specs.Result.{IsErrAnd}
 use Rattle.sha2.specs.Sha256.{sha256}
 use Rattle.sha2.proofs.Facts256.{length-sha256}
-use Rattle.ident.specs.declared.block_hash.BlockHash.{BlockHash}
+use Rattle.ident.specs.Kinds.{BlockHash}
 use Rattle.std.specs.List.{AllByRecursion}
 use Rattle.model.specs.Cbor.{head, text_of, items_of, items_count, nesting, items_nesting, HasText, IsInRange, ItemsAreInRange, ItemsHaveRisingKeys}
 use Rattle.model.specs.Transaction.{Transaction, item_of_transaction, IsTransaction}

@@ -2,7 +2,7 @@
 use Rattle.std.proofs.Common.{◌≡◌, ℕ, ◌≤◌, ◌^◌, ◌<◌, Bool, true, false, cond, List, [], ◌∷◌, ◌++◌, length, Option, Some, None, option_map, sym, ap, subst, arith}
 use Rattle.std.specs.Prelude.{IfSome}
 use Rattle.std.proofs.lemmas.List.{length-append}
-use Rattle.ident.specs.declared.block_hash.BlockHash.{BlockHash}
+use Rattle.ident.specs.Kinds.{BlockHash}
 use Rattle.model.specs.Cbor.{Bytes, head, text_of, IsInRange}
 use Rattle.model.specs.Block.{item_of_previous, item_of_header, item_of_block, IsHeader, SpellsBlock}
 use Rattle.cbor.proofs.ForCallers.{AllByRecursion-bytes}

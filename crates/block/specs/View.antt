@@ -1,6 +1,6 @@
 -- The header of the definitions that a header of the code stands for.
 use Rattle.std.specs.Prelude.{ℕ, List, option_map}
-use Rattle.ident.specs.declared.block_hash.BlockHash.{BlockHash}
+use Rattle.ident.specs.Kinds.{BlockHash}
 use Rattle.block.specs.declared.header.Header as code
 use Rattle.model.specs.Block.{Header}
 

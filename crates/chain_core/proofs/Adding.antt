@@ -14,7 +14,7 @@ use Rattle.model.proofs.Lists.{all_of_member, all_from_members, contains_first, 
 use Rattle.model.proofs.MappedLists.{contains_map, contains_before}
 use Rattle.model.proofs.Chains.{one_with_hash}
 use Rattle.model.proofs.Selections.{selection_not_shorter}
-use Rattle.ident.specs.declared.block_hash.BlockHash.{BlockHash}
+use Rattle.ident.specs.Kinds.{BlockHash}
 use Rattle.blockstore.specs.Stored.{Stored, Store, unmarked, HasBlock, blocks_of, IsSet}
 use Rattle.blockstore.specs.Insertion.{IsInserted}
 use Rattle.blockstore.specs.Live.{HoldsLive}

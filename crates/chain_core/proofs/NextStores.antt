@@ -8,7 +8,7 @@ use Rattle.std.proofs.lemmas.List.Elements.{Contains-append_left, Contains-appen
 use Rattle.model.specs.Block.{Block, block_hash_of}
 use Rattle.model.proofs.Lists.{contains_first, nothing_contained}
 use Rattle.model.proofs.MappedLists.{contains_map, contains_before}
-use Rattle.ident.specs.declared.block_hash.BlockHash.{BlockHash}
+use Rattle.ident.specs.Kinds.{BlockHash}
 use Rattle.blockstore.specs.Stored.{Stored, Store, HasBlock, IsSet}
 use Rattle.blockstore.specs.Answers.{IsMarkedAt, IsMarkSet}
 use Rattle.blockstore.specs.Live.{KeepsLive}

@@ -4,7 +4,7 @@ use Rattle.model.specs.Block.{Block, block_hash_of}
 use Rattle.model.specs.Genesis.{Genesis}
 use Rattle.model.specs.Ledger.{Network}
 use Rattle.model.specs.History.{State, IsChange}
-use Rattle.ident.specs.declared.block_hash.BlockHash.{BlockHash}
+use Rattle.ident.specs.Kinds.{BlockHash}
 use Rattle.blockstore.specs.Stored.{Stored, Store, HasBlock, IsSet}
 use Rattle.blockstore.specs.Insertion.{IsInserted}
 use Rattle.blockstore.specs.Answers.{IsCutTo}

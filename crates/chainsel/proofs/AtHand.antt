@@ -13,7 +13,7 @@ use Rattle.model.proofs.MappedLists.{contains_before}
 use Rattle.model.proofs.Chains.{length_immutable, one_with_hash}
 use Rattle.model.proofs.Selections.{live_rest}
 use Rattle.model.proofs.Candidates.{live_is_kept, live_number, candidate_front}
-use Rattle.ident.specs.declared.block_hash.BlockHash.{BlockHash}
+use Rattle.ident.specs.Kinds.{BlockHash}
 use Rattle.blockstore.specs.Stored.{Stored, Store, HasBlock, blocks_of}
 use Rattle.ledgerdb.specs.Values.{Database}
 use Rattle.ledgerdb.proofs.ForCallers.{database_valid}

@@ -7,7 +7,7 @@ use Rattle.model.specs.Block.{Block}
 use Rattle.model.specs.Chain.{Tip, tip_at, tip_after, Follows, IsLinked}
 use Rattle.model.proofs.Lists.{all_of_member, all_take, all_push, contains_first, contains_cases, nothing_contained}
 use Rattle.model.proofs.Chains.{linked_rest, linked_front}
-use Rattle.ident.specs.declared.block_hash.BlockHash.{BlockHash}
+use Rattle.ident.specs.Kinds.{BlockHash}
 use Rattle.blockstore.specs.Stored.{Store}
 use Rattle.chainsel.specs.Paths.{IsFitLive, last_block, IsBest}
 use Rattle.chainsel.specs.Ends.{DescendsBy, AreEnds, IsNext, AreNext, AreFurthest, HasLeastHash}

@@ -13,7 +13,7 @@ use Rattle.model.specs.Chain.{Tip, genesis_tip, tip_at, tip_after, tip_hash, IsL
 use Rattle.model.proofs.Lists.{all_of_member, all_from_members, all_weaker, all_append, all_take}
 use Rattle.model.proofs.Chains.{tip_after-append, linked_front, linked_rest, begins_with_itself}
 use Rattle.model.proofs.Sets.{split_at}
-use Rattle.ident.specs.declared.block_hash.BlockHash.{BlockHash}
+use Rattle.ident.specs.Kinds.{BlockHash}
 use Rattle.blockstore.specs.Stored.{Store, blocks_of}
 use Rattle.ledgerdb.specs.Values.{Database}
 use Rattle.ledgerdb.specs.Chains.{without_last}

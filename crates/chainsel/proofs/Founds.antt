@@ -7,7 +7,7 @@ use Rattle.model.specs.Block.{Block, block_hash_of}
 use Rattle.model.specs.Chain.{HaveDistinctHashes}
 use Rattle.model.proofs.Lists.{all_of_member, all_from_members, all_append, contains_first, contains_cases, nothing_contained}
 use Rattle.model.proofs.Sets.{no_more_than}
-use Rattle.ident.specs.declared.block_hash.BlockHash.{BlockHash}
+use Rattle.ident.specs.Kinds.{BlockHash}
 use Rattle.blockstore.specs.Stored.{Stored, Store, blocks_of}
 use Rattle.chainsel.specs.Paths.{IsFitLive, IsStep, IsWay, Descends}
 use Rattle.chainsel.proofs.Through.{fit_is_live}

@@ -10,7 +10,7 @@ use Rattle.model.specs.Chain.{Tip, genesis_tip, tip_at, tip_after, IsLinked, Non
 use Rattle.model.proofs.Lists.{all_of_member, all_from_members, all_weaker, all_append, contains_first, contains_later, contains_cases, contains_filter}
 use Rattle.model.proofs.Chains.{linked_front, linked_rest, one_with_hash}
 use Rattle.model.proofs.Candidates.{live_is_kept, live_number, selection_over}
-use Rattle.ident.specs.declared.block_hash.BlockHash.{BlockHash}
+use Rattle.ident.specs.Kinds.{BlockHash}
 use Rattle.blockstore.specs.Stored.{Store, blocks_of}
 use Rattle.ledgerdb.specs.Values.{Database}
 use Rattle.chainsel.specs.Ready.{IsReady}

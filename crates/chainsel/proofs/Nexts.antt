@@ -4,7 +4,7 @@ use Rattle.std.proofs.lemmas.List.Elements.{Contains-append_left, Contains-appen
 use Rattle.model.specs.Block.{Block, block_hash_of}
 use Rattle.model.specs.Chain.{tip_at, Follows}
 use Rattle.model.proofs.Lists.{contains_first, contains_cases, nothing_contained}
-use Rattle.ident.specs.declared.block_hash.BlockHash.{BlockHash}
+use Rattle.ident.specs.Kinds.{BlockHash}
 use Rattle.blockstore.specs.Stored.{Stored, Store}
 use Rattle.blockstore.specs.Answers.{AreSuccessors}
 use Rattle.chainsel.specs.Paths.{IsFit}

@@ -6,7 +6,7 @@ use Rattle.model.specs.Chain.{tip_at, Follows, HaveDistinctHashes}
 use Rattle.model.proofs.Lists.{all_of_member, contains_first, contains_later, contains_cases, nothing_contained}
 use Rattle.model.proofs.MappedLists.{contains_map}
 use Rattle.model.proofs.Chains.{one_with_hash}
-use Rattle.ident.specs.declared.block_hash.BlockHash.{BlockHash}
+use Rattle.ident.specs.Kinds.{BlockHash}
 use Rattle.blockstore.specs.Stored.{Stored, Store, blocks_of}
 use Rattle.blockstore.specs.Answers.{IsAt}
 use Rattle.chainsel.specs.Paths.{IsFit, IsFitLive, IsStep}

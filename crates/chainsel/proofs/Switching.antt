@@ -17,7 +17,7 @@ use Rattle.model.specs.History.{IsChange}
 use Rattle.model.proofs.Lists.{all_from_members, all_weaker, all_append, all_take}
 use Rattle.model.proofs.Chains.{linked_front}
 use Rattle.model.proofs.Sets.{split_at}
-use Rattle.ident.specs.declared.block_hash.BlockHash.{BlockHash}
+use Rattle.ident.specs.Kinds.{BlockHash}
 use Rattle.blockstore.specs.Stored.{Store, blocks_of}
 use Rattle.ledgerdb.specs.Values.{Database}
 use Rattle.chainsel.specs.Dead.{IsDead}

@@ -10,7 +10,7 @@ use Rattle.model.proofs.Lists.{all_weaker, all_both, all_append, all_take, conta
 use Rattle.model.proofs.MappedLists.{contains_map}
 use Rattle.model.proofs.Chains.{tip_after-append, tip_number, linked_rest, numbers_past}
 use Rattle.model.proofs.Candidates.{candidate_front}
-use Rattle.ident.specs.declared.block_hash.BlockHash.{BlockHash}
+use Rattle.ident.specs.Kinds.{BlockHash}
 use Rattle.blockstore.specs.Stored.{Stored, Store, blocks_of}
 use Rattle.ledgerdb.specs.Values.{Database}
 use Rattle.chainsel.specs.Ready.{IsReady}

@@ -9,7 +9,7 @@ use Rattle.model.specs.Chain.{IsValidChain, Stays, immutable_length}
 use Rattle.model.specs.Applying.{HasFault, IsStateOf}
 use Rattle.model.specs.History.{IsChange}
 use Rattle.model.proofs.Lists.{all_of_member}
-use Rattle.ident.specs.declared.block_hash.BlockHash.{BlockHash}
+use Rattle.ident.specs.Kinds.{BlockHash}
 use Rattle.blockstore.specs.Stored.{Store, blocks_of}
 use Rattle.ledger.specs.View.{fault_of}
 use Rattle.ledger.specs.declared.block_fault.BlockFault.{BlockFault}

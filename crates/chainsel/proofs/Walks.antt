@@ -7,7 +7,7 @@ use Rattle.std.proofs.lemmas.Option.{slice_get_within}
 use Rattle.model.specs.Block.{Block}
 use Rattle.model.specs.Chain.{Tip, genesis_tip, tip_at, tip_after, Follows, IsLinked, HaveDistinctHashes}
 use Rattle.model.proofs.Chains.{linked_rest, linked_front, tip_number}
-use Rattle.ident.specs.declared.block_hash.BlockHash.{BlockHash}
+use Rattle.ident.specs.Kinds.{BlockHash}
 use Rattle.blockstore.specs.Stored.{Store, blocks_of}
 use Rattle.chainsel.specs.Paths.{IsStep, IsWay}
 use Rattle.chainsel.proofs.Lists.{last_cases, before_last}

@@ -9,7 +9,7 @@ use Rattle.model.specs.Block.{Block, block_hash_of}
 use Rattle.model.specs.Ledger.{Network}
 use Rattle.model.specs.Chain.{genesis_tip, tip_after, tip_hash, immutable_length, IsLinked, IsSelection}
 use Rattle.model.specs.History.{IsChange}
-use Rattle.ident.specs.declared.block_hash.BlockHash.{BlockHash}
+use Rattle.ident.specs.Kinds.{BlockHash}
 use Rattle.blockstore.specs.Stored.{Store, blocks_of}
 use Rattle.blockstore.specs.Live.{HoldsLive}
 use Rattle.ledgerdb.specs.Values.{Database, depth, count}

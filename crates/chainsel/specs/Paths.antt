@@ -7,7 +7,7 @@ use Rattle.std.specs.declared.cmp.Ordering.TheVariants.{Greater}
 use Rattle.std.specs.Cmp.Lexicographic.{slice_cmp}
 use Rattle.model.specs.Block.{Block, block_hash_of}
 use Rattle.model.specs.Chain.{genesis_tip, tip_at, tip_after, IsLinked}
-use Rattle.ident.specs.declared.block_hash.BlockHash.{BlockHash}
+use Rattle.ident.specs.Kinds.{BlockHash}
 use Rattle.blockstore.specs.Stored.{Stored, Store}
 
 -- nothing is known against a live block: it has no mark, and isn't among those that were found dead by now

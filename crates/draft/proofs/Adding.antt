@@ -10,7 +10,7 @@ use Rattle.draft.specs.declared.draft_fault.DraftFault.{DraftFault}
 use Rattle.draft.specs.Refusal.{IsFaultRefusal}
 use Rattle.std.specs.BTreeSet.{contains}
 use Rattle.std.specs.Ordering.{is_eq}
-use Rattle.ident.specs.declared.script_hash.ScriptHash.{ScriptHash}
+use Rattle.ident.specs.Kinds.{ScriptHash}
 use Rattle.std.specs.Global.{Vec}
 use Rattle.model.specs.Cbor.{nesting}
 use Rattle.model.specs.Script.{Script, item_of_script, script_hash_of}

@@ -6,7 +6,7 @@ use Rattle.std.specs.declared.cmp.Ordering.{Ordering}
 use Rattle.std.specs.Cmp.Lexicographic.{slice_cmp}
 use Rattle.std.specs.BTreeSet.{contains}
 use Rattle.std.specs.Global.{Vec}
-use Rattle.ident.specs.declared.script_hash.ScriptHash.{ScriptHash}
+use Rattle.ident.specs.Kinds.{ScriptHash}
 use Rattle.model.specs.Transaction.{input_cmp}
 use Rattle.value.specs.View.{asset_of}
 use Rattle.tx.specs.View.{input_of, output_of}

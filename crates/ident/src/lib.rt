@@ -6,19 +6,14 @@
 //! ```
 #![tactic(auto)]
 
-mod block_hash;
-mod body_hash;
 mod digest;
 mod fault;
-mod key_hash;
+mod id;
 mod point;
-mod script_hash;
-mod tx_id;
 
-pub use block_hash::BlockHash;
-pub use body_hash::BodyHash;
 pub use fault::IdentFault;
-pub use key_hash::KeyHash;
+pub use id::{
+    BlockHash, BlockKind, BodyHash, BodyKind, Id, KeyHash, KeyKind, ScriptHash, ScriptKind, TxId,
+    TxKind,
+};
 pub use point::Point;
-pub use script_hash::ScriptHash;
-pub use tx_id::TxId;

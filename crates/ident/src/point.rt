@@ -1,6 +1,6 @@
 //! Points on a chain.
 
-use crate::block_hash::BlockHash;
+use crate::id::BlockHash;
 use std::fmt;
 
 /// A place on a chain: the block with this number and this hash, or genesis. Ordered by the number, then by

@@ -3,7 +3,7 @@ use Rattle.std.proofs.Common.{◌≡◌, ℕ, zero, suc, ◌+◌, ◌^◌, ◌<�
 use Rattle.std.proofs.lemmas.Bool.Decides.{nat_tests}
 use Rattle.std.specs.Prelude.{IsOk}
 use Rattle.std.specs.List.{AllByRecursion, list_all}
-use Rattle.ident.specs.declared.block_hash.BlockHash.{BlockHash}
+use Rattle.ident.specs.Kinds.{BlockHash}
 use Rattle.model.specs.Cbor.{nesting}
 use Rattle.model.specs.Transaction.{Transaction, item_of_transaction}
 use Rattle.model.specs.Block.{IsHeader, SpellsBlock, block_text, block_hash_of}

@@ -3,7 +3,7 @@ use Rattle.std.proofs.lemmas.List.{drop_all}
 use Rattle.std.proofs.Common.{◌≡◌, ℕ, zero, suc, ◌+◌, ◌≤◌, ◌<◌, List, [], ◌∷◌, ◌++◌, append-nil, length, map, drop, get_or, refl, sym, ap, subst, ◌∙◌, add-one, drop-cons, arith}
 use Rattle.std.specs.Prelude.{Bool, ◌||◌, bytes_eq}
 use Rattle.std.specs.List.{list_any}
-use Rattle.ident.specs.declared.key_hash.KeyHash.{KeyHash}
+use Rattle.ident.specs.Kinds.{KeyHash}
 use Rattle.model.specs.Cbor.{Item, NextItem, items_of, nesting, items_nesting}
 use Rattle.model.specs.Script.{NextScript, item_of_script, items_of_scripts}
 use Rattle.timelock.specs.declared.timelock.Timelock.{Timelock}

@@ -1,6 +1,6 @@
 -- What timelocks of the code stand for.
 use Rattle.std.specs.Prelude.{ℕ, List, [], ◌∷◌}
-use Rattle.ident.specs.declared.key_hash.KeyHash.{KeyHash}
+use Rattle.ident.specs.Kinds.{KeyHash}
 use Rattle.model.specs.Script as model
 use Rattle.timelock.specs.declared.interval.Interval.{Interval}
 use Rattle.timelock.specs.declared.timelock.Timelock.{Timelock}

@@ -1,6 +1,6 @@
 use Rattle.std.proofs.Common.{◌≡◌, ◌+◌, List, [], ◌∷◌, ◌++◌, take, sym, ap, subst, ◌∙◌}
 use Rattle.std.proofs.lemmas.List.{take_more}
-use Rattle.ident.specs.declared.block_hash.BlockHash.{BlockHash}
+use Rattle.ident.specs.Kinds.{BlockHash}
 use Rattle.chain_core.specs.ChainDbs.{AreMarked}
 use Rattle.chain_core.proofs.NextStores.{one_marked}
 use Rattle.chain_core.proofs.chain_db.mark_all.Goals as goal

@@ -7,7 +7,7 @@ use Rattle.model.specs.Genesis.{Genesis}
 use Rattle.model.specs.Block.{Block, block_hash_of}
 use Rattle.model.specs.Ledger.{network_of}
 use Rattle.model.proofs.Lists.{all_append, contains_first}
-use Rattle.ident.specs.declared.block_hash.BlockHash.{BlockHash}
+use Rattle.ident.specs.Kinds.{BlockHash}
 use Rattle.blockstore.specs.Stored.{blocks_of}
 use Rattle.ledgerdb.specs.Chains.{without_last, IsPreparedOf}
 use Rattle.ledgerdb.specs.Values.{state_back}

@@ -2,7 +2,7 @@ use Rattle.std.proofs.Common.{◌≡◌, List, ◌∷◌, refl, ap, subst, ◌�
 use Rattle.std.specs.List.{AllByRecursion}
 use Rattle.model.specs.Block.{Block}
 use Rattle.model.specs.Ledger.{network_of}
-use Rattle.ident.specs.declared.block_hash.BlockHash.{BlockHash}
+use Rattle.ident.specs.Kinds.{BlockHash}
 use Rattle.blockstore.specs.Stored.{blocks_of}
 use Rattle.chainsel.specs.Ready.{IsReady}
 use Rattle.chainsel.specs.Choices.{IsSelected, IsChoice, IsSwitch, IsFoundDead}
