@@ -7,12 +7,14 @@ use Rattle.model.specs.Block.{Block, SpellsBlock, block_hash_of}
 use Rattle.model.specs.Genesis.{Genesis}
 use Rattle.model.specs.Ledger.{Network}
 use Rattle.model.specs.Chain.{IsValidChain, NoneLonger, IsSelection, HaveDistinctHashes, immutable_length, immutable_part, live_blocks, BeginsWith}
+use Rattle.model.specs.Mempool.{SubmitReply, IsValidPool, revalidated}
 use Rattle.model.specs.Follower.{Instruction, Stay, AddBlock, RollBack, IsReplayed}
-use Rattle.model.specs.History.{State, opening, live_of, Refusal, Known, Clash, Applies, Event, Arrive, Open, Next, Reply, Kept, Refused, Opened, TooManyFollowers, Instructed, UnknownFollower, OutOfMemory, Keeps, Instructs, Step, Entry, IsRun, IsLegal, BringsBlock, IsKeptBy, length_with, length_from}
+use Rattle.model.specs.History.{State, opening, live_of, Refusal, Known, Clash, Applies, Event, Arrive, Submit, Open, Next, Reply, Kept, Refused, Submitted, Opened, TooManyFollowers, Instructed, UnknownFollower, OutOfMemory, Keeps, Takes, Instructs, Step, Entry, IsRun, IsLegal, BringsBlock, IsKeptBy, length_with, length_from}
 use Rattle.model.proofs.Lists.{all_from_members, all_filter_narrower, nothing_contained, contains_first, contains_later, contains_cases}
 use Rattle.model.proofs.Chains.{begins_with_itself, begins_earlier}
 use Rattle.model.proofs.Selections.{one_selection, selection_valid, selection_longer, selection_not_shorter, selection_begins, selection_longest}
 use Rattle.model.proofs.BlockTexts.{one_block}
+use Rattle.model.proofs.MempoolSteps.{up_to_date, nothing_valid, submitted_valid, submitted_one}
 
 -- ---- live blocks have distinct hashes
 
@@ -49,6 +51,7 @@ pub record IsSoundState (network : Network) (s : State) : Type 0 where
   pub valid : IsValidChain network s.chain
   pub longest : NoneLonger network s.kept s.chain
   pub distinct : HaveDistinctHashes (live_of network.genesis s)
+  pub mempool : IsValidPool network s.chain s.mempool
 
 no_longer_than_nothing : (network : Network) → NoneLonger network [] []
 no_longer_than_nothing network [] candidate = omega arith
@@ -59,6 +62,7 @@ opening_sound network = record {
   valid = record { linked = tt; sizes = tt; ledger = refl };
   longest = no_longer_than_nothing network;
   distinct = tt;
+  mempool = nothing_valid network [];
 }
 
 keeps_sound : (network : Network) (s : State) (bytes : List ℕ) (back added : ℕ) (t : State) → IsSoundState network s → Keeps network s bytes back added t → IsSoundState network t
@@ -70,35 +74,39 @@ keeps_sound network s bytes back added t sound keeps =
       longest = selection_longest network t.kept s.chain t.chain keeps.selection;
       distinct = narrower_distinct (λ b. nat_lt (immutable_length network.genesis s.chain) b.header.number) (λ b. nat_lt (immutable_length network.genesis t.chain) b.header.number) t.kept
           (λ b passes. lt-ltb (immutable_length network.genesis s.chain) b.header.number (let past = ltb-true (immutable_length network.genesis t.chain) b.header.number passes in omega arith)) distinct;
+      mempool = subst (IsValidPool network t.chain) (sym keeps.mempool) (up_to_date network t.chain s.mempool);
     }
 
--- a step that neither keeps a block nor changes the chain
-pub record IsQuiet (s : State) (event : Event) (reply : Reply) (t : State) : Type 0 where
+-- a step that neither keeps a block nor changes the chain, and leaves the mempool valid
+pub record IsQuiet (network : Network) (s : State) (event : Event) (reply : Reply) (t : State) : Type 0 where
   pub kept : t.kept ≡ s.kept
   pub chain : t.chain ≡ s.chain
   pub counted : (n : ℕ) → length_with n reply ≡ n
   pub brings_none : (b : Block) → BringsBlock event reply b → ⊥
+  pub mempool : IsValidPool network s.chain s.mempool → IsValidPool network t.chain t.mempool
 
 -- a step keeps a block, or is quiet
 pub data Kind (network : Network) (s : State) : Event → Reply → State → Type 0 where
   Keeping : (bytes : List ℕ) (back added : ℕ) (t : State) → Keeps network s bytes back added t → Kind network s (Arrive bytes) (Kept back added) t
-  Quiet : (event : Event) (reply : Reply) (t : State) → IsQuiet s event reply t → Kind network s event reply t
+  Quiet : (event : Event) (reply : Reply) (t : State) → IsQuiet network s event reply t → Kind network s event reply t
 
 pub kind_of : (network : Network) (s : State) (event : Event) (reply : Reply) (t : State) → Step network s event reply t → Kind network s event reply t
 kind_of network s (Arrive bytes) (Kept back added) t step = Keeping bytes back added t step
-kind_of network s (Arrive bytes) (Refused refusal) t step = Quiet (Arrive bytes) (Refused refusal) t (record { kept = ap (λ (u : State). u.kept) step.1; chain = ap (λ (u : State). u.chain) step.1; counted = λ n. refl; brings_none = λ b no'. no' })
-kind_of network s Open (Opened id) t step = Quiet Open (Opened id) t (record { kept = ap (λ (u : State). u.kept) step.after; chain = ap (λ (u : State). u.chain) step.after; counted = λ n. refl; brings_none = λ b no'. no' })
-kind_of network s Open TooManyFollowers t step = Quiet Open TooManyFollowers t (record { kept = ap (λ (u : State). u.kept) step.1; chain = ap (λ (u : State). u.chain) step.1; counted = λ n. refl; brings_none = λ b no'. no' })
-kind_of network s (Next id) (Instructed instruction) t step = Quiet (Next id) (Instructed instruction) t (record { kept = ap (λ (u : State). u.kept) step.after; chain = ap (λ (u : State). u.chain) step.after; counted = λ n. refl; brings_none = λ b no'. no' })
-kind_of network s (Next id) UnknownFollower t step = Quiet (Next id) UnknownFollower t (record { kept = ap (λ (u : State). u.kept) step.1; chain = ap (λ (u : State). u.chain) step.1; counted = λ n. refl; brings_none = λ b no'. no' })
-kind_of network s event OutOfMemory t step = Quiet event OutOfMemory t (record { kept = ap (λ (u : State). u.kept) step; chain = ap (λ (u : State). u.chain) step; counted = λ n. refl; brings_none = λ b no'. no' })
+kind_of network s (Arrive bytes) (Refused refusal) t step = Quiet (Arrive bytes) (Refused refusal) t (record { kept = ap (λ (u : State). u.kept) step.1; chain = ap (λ (u : State). u.chain) step.1; counted = λ n. refl; brings_none = λ b no'. no'; mempool = λ valid. subst (λ (u : State). IsValidPool network u.chain u.mempool) (sym step.1) valid })
+kind_of network s (Submit bytes) (Submitted answer) t step = Quiet (Submit bytes) (Submitted answer) t (record { kept = ap (λ (u : State). u.kept) step.after; chain = ap (λ (u : State). u.chain) step.after; counted = λ n. refl; brings_none = λ b no'. no'; mempool = λ valid. subst (λ (u : State). IsValidPool network u.chain u.mempool) (sym step.after) (submitted_valid network s.chain s.mempool bytes answer step.mempool step.submits valid) })
+kind_of network s Open (Opened id) t step = Quiet Open (Opened id) t (record { kept = ap (λ (u : State). u.kept) step.after; chain = ap (λ (u : State). u.chain) step.after; counted = λ n. refl; brings_none = λ b no'. no'; mempool = λ valid. subst (λ (u : State). IsValidPool network u.chain u.mempool) (sym step.after) valid })
+kind_of network s Open TooManyFollowers t step = Quiet Open TooManyFollowers t (record { kept = ap (λ (u : State). u.kept) step.1; chain = ap (λ (u : State). u.chain) step.1; counted = λ n. refl; brings_none = λ b no'. no'; mempool = λ valid. subst (λ (u : State). IsValidPool network u.chain u.mempool) (sym step.1) valid })
+kind_of network s (Next id) (Instructed instruction) t step = Quiet (Next id) (Instructed instruction) t (record { kept = ap (λ (u : State). u.kept) step.after; chain = ap (λ (u : State). u.chain) step.after; counted = λ n. refl; brings_none = λ b no'. no'; mempool = λ valid. subst (λ (u : State). IsValidPool network u.chain u.mempool) (sym step.after) valid })
+kind_of network s (Next id) UnknownFollower t step = Quiet (Next id) UnknownFollower t (record { kept = ap (λ (u : State). u.kept) step.1; chain = ap (λ (u : State). u.chain) step.1; counted = λ n. refl; brings_none = λ b no'. no'; mempool = λ valid. subst (λ (u : State). IsValidPool network u.chain u.mempool) (sym step.1) valid })
+kind_of network s event OutOfMemory t step = Quiet event OutOfMemory t (record { kept = ap (λ (u : State). u.kept) step; chain = ap (λ (u : State). u.chain) step; counted = λ n. refl; brings_none = λ b no'. no'; mempool = λ valid. subst (λ (u : State). IsValidPool network u.chain u.mempool) (sym step) valid })
 kind_of network s event reply t step = absurd step
 
-quiet_sound : (network : Network) (s : State) (event : Event) (reply : Reply) (t : State) → IsSoundState network s → IsQuiet s event reply t → IsSoundState network t
+quiet_sound : (network : Network) (s : State) (event : Event) (reply : Reply) (t : State) → IsSoundState network s → IsQuiet network s event reply t → IsSoundState network t
 quiet_sound network s event reply t sound quiet = record {
   valid = subst (IsValidChain network) (sym quiet.chain) sound.valid;
   longest = subst (λ (bs : List Block). NoneLonger network bs t.chain) (sym quiet.kept) (subst (λ (c : List Block). NoneLonger network s.kept c) (sym quiet.chain) sound.longest);
   distinct = subst (λ (bs : List Block). HaveDistinctHashes (live_blocks network.genesis bs t.chain)) (sym quiet.kept) (subst (λ (c : List Block). HaveDistinctHashes (live_blocks network.genesis s.kept c)) (sym quiet.chain) sound.distinct);
+  mempool = quiet.mempool sound.mempool;
 }
 
 kind_sound : (network : Network) (s : State) (event : Event) (reply : Reply) (t : State) → IsSoundState network s → Kind network s event reply t → IsSoundState network t
@@ -124,7 +132,13 @@ keeps_one network s bytes back added t u sound first second =
     let distinct : HaveDistinctHashes (live_blocks network.genesis u.kept s.chain) = subst (λ (bs : List Block). HaveDistinctHashes (live_blocks network.genesis bs s.chain)) (sym second.kept) (distinct_with network.genesis s bytes second.block sound.distinct second.read second.not_refused) in
     let chain : t.chain ≡ u.chain = one_selection network u.kept s.chain t.chain u.chain distinct (subst (λ (bs : List Block). IsSelection network bs s.chain t.chain) kept first.selection) second.selection in
     let followers : t.followers ≡ u.followers = first.followers ∙ sym second.followers in
-    λ i. record { kept = kept i; chain = chain i; followers = followers i }
+    let mempool : t.mempool ≡ u.mempool = first.mempool ∙ (ap (λ (c : List Block). revalidated network c s.mempool) chain ∙ sym second.mempool) in
+    λ i. record { kept = kept i; chain = chain i; mempool = mempool i; followers = followers i }
+
+takes_one : (network : Network) (s : State) (bytes : List ℕ) (answer : SubmitReply) (t u : State) → Takes network s bytes answer t → Takes network s bytes answer u → t ≡ u
+takes_one network s bytes answer t u first second =
+    let mempool : first.mempool ≡ second.mempool = submitted_one s.mempool bytes answer first.mempool second.mempool first.submits.pool second.submits.pool in
+    first.after ∙ ((λ i. record { kept = s.kept; chain = s.chain; mempool = mempool i; followers = s.followers }) ∙ sym second.after)
 
 some_same : {X : Type 0} (x y : X) → Some x ≡ Some y → x ≡ y
 some_same x y e = cc
@@ -138,11 +152,12 @@ instructs_one : (s : State) (id : ℕ) (instruction : Instruction) (t u : State)
 instructs_one s id instruction t u first second =
     let before : first.before ≡ second.before = some_same first.before second.before (sym first.open_before ∙ second.open_before) in
     let now : first.now ≡ second.now = replayed_one first.before instruction first.now second.now first.told.replayed (subst (λ (old : List Block). IsReplayed old instruction second.now) (sym before) second.told.replayed) in
-    first.after ∙ ((λ i. record { kept = s.kept; chain = s.chain; followers = slice_set s.followers id (Some (now i)) }) ∙ sym second.after)
+    first.after ∙ ((λ i. record { kept = s.kept; chain = s.chain; mempool = s.mempool; followers = slice_set s.followers id (Some (now i)) }) ∙ sym second.after)
 
 pub step_one : (network : Network) (s : State) (event : Event) (reply : Reply) (t u : State) → IsSoundState network s → Step network s event reply t → Step network s event reply u → t ≡ u
 step_one network s (Arrive bytes) (Kept back added) t u sound first second = keeps_one network s bytes back added t u sound first second
 step_one network s (Arrive bytes) (Refused refusal) t u sound first second = first.1 ∙ sym second.1
+step_one network s (Submit bytes) (Submitted answer) t u sound first second = takes_one network s bytes answer t u first second
 step_one network s Open (Opened id) t u sound first second = first.after ∙ sym second.after
 step_one network s Open TooManyFollowers t u sound first second = first.1 ∙ sym second.1
 step_one network s (Next id) (Instructed instruction) t u sound first second = instructs_one s id instruction t u first second

@@ -32,3 +32,4 @@ pub mod MappedLists
 pub mod Sets
 pub mod Candidates
 pub mod MempoolPasses
+pub mod MempoolSteps

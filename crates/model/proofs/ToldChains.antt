@@ -5,7 +5,7 @@ use Rattle.model.specs.Block.{Block}
 use Rattle.model.specs.Ledger.{Network}
 use Rattle.model.specs.Chain.{BeginsWith}
 use Rattle.model.specs.Follower.{Followers, told_by, with_opened}
-use Rattle.model.specs.History.{State, opening, Event, Arrive, Open, Next, Reply, Kept, Refused, Opened, TooManyFollowers, Instructed, UnknownFollower, OutOfMemory, Step, Entry, IsRun, IsLegal, WasSelected, ChainTheorem}
+use Rattle.model.specs.History.{State, opening, Event, Arrive, Submit, Open, Next, Reply, Kept, Refused, Submitted, Opened, TooManyFollowers, Instructed, UnknownFollower, OutOfMemory, Step, Entry, IsRun, IsLegal, WasSelected, ChainTheorem}
 use Rattle.model.proofs.LegalHistories.{legal_sound}
 
 -- ---- the chains that followers were told, after a change
@@ -62,6 +62,7 @@ step_told : (network : Network) (history : List Entry) (s : State) (event : Even
     → AllWereSelected network (history ++ record { event = event; reply = reply } ∷ []) t
 step_told network history s (Arrive bytes) (Kept back added) t legal were step = same_told network history (record { event = Arrive bytes; reply = Kept back added }) s t were step.followers
 step_told network history s (Arrive bytes) (Refused refusal) t legal were step = same_told network history (record { event = Arrive bytes; reply = Refused refusal }) s t were (ap (λ (u : State). u.followers) step.1)
+step_told network history s (Submit bytes) (Submitted answer) t legal were step = same_told network history (record { event = Submit bytes; reply = Submitted answer }) s t were (ap (λ (u : State). u.followers) step.after)
 step_told network history s Open (Opened new) t legal were step = λ id told is.
     longer_past network history (record { event = Open; reply = Opened new } ∷ []) told
     (elim (opened_told s.followers id told (ap (λ (u : State). told_by u.followers id) (sym step.after) ∙ is)) [
@@ -101,4 +102,4 @@ were_selected network history s legal = run_told network [] opening history s re
 pub theorem_of_legal : (network : Network) (history : List Entry) (s : State) → IsLegal network history s → ChainTheorem network history s
 theorem_of_legal network history s legal =
     let sound = legal_sound network history s legal in
-    record { legal = legal; valid = sound.valid; longest = sound.longest; told = were_selected network history s legal }
+    record { legal = legal; valid = sound.valid; longest = sound.longest; mempool = sound.mempool; told = were_selected network history s legal }

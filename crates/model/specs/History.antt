@@ -7,17 +7,20 @@ use Rattle.model.specs.Genesis.{Genesis}
 use Rattle.model.specs.Ledger.{Network}
 use Rattle.model.specs.Chain.{immutable_length, live_blocks, IsSelection, BeginsWith, IsValidChain, NoneLonger}
 use Rattle.model.specs.Limits.{block_size_limit, follower_limit}
+use Rattle.model.specs.Transaction.{Transaction}
+use Rattle.model.specs.Mempool.{SubmitReply, Submits, revalidated, IsValidPool}
 use Rattle.model.specs.Follower.{Followers, Instruction, told_by, free_id, with_opened, MayBeTold}
 
--- the blocks that were kept, the newest first; the selected chain, its first block first; and the open
--- followers
+-- the blocks that were kept, the newest first; the selected chain, its first block first; the mempool, in the order in
+-- which its transactions came; and the open followers
 pub record State : Type 0 where
   pub kept : List Block
   pub chain : List Block
+  pub mempool : List Transaction
   pub followers : Followers
 
 abbrev pub opening : State
-opening = record { kept = []; chain = []; followers = [] }
+opening = record { kept = []; chain = []; mempool = []; followers = [] }
 
 -- ---- refusals
 
@@ -69,15 +72,17 @@ pub record IsRefused (genesis : Genesis) (s : State) (bytes : List ℕ) (refusal
 -- what comes to the node
 pub data Event : Type 0 where
   Arrive : List ℕ → Event
+  Submit : List ℕ → Event
   Open : Event
   Next : (id : ℕ) → Event
 
 -- what it answers: that the block is kept, with how many blocks of the old chain were rolled back and how many
--- of the new one were put on; that the bytes are refused; a new follower's id, or that too many are open; an
--- instruction, or that no such follower is open; or that memory ran out
+-- of the new one were put on; that the bytes are refused; what is answered to a submission; a new follower's id, or
+-- that too many are open; an instruction, or that no such follower is open; or that memory ran out
 pub data Reply : Type 0 where
   Kept : (back added : ℕ) → Reply
   Refused : Refusal → Reply
+  Submitted : SubmitReply → Reply
   Opened : (id : ℕ) → Reply
   TooManyFollowers : Reply
   Instructed : Instruction → Reply
@@ -100,22 +105,30 @@ pub record IsChange (old new : List Block) (back added : ℕ) : Type 0 where
 
 -- RULE OF A KEPT BLOCK (the report, addition of a block to the chain database)
 -- Bytes are kept where they are read as a block and no refusal applies. The block joins the kept ones, the selection
--- rule then says which chain is selected, and the reply counts the blocks rolled back and put on. Followers are told
--- later.
+-- rule then says which chain is selected, and the reply counts the blocks rolled back and put on. The mempool is brought
+-- up to date with that chain. Followers are told later.
 pub record Keeps (network : Network) (s : State) (bytes : List ℕ) (back added : ℕ) (t : State) : Type 0 where
   pub block : Block
   pub read : SpellsBlock block bytes
   pub not_refused : (refusal : Refusal) → Applies network.genesis s bytes refusal → ⊥
   pub kept : t.kept ≡ block ∷ s.kept
   pub followers : t.followers ≡ s.followers
+  pub mempool : t.mempool ≡ revalidated network t.chain s.mempool
   pub selection : IsSelection network t.kept s.chain t.chain
   pub change : IsChange s.chain t.chain back added
+
+-- bytes are submitted, and the mempool is what the rule of submissions leaves
+pub record Takes (network : Network) (s : State) (bytes : List ℕ) (reply : SubmitReply) (t : State) : Type 0 where
+  pub mempool : List Transaction
+  pub submits : Submits network s.chain s.mempool bytes reply mempool
+  pub after : t ≡ record { kept = s.kept; chain = s.chain; mempool = mempool; followers = s.followers }
 
 -- a follower of the least free number is opened
 pub record Opens (s : State) (id : ℕ) (t : State) : Type 0 where
   pub is_free : id ≡ free_id s.followers
   pub room : id < follower_limit
-  pub after : t ≡ record { kept = s.kept; chain = s.chain; followers = with_opened s.followers }
+  pub after : t ≡
+      record { kept = s.kept; chain = s.chain; mempool = s.mempool; followers = with_opened s.followers }
 
 -- an open follower gets an instruction, and has then been told another chain
 pub record Instructs (s : State) (id : ℕ) (instruction : Instruction) (t : State) : Type 0 where
@@ -123,7 +136,12 @@ pub record Instructs (s : State) (id : ℕ) (instruction : Instruction) (t : Sta
   pub now : List Block
   pub open_before : told_by s.followers id ≡ Some before
   pub told : MayBeTold s.chain before instruction now
-  pub after : t ≡ record { kept = s.kept; chain = s.chain; followers = slice_set s.followers id (Some now) }
+  pub after : t ≡ record {
+    kept = s.kept;
+    chain = s.chain;
+    mempool = s.mempool;
+    followers = slice_set s.followers id (Some now);
+  }
 
 -- STEP RULE (this project's own, over the report's interface of the chain database)
 -- From one state an event may be answered so, and leave the other; each kind of event has its own replies. What is
@@ -131,6 +149,7 @@ pub record Instructs (s : State) (id : ℕ) (instruction : Instruction) (t : Sta
 abbrev pub Step : Network → State → Event → Reply → State → Type 0
 Step network s (Arrive bytes) (Kept back added) t = Keeps network s bytes back added t
 Step network s (Arrive bytes) (Refused refusal) t = IsRefused network.genesis s bytes refusal × (t ≡ s)
+Step network s (Submit bytes) (Submitted reply) t = Takes network s bytes reply t
 Step network s Open (Opened id) t = Opens s id t
 Step network s Open TooManyFollowers t = (follower_limit ≤ free_id s.followers) × (t ≡ s)
 Step network s (Next id) (Instructed instruction) t = Instructs s id instruction t
@@ -190,10 +209,11 @@ pub record WasSelected (network : Network) (history : List Entry) (chain : List 
 -- ---- the chain theorem
 
 -- The history is legal and leaves this state; the selected chain is valid; no valid chain of kept blocks through the
--- immutable tip is longer; and what each follower was told is the beginning of a chain that was selected at some time
--- of the history.
+-- immutable tip is longer; the mempool is valid in order on it; and what each follower was told is the beginning of a
+-- chain that was selected at some time of the history.
 pub record ChainTheorem (network : Network) (history : List Entry) (state : State) : Type 0 where
   pub legal : IsLegal network history state
   pub valid : IsValidChain network state.chain
   pub longest : NoneLonger network state.kept state.chain
+  pub mempool : IsValidPool network state.chain state.mempool
   pub told : (id : ℕ) (told : List Block) → told_by state.followers id ≡ Some told → WasSelected network history told
