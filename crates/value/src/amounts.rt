@@ -2,7 +2,10 @@
 
 ghost use Rattle.std.specs.Prelude.{◌≡◌, None, false, ◌↔◌, ◌^◌, ◌+ℤ◌, ℕ, ℤ, pos, List, map, IsTrue, IsSome, OnOk};
 ghost use Rattle.std.specs.Prelude.{bytes_eq, if◌then◌else◌};
+ghost use Rattle.std.specs.Map.Iter.{ShowsInOrder, ShowsInReverse, deref_pair};
 ghost use Rattle.std.specs.List.{AllByRecursion};
+ghost use Rattle.std.specs.Global.{Vec};
+ghost use Rattle.ident.specs.Kinds.{ScriptHash};
 ghost use Rattle.model.specs.Value.{named_amount, policy_amount};
 ghost use Rattle.value.specs.Quantities.{IsWithin, quantity_limit};
 ghost use Rattle.value.specs.View.{token_of, policy_of};
@@ -10,13 +13,14 @@ ghost use Rattle.value.specs.Differing.{NamesDiffer, PoliciesDiffer};
 ghost use Rattle.value.specs.Sides.{sided};
 ghost use Rattle.value.specs.Sums.{sum_under, sum_of, amount_under, amount_in, HasAll, HasPolicy, amounts_of};
 ghost use Rattle.value.specs.Sums.{AreBounded};
+ghost use Rattle.value.specs.declared.amounts.Amounts.{Amounts};
 
 use crate::assets::{Policy, Token};
 use crate::quantity::Quantity;
 use crate::side::Side;
 use ident::ScriptHash;
 use std::alloc::{AllocError, Global};
-use std::collections::BTreeMap;
+use std::collections::{BTreeMap, btree_map};
 
 /// What there is under each name of one policy. A name without an entry has 0.
 #[derive(Drop)]
@@ -97,6 +101,15 @@ impl Amounts {
             Some(amount) => *amount,
             None => 0,
         }
+    }
+
+    /// The names that were met, in the order of their bytes, each with its sum.
+    pub fn iter(&self) -> btree_map::Iter<'_, Vec<u8>, i128>
+        ensures rest { result ≡ self.now.by_name.entries }
+        ensures runs { ShowsInOrder (deref_pair {K = Vec ℕ} {X = ℤ}) }
+        ensures runs_back { ShowsInReverse (deref_pair {K = Vec ℕ} {X = ℤ}) }
+    {
+        self.by_name.iter()
     }
 
     /// Whether there is nothing under any name.
@@ -200,6 +213,15 @@ impl AllAmounts {
             Some(amounts) => amounts.amount(name),
             None => 0,
         }
+    }
+
+    /// The policies that were met, in the order of their bytes, each with the sums under its names.
+    pub fn iter(&self) -> btree_map::Iter<'_, ScriptHash, Amounts>
+        ensures rest { result ≡ self.now.by_policy.entries }
+        ensures runs { ShowsInOrder (deref_pair {K = ScriptHash} {X = Amounts}) }
+        ensures runs_back { ShowsInReverse (deref_pair {K = ScriptHash} {X = Amounts}) }
+    {
+        self.by_policy.iter()
     }
 
     /// Whether there is nothing of any policy.

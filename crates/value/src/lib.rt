@@ -17,6 +17,7 @@ mod totals;
 mod value;
 mod writer;
 
+pub use amounts::Amounts;
 pub use asset_fault::AssetFault;
 pub use asset_quantity::AssetQuantity;
 pub use assets::{MAX_NAME, Policy, Token};

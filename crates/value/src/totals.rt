@@ -2,15 +2,17 @@
 
 ghost use Rattle.std.specs.Prelude.{ℕ, ◌≤◌, ◌^◌, ◌*◌};
 ghost use Rattle.model.specs.Value.{Asset, Ada, Named};
+ghost use Rattle.std.specs.Map.Iter.{ShowsInOrder, ShowsInReverse, deref_pair};
 ghost use Rattle.value.specs.Quantities.{IsWithin};
 ghost use Rattle.value.specs.Sums.{total_in};
 
-use crate::amounts::AllAmounts;
+use crate::amounts::{AllAmounts, Amounts};
 use crate::assets::Policy;
 use crate::quantity::Quantity;
 use crate::side::Side;
 use ident::ScriptHash;
 use std::alloc::{AllocError, Global};
+use std::collections::btree_map;
 
 /// Sums of values, for ada and each asset, in signed numbers of 128 bits. They are exact: at most 2^62 values
 /// are added or taken, each with at most 2^64 of an asset.
@@ -27,9 +29,10 @@ pub struct Totals {
 
 impl Totals {
     ghost use Rattle.std.specs.Prelude.{◌≡◌, ◌<◌, ◌+◌, ◌+ℤ◌, ◌↔◌, pos, map, IsTrue, OnOk, OnErr};
+    ghost use Rattle.ident.specs.Kinds.{ScriptHash};
     ghost use Rattle.value.specs.Differing.{PoliciesDiffer};
     ghost use Rattle.value.specs.Sides.{sided};
-    ghost use Rattle.value.specs.Totals.{total_of, change_of};
+    ghost use Rattle.value.specs.Totals.{total_of, change_of, policies_met};
     ghost use Rattle.value.specs.View.{policy_of};
 
     /// The sums of no values, all 0. Takes no memory.
@@ -64,6 +67,16 @@ impl Totals {
         ensures { result ≡ total_of self.now (Named policy.now.bytes name.now) }
     {
         self.assets.amount(policy, name)
+    }
+
+    /// The policies of the assets that were met so far, in the order of their bytes, each with the sums under its
+    /// names. An asset of which as much was taken as was added still is among them, with a sum of 0. Takes no memory.
+    pub fn policies(&self) -> btree_map::Iter<'_, ScriptHash, Amounts>
+        ensures rest { result ≡ policies_met self.now }
+        ensures runs { ShowsInOrder (deref_pair {K = ScriptHash} {X = Amounts}) }
+        ensures runs_back { ShowsInReverse (deref_pair {K = ScriptHash} {X = Amounts}) }
+    {
+        self.assets.iter()
     }
 
     /// Whether as much was taken as was added, of ada and of each asset. Takes no memory, and time in
