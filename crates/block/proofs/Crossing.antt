@@ -3,40 +3,18 @@
 use denote.RattleType.{RattleType}
 use denote.Param.Send.{IsSend, IsSync, sendable}
 use Rattle.std.proofs.Crossing.{crosses}
-use Rattle.timelock.proofs.timelock.Timelocks.TheLaws.TheKnot as timelocks
-use Rattle.timelock.specs.contracts.script.Script as Script
-use Rattle.tx.proofs.body.Body.TheSendSync as body
-use Rattle.tx.specs.contracts.tx.Tx as Tx
 use Rattle.witness_pool.specs.declared.scheme.SigScheme.{Ghosts}
-use Rattle.witness_pool.specs.contracts.checked_tx.CheckedTx as CheckedTx
+use Rattle.witness_pool.proofs.ForCallers.{CheckedTx-send, CheckedTx-sync}
 use Rattle.block.specs.contracts.checked_block.CheckedInner as Inner
 use Rattle.block.specs.contracts.checked_block.CheckedBlock as CheckedBlock
 use Rattle.block.specs.contracts.seen.Seen as Seen
 
-script_send : IsSend (Script.the_field).row
-script_send = search (crosses, timelocks.crosses, sendable) depth 60 fits 20000
-
-script_sync : IsSync (Script.the_field).row
-script_sync = search (crosses, timelocks.crosses, sendable) depth 60 fits 20000
-
-tx_send : IsSend (Tx.the_field).row
-tx_send = let s = script_send in let b = body.the_field_send in search (crosses, sendable) depth 20
-
-tx_sync : IsSync (Tx.the_field).row
-tx_sync = let y = script_sync in let b = body.the_field_sync in search (crosses, sendable) depth 20
-
 module _ (S : RattleType) (scheme : Ghosts S.Denot) where
-  checked_tx_send : IsSend (CheckedTx.the_field S scheme).row
-  checked_tx_send = let t = tx_send in search (crosses, sendable) depth 20
-
-  checked_tx_sync : IsSync (CheckedTx.the_field S scheme).row
-  checked_tx_sync = let t = tx_sync in search (crosses, sendable) depth 20
-
   inner_send : IsSend (Inner.the_field S scheme).row
-  inner_send = let t = checked_tx_send in search (crosses, sendable) depth 20
+  inner_send = let t = CheckedTx-send S scheme in search (crosses, sendable) depth 20
 
   inner_sync : IsSync (Inner.the_field S scheme).row
-  inner_sync = let t = checked_tx_sync in search (crosses, sendable) depth 20
+  inner_sync = let t = CheckedTx-sync S scheme in search (crosses, sendable) depth 20
 
   pub CheckedBlock-send : IsSend (CheckedBlock.the_field S scheme).row
   CheckedBlock-send = let s = inner_send in let y = inner_sync in search (crosses, sendable) depth 20

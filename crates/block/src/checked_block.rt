@@ -1,7 +1,8 @@
 //! Blocks with the verdicts on their transactions.
 
-ghost use Rattle.std.specs.Prelude.{◌≡◌, ◌↔◌, IsTrue, option_map, IfOk, IfErr};
+ghost use Rattle.std.specs.Prelude.{◌≡◌, ◌↔◌, ◌<◌, IsTrue, option_map, IfOk, IfErr};
 ghost use Rattle.std.specs.List.{AllByRecursion};
+ghost use Rattle.model.specs.Limits.{number_limit};
 ghost use Rattle.model.specs.Transaction.{IsTransaction};
 ghost use Rattle.model.specs.Block.{block_text, block_hash_of, body_size_of};
 ghost use Rattle.block.specs.Reading.{block_with};
@@ -83,7 +84,8 @@ impl<S: SigScheme> CheckedBlock<S> {
 
     /// The slot of time in which the block was made, below 2^63.
     pub fn slot(&self) -> u64
-        ensures { result ≡ self.now.header.slot }
+        ensures slot { result ≡ self.now.header.slot }
+        ensures small { result < number_limit }
     {
         self.inner.header.slot
     }

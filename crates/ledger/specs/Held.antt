@@ -11,6 +11,6 @@ abbrev pub ledger_state_of : Inside → LedgerState
 ledger_state_of s =
     record { params = params_of s.params; ledger = record { utxo = s.utxo; fees = s.fees }; tip = tip_of s.tip }
 
--- the unspent outputs and the fees are less than 2 ^ 63 lovelace together
+-- the unspent outputs and the fees are less than 2 ^ 63 lovelace together, and the tip's slot is below 2 ^ 63
 abbrev pub IsHeldState : Inside → Type 0
-IsHeldState s = coin_of (outputs_of s.utxo) + s.fees < number_limit
+IsHeldState s = (coin_of (outputs_of s.utxo) + s.fees < number_limit) × (s.tip.slot < number_limit)

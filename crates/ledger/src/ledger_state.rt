@@ -85,7 +85,8 @@ impl LedgerState {
 
     /// The slot of the last block, and 0 before the first.
     pub fn slot(&self) -> u64
-        ensures { result ≡ self.now.tip.slot }
+        ensures slot { result ≡ self.now.tip.slot }
+        ensures small { result < number_limit }
     {
         self.tip.slot
     }

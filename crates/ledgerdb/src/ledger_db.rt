@@ -44,7 +44,7 @@ impl LedgerDb {
     ghost use Rattle.model.specs.Genesis.{Genesis};
     ghost use Rattle.model.specs.Block.{Block};
     ghost use Rattle.model.specs.Ledger.{Network, network_of};
-    ghost use Rattle.model.specs.Applying.{IsStateOf, AreStates};
+    ghost use Rattle.model.specs.Applying.{IsStateOf, AreStates, last_state};
     ghost use Rattle.ledgerdb.specs.Values.{depth, count, state_back};
     ghost use Rattle.ledgerdb.specs.Chains.{without_last, IsDatabaseOf, IsPreparedOf};
     ghost use Rattle.ledgerdb.specs.Faults.{IsForkFault, IsFaultOnChain};
@@ -129,6 +129,21 @@ impl LedgerDb {
         let root = newest_but(&self.anchor, &self.states, back);
         let states = apply_all(self.alloc, root, blocks)?;
         Ok(Prepared { back, states })
+    }
+
+    /// The newest state once this fork is committed, which rolls back at most the depth. Copies nothing, and takes no
+    /// memory, and time that grows with the blocks rolled back.
+    pub fn state_after<'a>(&'a self, prepared: &'a Prepared) -> &'a LedgerState
+        requires { prepared.now.back ≤ depth self.now }
+        ensures state { result.now ≡ last_state (state_back self.now prepared.now.back) prepared.now.states }
+        // The same, said of the chain whose database it is.
+        ensures chain { (network : Network) (chain blocks : List Block) →
+            IsDatabaseOf network chain self.now →
+            IsPreparedOf network (without_last prepared.now.back chain) blocks prepared.now →
+            IsStateOf network (without_last prepared.now.back chain ++ blocks) result.now }
+    {
+        let root = newest_but(&self.anchor, &self.states, prepared.back);
+        newest(root, &prepared.states)
     }
 
     /// Rolls back as many blocks as the fork does, and puts its blocks in their place. At most k states stay after the

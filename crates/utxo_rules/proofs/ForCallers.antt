@@ -1,4 +1,5 @@
--- For the crates above: errors that are told as others, and how a loop puts in outputs that are counted from 0 on.
+-- For the crates above: errors that are told as others, how a loop puts in outputs that are counted from 0 on, and that
+-- unspent outputs may go to another thread.
 use Rattle.std.proofs.Common.{◌≡◌, ℕ, suc, ◌+◌, ◌<◌, ◌≤◌, List, [], ◌∷◌, length, drop, get_or, map, Result, Ok, Err, IfErr, refl, sym, ap, subst, ◌∙◌, arith}
 use Rattle.std.specs.Result.{IsErrAnd}
 use Rattle.std.specs.FinMap as finite
@@ -6,6 +7,7 @@ use Rattle.std.proofs.lemmas.List.{drop_all}
 use Rattle.cbor.proofs.ForCallers.{drop_here}
 use Rattle.model.specs.Transaction.{Input, Output}
 use Rattle.model.specs.Utxo.{Utxo, place, pairs_from, with_pairs}
+pub use Rattle.utxo_rules.proofs.Crossing.{Utxo-send}
 
 -- what `?` makes of an error has what this one has
 pub if_err : {X E : Type 0} (result : Result X E) (is : E) (P : E → Type 0) → IsErrAnd result (λ e. e ≡ is) → P is → IfErr result P

@@ -3,6 +3,7 @@ pub mod Searches
 pub mod Coins
 pub mod Gathered
 pub mod Balancing
+pub mod Crossing
 pub mod ForCallers
 pub mod Pairs
 pub mod Ends

@@ -1,3 +1,4 @@
 pub mod View
 pub mod Spent
 pub mod Check
+pub mod Texts

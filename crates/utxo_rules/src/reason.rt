@@ -3,6 +3,7 @@
 ghost use Rattle.std.specs.Prelude.{◌≡◌};
 ghost use Rattle.model.specs.Rules.{reason_number};
 ghost use Rattle.utxo_rules.specs.View.{reason_of};
+ghost use Rattle.utxo_rules.specs.Texts.{reason_name};
 
 use thiserror::Error;
 
@@ -74,6 +75,28 @@ impl Reason {
             Reason::MissingScript => 12,
             Reason::ExtraScript => 13,
             Reason::ScriptFails => 14,
+        }
+    }
+
+    /// The name of the reason, as it stands here.
+    pub fn name(self) -> &'static str
+        ensures { result.now ≡ reason_name (reason_of self) }
+    {
+        match self {
+            Reason::OutsideInterval => "OutsideInterval",
+            Reason::NoInputs => "NoInputs",
+            Reason::TooBig => "TooBig",
+            Reason::FeeTooSmall => "FeeTooSmall",
+            Reason::MissingInput => "MissingInput",
+            Reason::OutputTooSmall => "OutputTooSmall",
+            Reason::WrongNetwork => "WrongNetwork",
+            Reason::NotBalanced => "NotBalanced",
+            Reason::OutputExists => "OutputExists",
+            Reason::BadSignature => "BadSignature",
+            Reason::MissingKeyWitness => "MissingKeyWitness",
+            Reason::MissingScript => "MissingScript",
+            Reason::ExtraScript => "ExtraScript",
+            Reason::ScriptFails => "ScriptFails",
         }
     }
 }

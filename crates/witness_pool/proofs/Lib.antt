@@ -1,4 +1,5 @@
 pub mod Loops
+pub mod Crossing
 pub mod ForCallers
 pub mod Turns
 pub mod Numbers
