@@ -1,24 +1,26 @@
 -- A block that is kept: the chain, the store and the states are settled again.
-use Rattle.std.proofs.Common.{◌≡◌, ◌≢◌, ◌↔◌, ◌⊎◌, ℕ, ◌+◌, ◌-◌, ◌<◌, ◌≤◌, true, false, List, [], ◌∷◌, ◌++◌, length, map, Contains, refl, sym, ap, subst, ◌∙◌, arith, inl, inr}
-use Rattle.std.specs.Prelude.{min, Result, Ok, Err, IfOk, OnOk}
+use Rattle.std.proofs.Common.{◌≡◌, ℕ, ◌+◌, ◌-◌, ◌<◌, ◌≤◌, true, false, List, ◌∷◌, ◌++◌, length, Contains, refl, sym, ap, subst, ◌∙◌, arith, inl, inr}
+use Rattle.std.specs.Prelude.{min, Result, Ok, Err, IfOk, OnOk, OnErr}
 use Rattle.std.specs.declared.alloc.AllocError.{AllocError}
 use Rattle.std.specs.List.{AllByRecursion}
 use Rattle.std.proofs.lemmas.List.{length-append, length-take}
 use Rattle.std.proofs.lemmas.List.Elements.{Contains-append_right}
-use Rattle.model.specs.Block.{Block, block_hash_of}
-use Rattle.model.specs.Genesis.{Genesis}
+use Rattle.model.specs.Block.{Block}
 use Rattle.model.specs.Ledger.{Network}
 use Rattle.model.specs.Chain.{HaveDistinctHashes, immutable_length}
+use Rattle.std.specs.Global.{Vec}
+use Rattle.model.specs.Rules.{Params}
+use Rattle.model.specs.Applying.{LedgerState, IsStateOf}
+use Rattle.model.specs.Mempool.{SubmitReply, revalidated}
 use Rattle.model.specs.History.{IsChange}
 use Rattle.model.proofs.Lists.{all_of_member, all_from_members, contains_first, contains_later, contains_cases}
 use Rattle.model.proofs.MappedLists.{contains_map, contains_before}
 use Rattle.model.proofs.Chains.{one_with_hash}
 use Rattle.model.proofs.Selections.{selection_not_shorter}
 use Rattle.ident.specs.Kinds.{BlockHash}
-use Rattle.blockstore.specs.Stored.{Stored, Store, unmarked, HasBlock, blocks_of, IsSet}
-use Rattle.blockstore.specs.Insertion.{IsInserted}
+use Rattle.blockstore.specs.Stored.{Stored, Store, unmarked, HasBlock, blocks_of}
 use Rattle.blockstore.specs.Live.{HoldsLive}
-use Rattle.ledgerdb.specs.Values.{Database, Prepared, depth, count}
+use Rattle.ledgerdb.specs.Values.{Database, depth, count}
 use Rattle.ledgerdb.specs.Chains.{without_last, IsDatabaseOf, IsPreparedOf}
 use Rattle.ledgerdb.proofs.ForCallers.{prepared_count}
 use Rattle.chainsel.specs.Dead.{IsDead}
@@ -28,7 +30,13 @@ use Rattle.chainsel.specs.declared.choice.Switch.{Switch}
 use Rattle.chainsel.proofs.ForCallers.{at_hand, dead_with, selection_at_hand, IsNextStore, settled_again, switched_at_hand, depth_next}
 use Rattle.chain_core.specs.declared.chain_db.ChainDb.{ChainDb}
 use Rattle.chain_core.specs.declared.chain_db.Change.{Change}
-use Rattle.chain_core.specs.ChainDbs.{IsWhole, IsAdded, AreMarked, IsTakenIn, IsCutBack, IsCommitted}
+use Rattle.mempool.specs.Pool.{Pool, Waiting}
+use Rattle.mempool.specs.Calls.{IsSubmission}
+use Rattle.mempool.specs.View.{reply_of}
+use Rattle.mempool.specs.declared.reply.SubmitReply.{SubmitReply as CodeReply}
+use Rattle.chain_core.specs.Pools.{IsPoolOf, IsBroughtTo}
+use Rattle.chain_core.proofs.Pools.{pool_brought, stay_brought, submits, pool_after}
+use Rattle.chain_core.specs.ChainDbs.{IsWhole, IsAdded, IsTakenIn, IsCutBack, IsCommitted, IsTaken}
 
 module _ (network : Network) (chain : List Block) (store : Store) (db : Database) (new : Block) (ready : IsReady network chain store db new) (invalid : List BlockHash)
     (found : AllByRecursion (IsFoundDead network chain (new ∷ blocks_of store)) invalid) (mid : Store) (taken : IsTakenIn store new invalid mid) where
@@ -103,27 +111,57 @@ module _ (network : Network) (chain : List Block) (store : Store) (db : Database
     marks = λ s member marked. marks s ((cut.cut.members s).0 member).0 marked;
   }
 
--- where nothing of it changes it is whole still
-pub whole_same : {S : Type 0} (network : Network) (old new : ChainDb S) → new.chain.items ≡ old.chain.items → new.store ≡ old.store → new.db ≡ old.db → IsWhole network old → IsWhole network new
-whole_same network old new chain store db whole = record {
-  settled = subst (λ (c : List Block). IsSettled network c new.store new.db) (sym chain)
-      (subst (λ (x : Store). IsSettled network old.chain.items x new.db) (sym store) (subst (λ (d : Database). IsSettled network old.chain.items old.store d) (sym db) whole.settled));
+-- the same mempool beside the same chain
+pool_same : (network : Network) (a b : List Block) (p q : Pool) → b ≡ a → q ≡ p → IsPoolOf network a p → IsPoolOf network b q
+pool_same network a b p q chain pool is = subst (λ (c : List Block). IsPoolOf network c q) (sym chain) (subst (IsPoolOf network a) (sym pool) is)
+
+-- where the chain, the store and the states stay it is settled still
+settled_same : {S : Type 0} (network : Network) (old new : ChainDb S) → new.chain.items ≡ old.chain.items → new.store ≡ old.store → new.db ≡ old.db → IsWhole network old → IsSettled network new.chain.items new.store new.db
+settled_same network old new chain store db whole =
+    subst (λ (c : List Block). IsSettled network c new.store new.db) (sym chain)
+    (subst (λ (x : Store). IsSettled network old.chain.items x new.db) (sym store) (subst (λ (d : Database). IsSettled network old.chain.items old.store d) (sym db) whole.settled))
+
+-- and whole, with a mempool beside the chain
+whole_with : {S : Type 0} (network : Network) (old new : ChainDb S) → new.chain.items ≡ old.chain.items → new.store ≡ old.store → new.db ≡ old.db → IsPoolOf network old.chain.items new.mempool → IsWhole network old → IsWhole network new
+whole_with network old new chain store db pool whole = record {
+  settled = settled_same network old new chain store db whole;
   k = ap (λ (d : Database). d.k) db ∙ whole.k;
   capacity = ap (λ (x : Store). x.capacity) store ∙ whole.capacity;
+  pool = subst (λ (c : List Block). IsPoolOf network c new.mempool) (sym chain) pool;
 }
+
+-- where nothing of it changes it is whole still
+pub whole_same : {S : Type 0} (network : Network) (old new : ChainDb S) → new.chain.items ≡ old.chain.items → new.store ≡ old.store → new.db ≡ old.db → new.mempool ≡ old.mempool → IsWhole network old → IsWhole network new
+whole_same network old new chain store db mempool whole = whole_with network old new chain store db (subst (IsPoolOf network old.chain.items) (sym mempool) whole.pool) whole
+
+-- ---- a submission
+
+pub taken : {S : Type 0} (network : Network) (old new : ChainDb S) (state : LedgerState) (params : Params) (slot : ℕ) (bytes : List ℕ) (reply : SubmitReply) → IsWhole network old → IsStateOf network old.chain.items state → params ≡ state.params → slot ≡ state.tip.slot
+    → IsSubmission network.verifies params (slot + 1) old.mempool bytes reply new.mempool → new.chain ≡ old.chain → new.store ≡ old.store → new.db ≡ old.db → IsTaken network old bytes reply new
+taken network old new state params slot bytes reply whole is params_is slot_is submission chain store db = record {
+  submits = submits network old.chain.items state is old.mempool new.mempool whole.pool params slot bytes reply params_is slot_is submission;
+  whole = whole_with network old new (ap (λ (v : Vec Block). v.items) chain) store db (pool_after network old.chain.items state is old.mempool new.mempool whole.pool params slot bytes reply params_is slot_is submission) whole;
+}
+
+-- so it is whole after a submission, whatever is answered
+pub whole_after : {S : Type 0} (network : Network) (old new : ChainDb S) (bytes : List ℕ) (result : Result CodeReply AllocError) → IfOk result (λ reply. IsTaken network old bytes (reply_of reply) new) → new.chain ≡ old.chain → new.store ≡ old.store → new.db ≡ old.db
+    → OnErr result (new.mempool ≡ old.mempool) → IsWhole network old → IsWhole network new
+whole_after network old new bytes (Ok reply) ok chain store db err whole = ok.whole
+whole_after network old new bytes (Err e) ok chain store db err whole = whole_same network old new (ap (λ (v : Vec Block). v.items) chain) store db err whole
 
 -- ---- all that is kept
 
 module _ {S : Type 0} (network : Network) (old : ChainDb S) (new : Block) (whole : IsWhole network old) (ready : IsReady network old.chain.items old.store old.db new) (invalid : List BlockHash)
     (found : AllByRecursion (IsFoundDead network old.chain.items (new ∷ blocks_of old.store)) invalid) where
   -- the chain stays
-  pub added_kept : (next : ChainDb S) (told : Change) → IsTakenIn old.store new invalid next.store → next.chain.items ≡ old.chain.items → next.db ≡ old.db → told.back ≡ 0 → told.added ≡ 0
+  pub added_kept : (next : ChainDb S) (told : Change) → IsTakenIn old.store new invalid next.store → next.chain.items ≡ old.chain.items → next.db ≡ old.db → next.mempool ≡ old.mempool → told.back ≡ 0 → told.added ≡ 0
       → IsSelected network old.store old.chain.items new old.chain.items → IsAdded network old new next told
-  added_kept next told taken same_chain same_db no_back none_added selected = record {
+  added_kept next told taken same_chain same_db same_pool no_back none_added selected = record {
     selected = subst (IsSelected network old.store old.chain.items new) (sym same_chain) selected;
     change = subst (λ (c : List Block). IsChange old.chain.items c told.back told.added) (sym same_chain) (no_change old.chain.items told.back told.added no_back none_added);
     live = λ kept holds. subst (λ (c : List Block). HoldsLive network.genesis (new ∷ kept) c next.store) (sym same_chain)
         (taken.marked.live network.genesis (new ∷ kept) old.chain.items (taken.gains network.genesis kept old.chain.items holds ready.past));
+    mempool = ap (λ (p : Pool). p.waiting.txs) same_pool ∙ (sym whole.pool.valid ∙ ap (λ (c : List Block). revalidated network c old.mempool.waiting.txs) (sym same_chain));
     whole = record {
       settled = subst (λ (d : Database). IsSettled network next.chain.items next.store d) (sym same_db)
           (subst (λ (c : List Block). IsSettled network c next.store old.db) (sym same_chain)
@@ -132,6 +170,7 @@ module _ {S : Type 0} (network : Network) (old : ChainDb S) (new : Block) (whole
           (kept_store network old.chain.items old.store old.db new ready invalid found next.store taken) ready.settled.database ready.settled.depth));
       k = ap (λ (d : Database). d.k) same_db ∙ whole.k;
       capacity = taken.marked.capacity ∙ (taken.inserted.capacity ∙ whole.capacity);
+      pool = pool_same network old.chain.items next.chain.items old.mempool next.mempool same_chain same_pool whole.pool;
     };
   }
     where
@@ -146,14 +185,16 @@ module _ {S : Type 0} (network : Network) (old : ChainDb S) (new : Block) (whole
   -- or changes
   pub added_switched : (switch : Switch S) (mid : Store) (next : ChainDb S) (told : Change) → IsSwitch network old.chain.items old.store old.db new switch → IsTakenIn old.store new invalid mid
       → next.chain.items ≡ without_last switch.back old.chain.items ++ switch.blocks.items → IsCommitted old.db switch.prepared next.db → IsCutBack mid (length next.chain.items - depth next.db) next.store
+      → (waiting : Waiting) → IsBroughtTo network (without_last switch.back old.chain.items ++ switch.blocks.items) old.mempool.waiting.txs waiting → next.mempool ≡ record old.mempool { waiting = waiting }
       → told.back ≡ switch.back → told.added ≡ length switch.blocks.items → IsAdded network old new next told
-  added_switched switch mid next told is taken chain_is committed cut back_is added_is = record {
+  added_switched switch mid next told is taken chain_is committed cut waiting brought pool_is back_is added_is = record {
     selected = selected;
     change = subst (λ (n : ℕ). IsChange old.chain.items next.chain.items told.back n) (sym added_is)
         (subst (λ (n : ℕ). IsChange old.chain.items next.chain.items n (length switch.blocks.items)) (sym back_is)
         (subst (λ (c : List Block). IsChange old.chain.items c switch.back (length switch.blocks.items)) (sym chain_is) is.change));
     live = λ kept holds. cut.live network.genesis (new ∷ kept) old.chain.items next.chain.items
         (taken.marked.live network.genesis (new ∷ kept) old.chain.items (taken.gains network.genesis kept old.chain.items holds ready.past)) further number;
+    mempool = stay_brought network next.chain.items old.mempool next.mempool waiting brought_here pool_is;
     whole = record {
       settled = settled_again network old.chain.items old.store old.db new ready next.chain.items next.store next.db selected
           (subst (AllByRecursion (Contains (at_hand old.chain.items old.store new))) (sym chain_is) (switched_at_hand old.chain.items old.store new switch.back switch.blocks.items is.members))
@@ -161,9 +202,13 @@ module _ {S : Type 0} (network : Network) (old : ChainDb S) (new : Block) (whole
           database deep;
       k = committed.k ∙ whole.k;
       capacity = cut.cut.capacity ∙ (taken.marked.capacity ∙ (taken.inserted.capacity ∙ whole.capacity));
+      pool = pool_brought network next.chain.items old.mempool next.mempool waiting whole.pool.capacity brought_here pool_is;
     };
   }
     where
+      brought_here : IsBroughtTo network next.chain.items old.mempool.waiting.txs waiting
+      brought_here = subst (λ (c : List Block). IsBroughtTo network c old.mempool.waiting.txs waiting) (sym chain_is) brought
+
       selected : IsSelected network old.store old.chain.items new next.chain.items
       selected = subst (IsSelected network old.store old.chain.items new) (sym chain_is) is.selected
 
@@ -209,8 +254,10 @@ module _ {S : Type 0} (network : Network) (old : ChainDb S) (new : Block) (whole
 
   pub added_at_switch : (switch : Switch S) (mid next : ChainDb S) (result : Result Change AllocError) → IsSwitch network old.chain.items old.store old.db new switch → IsTakenIn old.store new invalid mid.store
       → mid.chain.items ≡ old.chain.items → mid.db ≡ old.db → OnOk result (next.chain.items ≡ without_last switch.back mid.chain.items ++ switch.blocks.items) → OnOk result (IsCommitted mid.db switch.prepared next.db)
-      → OnOk result (IsCutBack mid.store (length next.chain.items - depth next.db) next.store) → IfOk result (λ told. (told.back ≡ switch.back) × (told.added ≡ length switch.blocks.items)) → IfOk result (IsAdded network old new next)
-  added_at_switch switch mid next (Err e) is taken same_chain same_db chain_is committed cut told_is = tt
-  added_at_switch switch mid next (Ok told) is taken same_chain same_db chain_is committed cut told_is =
+      → OnOk result (IsCutBack mid.store (length next.chain.items - depth next.db) next.store)
+      → (waiting : Waiting) → IsBroughtTo network (without_last switch.prepared.back old.chain.items ++ switch.blocks.items) old.mempool.waiting.txs waiting → next.mempool ≡ record old.mempool { waiting = waiting } → IfOk result (λ told. (told.back ≡ switch.back) × (told.added ≡ length switch.blocks.items)) → IfOk result (IsAdded network old new next)
+  added_at_switch switch mid next (Err e) is taken same_chain same_db chain_is committed cut waiting brought pool_is told_is = tt
+  added_at_switch switch mid next (Ok told) is taken same_chain same_db chain_is committed cut waiting brought pool_is told_is =
       added_switched switch mid.store next told is taken (chain_is ∙ ap (λ (c : List Block). without_last switch.back c ++ switch.blocks.items) same_chain)
-      (subst (λ (d : Database). IsCommitted d switch.prepared next.db) same_db committed) cut told_is.0 told_is.1
+      (subst (λ (d : Database). IsCommitted d switch.prepared next.db) same_db committed) cut waiting
+      (subst (λ (n : ℕ). IsBroughtTo network (without_last n old.chain.items ++ switch.blocks.items) old.mempool.waiting.txs waiting) is.back brought) pool_is told_is.0 told_is.1

@@ -1,5 +1,5 @@
 -- An arrival, from what its parts promise.
-use Rattle.std.proofs.Common.{◌≡◌, ◌≢◌, ℕ, List, [], ◌∷◌, Contains, Option, Some, None, refl, sym, subst, ◌∙◌, inl, inr}
+use Rattle.std.proofs.Common.{◌≡◌, ◌≢◌, ℕ, List, [], ◌∷◌, Contains, Option, Some, None, Result, Ok, Err, refl, sym, ap, subst, ◌∙◌, inl, inr}
 use Rattle.std.specs.List.{AllByRecursion}
 use Rattle.std.proofs.lemmas.Bool.{cases_lt}
 use Rattle.std.proofs.lemmas.List.{length-map}
@@ -8,16 +8,25 @@ use Rattle.model.specs.Block.{Block, block_hash_of}
 use Rattle.model.specs.Genesis.{Genesis}
 use Rattle.model.specs.Ledger.{Network, network_of}
 use Rattle.model.specs.Chain.{IsSelection, Stays, Changes, immutable_length}
+use Rattle.model.specs.Transaction.{Transaction}
+use Rattle.model.specs.Mempool.{Submits, revalidated}
 use Rattle.model.specs.Follower.{Followers}
-use Rattle.model.specs.History.{State, Refusal, TooOld, Known, Clash, Applies, Arrive, Kept, Refused, IsChange, Keeps, Step}
+use Rattle.model.specs.History.{State, Refusal, TooOld, Known, Clash, Applies, Arrive, Submit, Kept, Refused, IsChange, Keeps, Step}
 use Rattle.model.proofs.Lists.{all_from_members, all_weaker, contains_later}
-use Rattle.blockstore.specs.Stored.{Stored, blocks_of}
+use Rattle.std.specs.Prelude.{IfOk, OnErr}
+use Rattle.std.specs.Global.{Vec}
+use Rattle.std.specs.declared.alloc.AllocError.{AllocError}
+use Rattle.mempool.specs.Pool.{Pool}
+use Rattle.mempool.specs.View.{reply_of as answer_of}
+use Rattle.mempool.specs.declared.reply.SubmitReply.{SubmitReply}
+use Rattle.blockstore.specs.Stored.{Stored, Store, blocks_of}
 use Rattle.blockstore.specs.Live.{HoldsLive}
 use Rattle.chainsel.specs.Ready.{IsReady}
 use Rattle.chainsel.proofs.ForCallers.{settled_live}
 use Rattle.chain_core.specs.declared.chain_db.ChainDb.{ChainDb}
 use Rattle.chain_core.specs.declared.chain_db.Change.{Change}
-use Rattle.chain_core.specs.ChainDbs.{IsWhole, HasState, IsAdded}
+use Rattle.chain_core.specs.ChainDbs.{IsWhole, HasState, IsAdded, IsTaken}
+use Rattle.chain_core.specs.Views.{submit_reply_of}
 use Rattle.chain_core.specs.Held.{Held, Stands, held_of}
 use Rattle.chain_core.specs.Judgements.{IsJudged}
 
@@ -25,7 +34,7 @@ use Rattle.chain_core.specs.Judgements.{IsJudged}
 
 -- the state in which nothing is kept but the live blocks
 abbrev pub at_rest : {S : Type 0} → ChainDb S → State
-at_rest a = record { kept = blocks_of a.store; chain = a.chain.items; followers = [] }
+at_rest a = record { kept = blocks_of a.store; chain = a.chain.items; mempool = []; followers = [] }
 
 pub rests : {S : Type 0} (network : Network) (a : ChainDb S) → IsWhole network a → HasState network.genesis a (at_rest a)
 rests network a whole = record { chain = refl; live = settled_live network a.chain.items a.store a.db whole.settled }
@@ -43,7 +52,7 @@ is_ready network a b bytes whole read judged =
 
 -- ---- steps of each state that the core stands for
 
-state_of : {S : Type 0} (genesis : Genesis) (a : ChainDb S) (followers : Followers) (s : State) → Stands (held_of genesis (blocks_of a.store) a.chain.items followers) s → HasState genesis a s
+state_of : {S : Type 0} (genesis : Genesis) (a : ChainDb S) (followers : Followers) (s : State) → Stands (held_of genesis (blocks_of a.store) a.chain.items a.mempool.waiting.txs followers) s → HasState genesis a s
 state_of genesis a followers s stands = record {
   chain = stands.chain;
   live = record { members = stands.members; count = sym (length-map a.store.blocks (λ (x : Stored). x.block)) ∙ stands.count };
@@ -54,14 +63,14 @@ abbrev pub IsJudgedAt : {S : Type 0} → Genesis → ChainDb S → Block → Opt
 IsJudgedAt genesis a b answer = (s : State) → HasState genesis a s → IsJudged genesis s b answer
 
 -- a refusal
-pub refused_arrival : {S : Type 0} (network : Network) (a : ChainDb S) (followers : Followers) (now : Held) (bytes : List ℕ) (b : Block) (r : Refusal) → held_of network.genesis (blocks_of a.store) a.chain.items followers ≡ now → IsRead b bytes
+pub refused_arrival : {S : Type 0} (network : Network) (a : ChainDb S) (followers : Followers) (now : Held) (bytes : List ℕ) (b : Block) (r : Refusal) → held_of network.genesis (blocks_of a.store) a.chain.items a.mempool.waiting.txs followers ≡ now → IsRead b bytes
     → IsJudgedAt network.genesis a b (Some r) → (s : State) → Stands now s → (t : State) × Step (network_of now.genesis network.verifies) s (Arrive bytes) (Refused r) t × Stands now t
 refused_arrival network a followers now bytes b r view read judged =
     subst (λ (h : Held). (s : State) → Stands h s → (t : State) × Step (network_of h.genesis network.verifies) s (Arrive bytes) (Refused r) t × Stands h t) view
     (λ s stands. (s, (judged s (state_of network.genesis a followers s stands) bytes read, refl), stands))
 
 -- where none is told, none applies
-pub none_applies : {S : Type 0} (genesis : Genesis) (a : ChainDb S) (followers : Followers) (now : Held) (bytes : List ℕ) (b : Block) → held_of genesis (blocks_of a.store) a.chain.items followers ≡ now → IsRead b bytes → IsJudgedAt genesis a b None
+pub none_applies : {S : Type 0} (genesis : Genesis) (a : ChainDb S) (followers : Followers) (now : Held) (bytes : List ℕ) (b : Block) → held_of genesis (blocks_of a.store) a.chain.items a.mempool.waiting.txs followers ≡ now → IsRead b bytes → IsJudgedAt genesis a b None
     → (s : State) → Stands now s → (r : Refusal) → Applies now.genesis s bytes r → ⊥
 none_applies genesis a followers now bytes b view read judged =
     subst (λ (h : Held). (s : State) → Stands h s → (r : Refusal) → Applies h.genesis s bytes r → ⊥) view (λ s stands. judged s (state_of genesis a followers s stands) bytes read)
@@ -71,14 +80,14 @@ selection_members network kept old new members (Stays none) = members
 selection_members network kept old new members (Changes c chosen) = chosen.candidate.members
 
 -- a block that is kept
-pub kept_arrival : {S : Type 0} (network : Network) (old new : ChainDb S) (followers : Followers) (now : Held) (bytes : List ℕ) (b : Block) (told : Change) → held_of network.genesis (blocks_of old.store) old.chain.items followers ≡ now → IsRead b bytes
+pub kept_arrival : {S : Type 0} (network : Network) (old new : ChainDb S) (followers : Followers) (now : Held) (bytes : List ℕ) (b : Block) (told : Change) → held_of network.genesis (blocks_of old.store) old.chain.items old.mempool.waiting.txs followers ≡ now → IsRead b bytes
     → IsJudgedAt network.genesis old b None → IsAdded network old b new told
-    → (s : State) → Stands now s → (t : State) × Step (network_of now.genesis network.verifies) s (Arrive bytes) (Kept told.back told.added) t × Stands (held_of network.genesis (blocks_of new.store) new.chain.items followers) t
+    → (s : State) → Stands now s → (t : State) × Step (network_of now.genesis network.verifies) s (Arrive bytes) (Kept told.back told.added) t × Stands (held_of network.genesis (blocks_of new.store) new.chain.items new.mempool.waiting.txs followers) t
 kept_arrival {S} network old new followers now bytes b told view read judged added =
-    subst (λ (h : Held). (s : State) → Stands h s → (t : State) × Step (network_of h.genesis network.verifies) s (Arrive bytes) (Kept told.back told.added) t × Stands (held_of network.genesis (blocks_of new.store) new.chain.items followers) t) view each
+    subst (λ (h : Held). (s : State) → Stands h s → (t : State) × Step (network_of h.genesis network.verifies) s (Arrive bytes) (Kept told.back told.added) t × Stands (held_of network.genesis (blocks_of new.store) new.chain.items new.mempool.waiting.txs followers) t) view each
   where
-    each : (s : State) → Stands (held_of network.genesis (blocks_of old.store) old.chain.items followers) s
-        → (t : State) × Keeps network s bytes told.back told.added t × Stands (held_of network.genesis (blocks_of new.store) new.chain.items followers) t
+    each : (s : State) → Stands (held_of network.genesis (blocks_of old.store) old.chain.items old.mempool.waiting.txs followers) s
+        → (t : State) × Keeps network s bytes told.back told.added t × Stands (held_of network.genesis (blocks_of new.store) new.chain.items new.mempool.waiting.txs followers) t
     each s stands =
         let has = state_of network.genesis old followers s stands in
         let live : HoldsLive network.genesis s.kept old.chain.items old.store = subst (λ (c : List Block). HoldsLive network.genesis s.kept c old.store) (sym has.chain) has.live in
@@ -86,21 +95,62 @@ kept_arrival {S} network old new followers now bytes b told view read judged add
         let in_old : AllByRecursion (Contains s.kept) old.chain.items = subst (AllByRecursion (Contains s.kept)) (sym stands.chain) stands.chain_kept in
         let in_both = all_weaker (Contains s.kept) (Contains (b ∷ s.kept)) old.chain.items (λ c member. contains_later b s.kept c member) in_old in
         let selection : IsSelection network (b ∷ s.kept) old.chain.items new.chain.items = added.selected s.kept live in_old in (
-          record { kept = b ∷ s.kept; chain = new.chain.items; followers = s.followers },
+          record { kept = b ∷ s.kept; chain = new.chain.items; mempool = new.mempool.waiting.txs; followers = s.followers },
           record {
             block = b;
             read = read.read;
             not_refused = judged s has bytes read;
             kept = refl;
             followers = refl;
+            mempool = added.mempool ∙ ap (revalidated network new.chain.items) stands.mempool;
             selection = subst (λ (c : List Block). IsSelection network (b ∷ s.kept) c new.chain.items) stands.chain selection;
             change = subst (λ (c : List Block). IsChange c new.chain.items told.back told.added) stands.chain added.change;
           },
           record {
             chain = refl;
+            mempool = refl;
             followers = stands.followers;
             members = after.members;
             count = length-map new.store.blocks (λ (x : Stored). x.block) ∙ after.count;
             chain_kept = selection_members network (b ∷ s.kept) old.chain.items new.chain.items in_both selection;
           },
+        )
+
+-- ---- a submission
+
+-- bytes that are submitted, and what they leave
+abbrev pub SubmitSteps : {S : Type 0} → Network → ChainDb S → Followers → List ℕ → Held → Result SubmitReply AllocError → Type 0
+SubmitSteps network new followers bytes now result = (s : State) → Stands now s
+    → (t : State) × Step (network_of now.genesis network.verifies) s (Submit bytes) (submit_reply_of result) t
+    × Stands (held_of network.genesis (blocks_of new.store) new.chain.items new.mempool.waiting.txs followers) t
+
+pub submitted : {S : Type 0} (network : Network) (old new : ChainDb S) (followers : Followers) (now : Held) (bytes : List ℕ) (result : Result SubmitReply AllocError) → held_of network.genesis (blocks_of old.store) old.chain.items old.mempool.waiting.txs followers ≡ now → IsWhole network old
+    → IfOk result (λ reply. (genesis : Genesis) → IsWhole (network_of genesis network.verifies) old → IsTaken (network_of genesis network.verifies) old bytes (answer_of reply) new) → new.chain ≡ old.chain → new.store ≡ old.store → OnErr result (new.mempool ≡ old.mempool)
+    → SubmitSteps network new followers bytes now result
+submitted {S} network old new followers now bytes (Err e) view whole ok chain store err =
+    subst (λ (h : Held). SubmitSteps network new followers bytes h (Err e)) view
+    (λ s stands. (
+      s,
+      refl,
+      subst (λ (m : List Transaction). Stands (held_of network.genesis (blocks_of new.store) new.chain.items m followers) s) (sym (ap (λ (p : Pool). p.waiting.txs) err))
+          (subst (λ (c : Vec Block). Stands (held_of network.genesis (blocks_of new.store) c.items old.mempool.waiting.txs followers) s) (sym chain)
+          (subst (λ (x : Store). Stands (held_of network.genesis (blocks_of x) old.chain.items old.mempool.waiting.txs followers) s) (sym store) stands)),
+    ))
+submitted {S} network old new followers now bytes (Ok reply) view whole ok chain store err =
+    subst (λ (h : Held). SubmitSteps network new followers bytes h (Ok reply)) view each
+  where
+    each : SubmitSteps network new followers bytes (held_of network.genesis (blocks_of old.store) old.chain.items old.mempool.waiting.txs followers) (Ok reply)
+    each s stands =
+        let is = ok network.genesis whole in
+        let t : State = record { kept = s.kept; chain = s.chain; mempool = new.mempool.waiting.txs; followers = s.followers } in (
+          t,
+          record {
+            mempool = new.mempool.waiting.txs;
+            submits = subst (λ (c : List Block). Submits network c s.mempool bytes (answer_of reply) new.mempool.waiting.txs) stands.chain
+                (subst (λ (m : List Transaction). Submits network old.chain.items m bytes (answer_of reply) new.mempool.waiting.txs) stands.mempool is.submits);
+            after = refl;
+          },
+          subst (λ (c : Vec Block). Stands (held_of network.genesis (blocks_of new.store) c.items new.mempool.waiting.txs followers) t) (sym chain)
+              (subst (λ (x : Store). Stands (held_of network.genesis (blocks_of x) old.chain.items new.mempool.waiting.txs followers) t) (sym store)
+              (record { chain = stands.chain; mempool = refl; followers = stands.followers; members = stands.members; count = stands.count; chain_kept = stands.chain_kept })),
         )

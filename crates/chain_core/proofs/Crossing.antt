@@ -4,8 +4,9 @@ use denote.RattleType.{RattleType}
 use denote.Param.Send.{IsSend, sendable}
 use Rattle.std.proofs.Crossing.{crosses}
 use Rattle.std.proofs.collections.LinkedList.TheSendSync as list
-use Rattle.persistent_map.proofs.tree.Tree.TheLaws.TheKnot as tree
-use Rattle.utxo_rules.specs.contracts.utxo.Utxo as Utxo
+use Rattle.utxo_rules.proofs.ForCallers.{Utxo-send}
+use Rattle.mempool.proofs.ForCallers.{Mempool-send}
+use Rattle.mempool.proofs.reply.SubmitReply.TheSendSync as submitted
 use Rattle.utxo_rules.proofs.params.Params.TheSendSync as params
 use Rattle.genesis.proofs.genesis.Genesis.TheSendSync as genesis
 use Rattle.ledger.proofs.tip.Tip.TheSendSync as tip
@@ -20,12 +21,9 @@ use Rattle.chain_core.specs.contracts.node_core.Core as Core
 use Rattle.chain_core.specs.contracts.follower.Instruction as Instruction
 use Rattle.chain_core.specs.contracts.event.Reply as Reply
 
-utxo_send : IsSend (Utxo.the_field).row
-utxo_send = search (crosses, tree.crosses, sendable) depth 60 fits 20000
-
 state_send : IsSend (LedgerState.the_field).row
 state_send =
-    let u = utxo_send in
+    let u = Utxo-send in
     let p = params.the_field_send in
     let t = tip.the_field_send in
     search (crosses, sendable) depth 20
@@ -45,6 +43,7 @@ module _ (S : RattleType) (scheme : Ghosts S.Denot) where
       let b = CheckedBlock-send S scheme in
       let s = store_send in
       let d = db_send in
+      let m = Mempool-send S scheme in
       search (crosses, sendable) depth 20
 
   pub Core-send : IsSend (Core.the_field S scheme).row
@@ -58,4 +57,7 @@ module _ (S : RattleType) (scheme : Ghosts S.Denot) where
   instruction_send = let b = CheckedBlock-send S scheme in search (crosses, sendable) depth 20
 
   pub Reply-send : IsSend (Reply.the_field S scheme).row
-  Reply-send = let i = instruction_send in search (crosses, sendable) depth 20
+  Reply-send =
+      let i = instruction_send in
+      let s = submitted.the_field_send in
+      search (crosses, sendable) depth 40 fits 20000

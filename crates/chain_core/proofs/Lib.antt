@@ -1,4 +1,5 @@
 pub mod NextStores
+pub mod Pools
 pub mod Adding
 pub mod Tips
 pub mod Refusals

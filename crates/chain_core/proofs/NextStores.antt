@@ -1,15 +1,13 @@
 -- What becomes of the store when a block is kept.
-use Rattle.std.proofs.Common.{◌≡◌, ◌≢◌, ◌↔◌, ◌⊎◌, ℕ, ◌+◌, ◌<◌, ◌≤◌, Bool, true, false, List, [], ◌∷◌, ◌++◌, length, map, take, get_or, Contains, refl, sym, ap, subst, ◌∙◌, arith, inl, inr}
-use Rattle.std.specs.Prelude.{bytes_eq, if◌then◌else◌}
-use Rattle.std.specs.List.{AllByRecursion}
+use Rattle.std.proofs.Common.{◌≡◌, ◌≢◌, ◌↔◌, ◌⊎◌, ℕ, Bool, true, false, List, [], ◌∷◌, ◌++◌, Contains, refl, sym, ap, subst, ◌∙◌, inl, inr}
+use Rattle.std.specs.Prelude.{bytes_eq}
 use Rattle.std.proofs.lemmas.Slice.Eq.{bytes_eq-Decides}
-use Rattle.std.proofs.lemmas.List.{take_more}
 use Rattle.std.proofs.lemmas.List.Elements.{Contains-append_left, Contains-append_right}
-use Rattle.model.specs.Block.{Block, block_hash_of}
-use Rattle.model.proofs.Lists.{contains_first, nothing_contained}
+use Rattle.model.specs.Block.{block_hash_of}
+use Rattle.model.proofs.Lists.{contains_first}
 use Rattle.model.proofs.MappedLists.{contains_map, contains_before}
 use Rattle.ident.specs.Kinds.{BlockHash}
-use Rattle.blockstore.specs.Stored.{Stored, Store, HasBlock, IsSet}
+use Rattle.blockstore.specs.Stored.{Stored, Store, HasBlock}
 use Rattle.blockstore.specs.Answers.{IsMarkedAt, IsMarkSet}
 use Rattle.blockstore.specs.Live.{KeepsLive}
 use Rattle.chain_core.specs.ChainDbs.{AreMarked}

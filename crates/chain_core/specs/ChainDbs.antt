@@ -3,6 +3,7 @@ use Rattle.std.specs.Prelude.{◌≡◌, ◌↔◌, ◌⊎◌, ℕ, ◌+◌, ◌
 use Rattle.model.specs.Block.{Block, block_hash_of}
 use Rattle.model.specs.Genesis.{Genesis}
 use Rattle.model.specs.Ledger.{Network}
+use Rattle.model.specs.Mempool.{SubmitReply, revalidated, Submits}
 use Rattle.model.specs.History.{State, IsChange}
 use Rattle.ident.specs.Kinds.{BlockHash}
 use Rattle.blockstore.specs.Stored.{Stored, Store, HasBlock, IsSet}
@@ -13,14 +14,16 @@ use Rattle.ledgerdb.specs.Values.{Database, Prepared, depth, count}
 use Rattle.ledgerdb.specs.Chains.{without_last, IsDatabaseOf, IsPreparedOf}
 use Rattle.chainsel.specs.Ready.{IsSettled}
 use Rattle.chainsel.specs.Choices.{IsSelected}
+use Rattle.chain_core.specs.Pools.{IsPoolOf}
 use Rattle.chain_core.specs.declared.chain_db.ChainDb.{ChainDb}
 use Rattle.chain_core.specs.declared.chain_db.Change.{Change}
 
--- between two arrivals: settled, with the limits of the genesis
+-- between two arrivals: settled, with the limits of the genesis, and the mempool beside the chain
 pub record IsWhole {S : Type 0} (network : Network) (a : ChainDb S) : Type 0 where
   pub settled : IsSettled network a.chain.items a.store a.db
   pub k : a.db.k ≡ network.genesis.k
   pub capacity : a.store.capacity ≡ network.genesis.max_volatile
+  pub pool : IsPoolOf network a.chain.items a.mempool
 
 -- the state has this chain, and its live blocks are those of the store
 pub record HasState {S : Type 0} (genesis : Genesis) (a : ChainDb S) (s : State) : Type 0 where
@@ -28,13 +31,14 @@ pub record HasState {S : Type 0} (genesis : Genesis) (a : ChainDb S) (s : State)
   pub live : HoldsLive genesis s.kept s.chain a.store
 
 -- A block was kept, and the selection rule asked. Where the store had what was live of the kept blocks, it then has
--- what is live of these and this one.
+-- what is live of these and this one. The mempool was brought up to date.
 pub record IsAdded {S : Type 0} (network : Network) (old : ChainDb S) (block : Block) (new : ChainDb S)
     (told : Change) : Type 0 where
   pub selected : IsSelected network old.store old.chain.items block new.chain.items
   pub change : IsChange old.chain.items new.chain.items told.back told.added
   pub live : (kept : List Block) → HoldsLive network.genesis kept old.chain.items old.store
       → HoldsLive network.genesis (block ∷ kept) new.chain.items new.store
+  pub mempool : new.mempool.waiting.txs ≡ revalidated network new.chain.items old.mempool.waiting.txs
   pub whole : IsWhole network new
 
 -- the same blocks, of which those have a mark that had one, and those of these hashes
@@ -67,3 +71,9 @@ pub record IsCommitted (old : Database) (prepared : Prepared) (new : Database) :
   pub chain : (network : Network) (chain blocks : List Block) → IsDatabaseOf network chain old
       → IsPreparedOf network (without_last prepared.back chain) blocks prepared
       → IsDatabaseOf network (without_last prepared.back chain ++ blocks) new
+
+-- bytes of a transaction were submitted and answered so
+pub record IsTaken {S : Type 0} (network : Network) (old : ChainDb S) (bytes : List ℕ) (reply : SubmitReply)
+    (new : ChainDb S) : Type 0 where
+  pub submits : Submits network old.chain.items old.mempool.waiting.txs bytes reply new.mempool.waiting.txs
+  pub whole : IsWhole network new

@@ -1,5 +1,4 @@
 -- What the fields of a core stand for.
-use Rattle.std.specs.Prelude.{◌≡◌}
 use Rattle.model.specs.Signature.{Verifies}
 use Rattle.model.specs.Ledger.{network_of}
 use Rattle.blockstore.specs.Stored.{blocks_of}
@@ -9,8 +8,9 @@ use Rattle.chain_core.specs.ChainDbs.{IsWhole}
 use Rattle.chain_core.specs.Held.{Held, held_of}
 
 abbrev pub held : {S : Type 0} → Inside S → Held
-held a = held_of a.genesis (blocks_of a.chain_db.store) a.chain_db.chain.items (followers_of a.followers.items)
+held a = held_of a.genesis (blocks_of a.chain_db.store) a.chain_db.chain.items a.chain_db.mempool.waiting.txs
+    (followers_of a.followers.items)
 
--- the selected chain, the live blocks and the states belong together
+-- the selected chain, the live blocks, the states and the mempool belong together
 pub record IsSoundInside {S : Type 0} (verifies : Verifies) (a : Inside S) : Type 0 where
   pub whole : IsWhole (network_of a.genesis verifies) a.chain_db

@@ -1,4 +1,5 @@
 pub mod Held
+pub mod Pools
 pub mod ChainDbs
 pub mod Views
 pub mod Texts

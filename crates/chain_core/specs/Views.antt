@@ -6,6 +6,8 @@ use Rattle.model.specs.Block.{Block, block_text}
 use Rattle.model.specs.Follower as follower
 use Rattle.model.specs.History as history
 use Rattle.ident.specs.PointView.{point_of}
+use Rattle.mempool.specs.View.{reply_of as answer_of}
+use Rattle.mempool.specs.declared.reply.SubmitReply.{SubmitReply}
 use Rattle.chain_core.specs.declared.arrival.Refusal.{Refusal}
 use Rattle.chain_core.specs.declared.arrival.Refusal.TheVariants.{TooLarge, Malformed, BodyHashMismatch, TooOld, Known}
 use Rattle.chain_core.specs.declared.arrival.Refusal.TheVariants.{Clash, VolatileFull}
@@ -39,6 +41,12 @@ arrive_reply_of (Ok (Kept back added)) = history.Kept back added
 arrive_reply_of (Ok (Refused refusal)) = history.Refused (refusal_of refusal)
 arrive_reply_of (Err want) = history.OutOfMemory
 
+-- ---- submissions
+
+abbrev pub submit_reply_of : Result SubmitReply AllocError → history.Reply
+submit_reply_of (Ok reply) = history.Submitted (answer_of reply)
+submit_reply_of (Err want) = history.OutOfMemory
+
 -- ---- followers
 
 -- a block to put on is told by its bytes, as they arrived
@@ -65,17 +73,20 @@ next_reply_of (Err next.OutOfMemory) = history.OutOfMemory
 
 abbrev pub event_of : RawEvent → history.Event
 event_of (event.Arrive bytes) = history.Arrive bytes.items
+event_of (event.Submit bytes) = history.Submit bytes.items
 event_of event.Open = history.Open
 event_of (event.Next id) = history.Next id.number
 
 abbrev pub reply_of : {S : Type 0} → Reply S → history.Reply
 reply_of (reply.Arrive answer) = arrive_reply_of answer
+reply_of (reply.Submit answer) = submit_reply_of answer
 reply_of (reply.Open answer) = open_reply_of answer
 reply_of (reply.Next answer) = next_reply_of answer
 
 -- the reply is of the event's kind
 abbrev pub IsReplyTo : {S : Type 0} → RawEvent → Reply S → Type 0
 IsReplyTo (event.Arrive bytes) (reply.Arrive answer) = Unit {0}
+IsReplyTo (event.Submit bytes) (reply.Submit answer) = Unit {0}
 IsReplyTo event.Open (reply.Open answer) = Unit {0}
 IsReplyTo (event.Next id) (reply.Next answer) = Unit {0}
 IsReplyTo e r = ⊥

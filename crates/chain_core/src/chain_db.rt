@@ -1,14 +1,21 @@
 //! The selected chain with what selection stands on.
 
-ghost use Rattle.std.specs.Prelude.{◌≡◌, ◌≤◌, ◌+◌, ◌-◌, ◌++◌, [], length, IfOk, OnOk, OnErr, vec_capacity};
+ghost use Rattle.std.specs.Prelude.{◌≡◌, ◌≤◌, ◌+◌, ◌-◌, ◌++◌, [], List, ℕ, length, IfOk, OnOk, OnErr, vec_capacity};
+ghost use Rattle.model.specs.Genesis.{Genesis};
+ghost use Rattle.model.specs.Transaction.{SpellsTransaction};
+ghost use Rattle.model.specs.Mempool.{IsInPool};
+ghost use Rattle.mempool.specs.View.{reply_of};
+ghost use Rattle.model.specs.Block.{Block};
 ghost use Rattle.model.specs.Ledger.{Network, network_of};
 ghost use Rattle.model.specs.Chain.{immutable_length};
 ghost use Rattle.model.specs.Applying.{IsStateOf};
 ghost use Rattle.blockstore.specs.Stored.{IsSet};
 ghost use Rattle.chainsel.specs.Ready.{IsReady};
 ghost use Rattle.ledgerdb.specs.Values.{depth};
-ghost use Rattle.ledgerdb.specs.Chains.{without_last};
+ghost use Rattle.ledgerdb.specs.Chains.{without_last, IsDatabaseOf, IsPreparedOf};
 ghost use Rattle.chain_core.specs.ChainDbs.{IsWhole, IsAdded, AreMarked, IsTakenIn, IsCutBack, IsCommitted};
+ghost use Rattle.chain_core.specs.ChainDbs.{IsTaken};
+ghost use Rattle.chain_core.specs.Pools.{IsBroughtTo};
 
 use block::CheckedBlock;
 use blockstore::BlockStore;
@@ -17,8 +24,9 @@ use genesis::Genesis;
 use ident::BlockHash;
 use ledger::LedgerState;
 use ledgerdb::LedgerDb;
+use mempool::{Mempool, Resynced, SubmitReply};
 use std::alloc::{AllocError, Global};
-use witness_pool::SigScheme;
+use witness_pool::{CheckedTx, SigScheme};
 
 /// How many blocks of the old selected chain were rolled back, and how many of the new one were put on.
 #[derive(Clone, Copy)]
@@ -27,12 +35,13 @@ pub struct Change {
     pub added: u64,
 }
 
-/// The selected chain, the live blocks, and the states of the chain's last blocks.
+/// The selected chain, the live blocks, the states of the chain's last blocks, and the mempool beside it.
 #[derive(Drop)]
 pub struct ChainDb<S: SigScheme> {
     pub chain: Vec<CheckedBlock<S>>,
     pub store: BlockStore<S>,
     pub db: LedgerDb,
+    pub mempool: Mempool<S>,
 }
 
 /// Marks the blocks of these hashes as blocks that no valid chain will ever have. Takes no memory.
@@ -50,15 +59,18 @@ impl<S: SigScheme> ChainDb<S> {
     pub fn new(alloc: Global, genesis: &Genesis) -> Result<ChainDb<S>, AllocError>
         ensures chain { IfOk result (λ a. a.chain.items ≡ []) }
         ensures blocks { IfOk result (λ a. a.store.blocks ≡ []) }
+        ensures mempool { IfOk result (λ a. a.mempool.waiting.txs ≡ []) }
         ensures whole { IfOk result (λ a. IsWhole (network_of genesis.now S.verifies) a) }
     {
         let opening = LedgerState::new(alloc, genesis)?;
+        let mempool = Mempool::new(alloc, genesis.max_mempool(), opening.utxo())?;
         let store = BlockStore::new(alloc, genesis.max_volatile());
         let db = LedgerDb::new(alloc, opening, genesis.k());
         Ok(ChainDb {
             chain: Vec::new(alloc),
             store,
             db,
+            mempool,
         })
     }
 
@@ -79,7 +91,8 @@ impl<S: SigScheme> ChainDb<S> {
         self.db.state()
     }
 
-    /// Keeps the block, and selects the chain anew. Where memory runs out nothing changes.
+    /// Keeps the block, selects the chain anew, and brings the mempool up to date with it. Where memory runs out nothing
+    /// changes.
     pub fn add(
         &mut self,
         alloc: Global,
@@ -94,6 +107,7 @@ impl<S: SigScheme> ChainDb<S> {
         ensures chain { OnErr result (self.new.chain.items ≡ self.old.chain.items) }
         ensures store { OnErr result (self.new.store ≡ self.old.store) }
         ensures db { OnErr result (self.new.db ≡ self.old.db) }
+        ensures mempool { OnErr result (self.new.mempool ≡ self.old.mempool) }
     {
         let Selection { choice, invalid } = select(
             alloc,
@@ -108,11 +122,27 @@ impl<S: SigScheme> ChainDb<S> {
                 Ok(Change { back: 0, added: 0 })
             }
             Choice::Switch(switch) => {
+                let resynced = self.resync(&switch)?;
                 self.chain.reserve(switch.blocks.len())?;
                 self.insert(block, &invalid)?;
+                self.mempool.put(resynced);
                 self.switch_to(switch)
             }
         }
+    }
+
+    /// What stays of the mempool beside the chain that the switch makes.
+    fn resync(&self, switch: &Switch<S>) -> Result<Resynced<S>, AllocError>
+        requires { switch.now.prepared.back ≤ depth self.now.db }
+        ensures { IfOk result (λ resynced. (genesis : Genesis) (chain blocks : List Block) →
+            IsDatabaseOf (network_of genesis S.verifies) chain self.now.db →
+            IsPreparedOf (network_of genesis S.verifies) (without_last switch.now.prepared.back chain) blocks
+            switch.now.prepared → IsBroughtTo (network_of genesis S.verifies)
+            (without_last switch.now.prepared.back chain ++ blocks) self.now.mempool.waiting.txs resynced) }
+    {
+        let state = self.db.state_after(&switch.prepared);
+        self.mempool
+            .resync(state.params(), state.utxo(), state.slot() + 1)
     }
 
     /// Takes the block into the store, and marks the blocks of these hashes. Where memory runs out nothing changes.
@@ -120,6 +150,7 @@ impl<S: SigScheme> ChainDb<S> {
         ensures ok { OnOk result (IsTakenIn self.old.store block invalid.now self.new.store) }
         ensures chain { self.new.chain ≡ self.old.chain }
         ensures db { self.new.db ≡ self.old.db }
+        ensures mempool { self.new.mempool ≡ self.old.mempool }
         ensures err { OnErr result (self.new.store ≡ self.old.store) }
     {
         if self.store.insert(block).is_err() {
@@ -141,6 +172,7 @@ impl<S: SigScheme> ChainDb<S> {
             (length self.new.chain.items - depth self.new.db) self.new.store) }
         ensures change { IfOk result (λ change.
             (change.back ≡ switch.back) × (change.added ≡ length switch.blocks.items)) }
+        ensures mempool { self.new.mempool ≡ self.old.mempool }
         ensures err { OnErr result ⊥ }
     {
         let mut blocks = switch.blocks;
@@ -154,5 +186,39 @@ impl<S: SigScheme> ChainDb<S> {
         let immutable = self.immutable();
         self.store.drop_up_to(immutable as u64);
         Ok(change)
+    }
+
+    /// Bytes of a transaction are submitted, and judged at the slot after the tip's. Where memory runs out nothing
+    /// changes.
+    pub fn submit(&mut self, bytes: &[u8]) -> Result<SubmitReply, AllocError>
+        ensures ok { IfOk result (λ reply. (genesis : Genesis) → IsWhole (network_of genesis S.verifies) self.old →
+            IsTaken (network_of genesis S.verifies) self.old bytes.now (reply_of reply) self.new) }
+        ensures whole { (genesis : Genesis) → IsWhole (network_of genesis S.verifies) self.old →
+            IsWhole (network_of genesis S.verifies) self.new }
+        ensures chain { self.new.chain ≡ self.old.chain }
+        ensures store { self.new.store ≡ self.old.store }
+        ensures db { self.new.db ≡ self.old.db }
+        ensures err { OnErr result (self.new.mempool ≡ self.old.mempool) }
+    {
+        let state = self.db.state();
+        self.mempool.submit(state.params(), state.slot() + 1, bytes)
+    }
+
+    /// The same of a transaction with its verdicts, whatever bytes spell it.
+    pub fn submit_checked(&mut self, tx: CheckedTx<S>) -> Result<SubmitReply, AllocError>
+        ensures ok { IfOk result (λ reply. (genesis : Genesis) → IsWhole (network_of genesis S.verifies) self.old →
+            (bytes : List ℕ) → SpellsTransaction tx bytes →
+            IsTaken (network_of genesis S.verifies) self.old bytes (reply_of reply) self.new) }
+        ensures whole { (genesis : Genesis) → IsWhole (network_of genesis S.verifies) self.old →
+            IsWhole (network_of genesis S.verifies) self.new }
+        ensures chain { self.new.chain ≡ self.old.chain }
+        ensures store { self.new.store ≡ self.old.store }
+        ensures db { self.new.db ≡ self.old.db }
+        ensures err { OnErr result (self.new.mempool ≡ self.old.mempool) }
+        ensures memory { OnErr result (IsInPool self.old.mempool.waiting.txs tx → ⊥) }
+    {
+        let state = self.db.state();
+        self.mempool
+            .submit_checked(state.params(), state.slot() + 1, tx)
     }
 }

@@ -2,7 +2,9 @@
 
 use crate::arrival::ArriveReply;
 use crate::follower::{FollowerId, Instruction, NextFault, OpenFault};
+use mempool::SubmitReply;
 use std::alloc::AllocError;
+use std::fmt;
 use witness_pool::SigScheme;
 
 /// What comes to the node.
@@ -10,6 +12,8 @@ use witness_pool::SigScheme;
 pub enum RawEvent {
     /// Bytes of a block arrive.
     Arrive(Vec<u8>),
+    /// Bytes of a transaction are submitted.
+    Submit(Vec<u8>),
     /// A follower is opened.
     Open,
     /// A follower is to be told what comes next.
@@ -21,8 +25,37 @@ pub enum RawEvent {
 pub enum Reply<S: SigScheme> {
     /// To bytes of a block.
     Arrive(Result<ArriveReply, AllocError>),
+    /// To bytes of a transaction.
+    Submit(Result<SubmitReply, AllocError>),
     /// To the opening of a follower.
     Open(Result<FollowerId, OpenFault>),
     /// To a follower that asks what comes next.
     Next(Result<Option<Instruction<S>>, NextFault>),
+}
+
+impl<S: SigScheme> fmt::Display for Reply<S> {
+    ghost use Rattle.std.specs.Prelude.{Some};
+    ghost use Rattle.chain_core.specs.Texts.{reply_text};
+
+    ghost output = { λ reply. Some (reply_text reply) };
+
+    /// Writes what was answered to an arrival or a submission, `opened` and the follower's number, or what the follower is told, and
+    /// `none` where it is told nothing; `refused` and the fault's name, or `out of memory`.
+    fn fmt<W: fmt::Write>(&self, f: &mut fmt::Formatter<W>) -> fmt::Result {
+        match self {
+            Reply::Arrive(Ok(reply)) => write!(f, "{reply}"),
+            Reply::Submit(Ok(reply)) => write!(f, "{reply}"),
+            Reply::Open(Ok(id)) => write!(f, "opened {id}"),
+            Reply::Next(Ok(Some(instruction))) => write!(f, "{instruction}"),
+            Reply::Next(Ok(None)) => f.write_str("none"),
+            Reply::Open(Err(OpenFault::TooManyFollowers)) => f.write_str(
+                "refused TooManyFollowers",
+            ),
+            Reply::Next(Err(NextFault::UnknownFollower)) => f.write_str("refused UnknownFollower"),
+            Reply::Arrive(Err(_))
+            | Reply::Submit(Err(_))
+            | Reply::Open(Err(OpenFault::OutOfMemory))
+            | Reply::Next(Err(NextFault::OutOfMemory)) => f.write_str("out of memory"),
+        }
+    }
 }

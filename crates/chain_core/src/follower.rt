@@ -46,6 +46,23 @@ pub enum Instruction<S: SigScheme> {
     RollBack(Point),
 }
 
+impl<S: SigScheme> fmt::Display for Instruction<S> {
+    ghost use Rattle.chain_core.specs.Texts.{instruction_text};
+
+    ghost output = { λ instruction. Some (instruction_text instruction) };
+
+    /// Writes `add` and the block's hash, or `rollback` and the point, with 64 lower case hexadecimal digits.
+    fn fmt<W: fmt::Write>(&self, f: &mut fmt::Formatter<W>) -> fmt::Result {
+        match self {
+            Instruction::AddBlock(block) => {
+                let hash = block.hash();
+                write!(f, "add {hash}")
+            }
+            Instruction::RollBack(point) => write!(f, "rollback {point}"),
+        }
+    }
+}
+
 /// Why no follower is opened.
 #[derive(Clone, Copy, Debug, Drop, PartialEq, Eq, Error)]
 pub enum OpenFault {

@@ -1,4 +1,5 @@
-//! One event, one step: the node's chain, from the bytes of blocks in any order to the selected chain.
+//! One event, one step: the node's chain, from the bytes of blocks in any order to the selected chain, and the mempool
+//! beside it.
 #![tactic(auto)]
 
 mod arrival;

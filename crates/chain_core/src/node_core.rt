@@ -10,10 +10,11 @@ use crate::refusal::first_refusal;
 use block::{BadBytes, CheckedBlock, NoBlock, Seen};
 use genesis::Genesis;
 use ident::Point;
+use mempool::{Mempool, SubmitReply};
 use std::alloc::{AllocError, Global};
 use std::marker::Model;
 use utxo_rules::Utxo;
-use witness_pool::SigScheme;
+use witness_pool::{CheckedTx, SigScheme};
 
 /// The node's chain, from the bytes of blocks in any order.
 ///
@@ -25,8 +26,8 @@ use witness_pool::SigScheme;
 /// }
 /// ```
 ///
-/// The core keeps the selected chain, the live blocks, the states of the chain's last k blocks, and what each follower
-/// was told.
+/// The core keeps the selected chain, the live blocks, the states of the chain's last k blocks, the mempool, and what
+/// each follower was told.
 #[derive(Drop)]
 pub struct Core<S: SigScheme> {
     alloc: Global,
@@ -50,16 +51,18 @@ impl<S: SigScheme> Model for Core<S> {
 }
 
 impl<S: SigScheme> Core<S> {
-    ghost use Rattle.std.specs.Prelude.{◌≡◌, ◌<◌, ◌≤◌, [], length, Some, IfOk, IfErr, OnErr};
+    ghost use Rattle.std.specs.Prelude.{◌≡◌, ◌<◌, ◌≤◌, ℕ, List, [], length, Some, IfOk, IfErr, OnErr};
+    ghost use Rattle.model.specs.Transaction.{SpellsTransaction};
+    ghost use Rattle.model.specs.Mempool.{IsInPool};
     ghost use Rattle.model.specs.Block.{Block as Plain, SpellsBlock};
     ghost use Rattle.model.specs.Chain.{tip_point};
     ghost use Rattle.model.specs.Ledger.{Ledger, network_of, ledger_of};
     ghost use Rattle.model.specs.Limits.{block_size_limit, follower_limit};
     ghost use Rattle.model.specs.Follower.{free_id};
     ghost use Rattle.model.specs.History as history;
-    ghost use Rattle.model.specs.History.{State, Arrive, Open, Next, Step, IsRun, ChainTheorem, Applies};
+    ghost use Rattle.model.specs.History.{State, Arrive, Submit, Open, Next, Step, IsRun, ChainTheorem, Applies};
     ghost use Rattle.ident.specs.PointView.{point_of};
-    ghost use Rattle.chain_core.specs.Views.{event_of, reply_of, arrive_reply_of, open_reply_of};
+    ghost use Rattle.chain_core.specs.Views.{event_of, reply_of, arrive_reply_of, submit_reply_of, open_reply_of};
     ghost use Rattle.chain_core.specs.Views.{next_reply_of, instruction_of, history_of, IsReplyTo, AreRepliesTo};
     ghost use Rattle.chain_core.specs.FollowerCalls.{HasDue, IsNextFor};
     ghost use Rattle.chain_core.specs.Held.{opening_held, Stands};
@@ -78,14 +81,15 @@ impl<S: SigScheme> Core<S> {
         })
     }
 
-    /// Bytes of a block arrive. They are refused for the first reason that applies, or the block is kept and
-    /// the chain is selected anew. Where memory runs out nothing changes.
+    /// Bytes of a block arrive. They are refused for the first reason that applies, or the block is kept, the chain is
+    /// selected anew, and the mempool is brought up to date with it. Where memory runs out nothing changes.
     ///
     /// Reads and hashes the bytes once, and copies them once where they aren't refused. A refusal takes no memory, but
     /// for the transactions that are read before it is known. A block that extends the tip is judged once, and one of
     /// a fork that is not longer isn't judged. The rest grows with the blocks of the chain, whose hashes are compared
     /// once, and with the live blocks, whose hashes and numbers are compared a few times, and once more for each block
-    /// on the way to the new one and for each that goes on from it.
+    /// on the way to the new one and for each that goes on from it. Where the chain changes, each transaction of the
+    /// mempool is judged once.
     pub fn arrive(&mut self, bytes: &[u8]) -> Result<ArriveReply, AllocError>
         // For every state of the definitions that the core stands for, this is a step to one that it then stands for.
         ensures step { (s : State) → Stands self.old s → (t : State)
@@ -154,6 +158,42 @@ impl<S: SigScheme> Core<S> {
         })
     }
 
+    /// Bytes of a transaction are submitted. They are judged on what the mempool's transactions leave of the selected
+    /// chain's unspent outputs, at the slot after its tip's, and the transaction waits at the mempool's end, or the reply
+    /// says why it doesn't. Where memory runs out nothing changes.
+    ///
+    /// Linear in the bytes, with a look-up of the identifier; only a transaction that is new has its signatures verified.
+    pub fn submit(&mut self, bytes: &[u8]) -> Result<SubmitReply, AllocError>
+        ensures step { (s : State) → Stands self.old s → (t : State)
+            × Step (network_of self.old.genesis S.verifies) s (Submit bytes.now) (submit_reply_of result) t
+            × Stands self.new t }
+        ensures genesis { self.new.genesis ≡ self.old.genesis }
+        ensures err { OnErr result (self.new ≡ self.old) }
+    {
+        self.chain_db.submit(bytes)
+    }
+
+    /// A transaction is submitted whose signatures and scripts were judged before, on this thread or another. The answer
+    /// is that of [`Core::submit`] to its bytes. Where memory runs out nothing changes.
+    pub fn submit_checked(&mut self, tx: CheckedTx<S>) -> Result<SubmitReply, AllocError>
+        ensures step { (bytes : List ℕ) → SpellsTransaction tx bytes → (s : State) → Stands self.old s → (t : State)
+            × Step (network_of self.old.genesis S.verifies) s (Submit bytes) (submit_reply_of result) t
+            × Stands self.new t }
+        // Memory is asked for only where the transaction isn't known.
+        ensures memory { OnErr result (IsInPool self.old.mempool tx → ⊥) }
+        ensures genesis { self.new.genesis ≡ self.old.genesis }
+        ensures err { OnErr result (self.new ≡ self.old) }
+    {
+        self.chain_db.submit_checked(tx)
+    }
+
+    /// The transactions that wait to come into a block, in the order in which they came. Takes no memory.
+    pub fn mempool(&self) -> &Mempool<S>
+        ensures { result.now.waiting.txs ≡ self.now.mempool }
+    {
+        &self.chain_db.mempool
+    }
+
     /// Opens a follower of the least number that is free, 0 to 1,023. It was told nothing, and stands at genesis. Where
     /// there are 1,024, or memory runs out, nothing changes.
     pub fn open(&mut self) -> Result<FollowerId, OpenFault>
@@ -201,6 +241,7 @@ impl<S: SigScheme> Core<S> {
     {
         match event {
             RawEvent::Arrive(bytes) => Reply::Arrive(self.arrive(bytes)),
+            RawEvent::Submit(bytes) => Reply::Submit(self.submit(bytes)),
             RawEvent::Open => Reply::Open(self.open()),
             RawEvent::Next(id) => Reply::Next(self.next(*id)),
         }

@@ -10,7 +10,7 @@ use Rattle.std.specs.declared.alloc.Global.{Global}
 use Rattle.std.specs.declared.sync.Arc.{Arc}
 use Rattle.indexmap.specs.IndexMap.{insert_entry}
 use Rattle.indexmap.proofs.CallerLemmas.{insert_entry-new}
-use Rattle.ident.specs.declared.tx_id.TxId.{TxId}
+use Rattle.ident.specs.Kinds.{TxId}
 use Rattle.model.specs.Transaction.{Transaction, transaction_id_of}
 use Rattle.mempool.specs.Pool.{Waiting}
 use Rattle.mempool.specs.HeldPool.{waiting_of, IsHeldWaiting}

@@ -1,3 +1,5 @@
 pub mod Ids
 pub mod Passing
 pub mod Submissions
+pub mod Crossing
+pub mod ForCallers

@@ -8,7 +8,7 @@ use Rattle.std.specs.declared.alloc.Global.{Global}
 use Rattle.std.specs.declared.sync.Arc.{Arc}
 use Rattle.std.proofs.lemmas.Slice.Eq.{bytes_eq-Decides}
 use Rattle.std.proofs.lemmas.List.Elements.{Contains-push_cases}
-use Rattle.ident.specs.declared.tx_id.TxId.{TxId}
+use Rattle.ident.specs.Kinds.{TxId}
 use Rattle.model.specs.Transaction.{Transaction, transaction_id_of}
 use Rattle.model.specs.Signature.{Verifies}
 use Rattle.model.specs.Utxo.{Utxo, utxo_after}

@@ -2,6 +2,8 @@
 
 ghost use Rattle.std.specs.Prelude.{◌≡◌, ◌↔◌, [], length, map, IsTrue, IfOk, OnErr};
 ghost use Rattle.std.specs.Arc.{arc_value};
+ghost use Rattle.model.specs.Cbor.{text_of};
+ghost use Rattle.model.specs.Transaction.{SpellsTransaction, item_of_transaction};
 ghost use Rattle.model.specs.Mempool.{IsInPool};
 ghost use Rattle.utxo_rules.specs.View.{params_of};
 ghost use Rattle.mempool.specs.Calls.{passed_on, IsSubmission, IsSubmissionOf};
@@ -127,6 +129,8 @@ impl<S: SigScheme> Mempool<S> {
             IsSubmissionOf S.verifies (params_of params.now) slot self.old tx (reply_of reply) self.new) }
         ensures err { OnErr result (self.new ≡ self.old) }
         ensures memory { OnErr result (IsInPool self.old.waiting.txs tx → ⊥) }
+        // A transaction that was checked has a text.
+        ensures spelled { SpellsTransaction tx (text_of (item_of_transaction tx)) }
     {
         if self.waiting.has(tx.tx().id()) {
             return Ok(SubmitReply::Known);

@@ -9,6 +9,7 @@ use Rattle.model.specs.Journal.{JournalEntry, Journal, history_of, calls_of, IsL
 use Rattle.model.proofs.LegalHistories.{run_length}
 use Rattle.model.proofs.ToldChains.{run_on}
 use Rattle.chain_core.specs.Held.{Held, Stands, opening_held}
+use Rattle.chain_core.proofs.ForCallers.{opening_stands as new_stands}
 use Rattle.shared.specs.Heights.{Role, Calls, Spent, SeatView, height_after, KnowsCalls, IsLooked, knowledge_of}
 use Rattle.shared.specs.Sealing.{IsSealed}
 use Rattle.shared.specs.Entries.{arrival_by}
@@ -21,8 +22,7 @@ nothing_legal network = (opening, refl)
 
 -- a new core stands for the opening state
 pub opening_stands : (held : Held) → held ≡ opening_held held.genesis → Stands held opening
-opening_stands held new =
-    subst (λ (h : Held). Stands h opening) (sym new) (record { chain = refl; followers = refl; members = λ b. ((λ member. member), (λ member. member)); count = refl; chain_kept = tt })
+opening_stands held new = subst (λ (h : Held). Stands h opening) (sym new) (new_stands held.genesis)
 
 -- one more entry, which is a step from where the journal ends
 pub legal_on : (network : Network) (journal : Journal) (s : State) (e : JournalEntry) (t : State) → IsLegal network (history_of journal) s → Step network s e.entry.event e.entry.reply t

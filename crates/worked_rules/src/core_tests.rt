@@ -22,7 +22,7 @@ pub fn new_core(alloc: Global) -> Result<Core<TestScheme>, Fail> {
 pub struct Made {
     pub text: Vec<u8>,
     number: u64,
-    hash: BlockHash,
+    pub hash: BlockHash,
 }
 
 /// The hash of the block of a text.
@@ -57,7 +57,7 @@ pub fn arrive_at(core: &mut Core<TestScheme>, bytes: &[u8]) -> Result<ArriveRepl
 }
 
 /// How many blocks are rolled back and put on when the block arrives, and 9 each where it is refused.
-fn arrive(core: &mut Core<TestScheme>, made: &Made) -> Result<(u64, u64), AllocError> {
+pub fn arrive(core: &mut Core<TestScheme>, made: &Made) -> Result<(u64, u64), AllocError> {
     match arrive_at(core, &made.text)? {
         ArriveReply::Kept { back, added } => Ok((back, added)),
         ArriveReply::Refused(_) => Ok((9, 9)),

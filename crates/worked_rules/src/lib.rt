@@ -17,6 +17,8 @@ mod ledger_tests;
 #[cfg(test)]
 mod ledgerdb_tests;
 #[cfg(test)]
+mod mempool_tests;
+#[cfg(test)]
 mod minting_tests;
 #[cfg(test)]
 mod payment_blocks;

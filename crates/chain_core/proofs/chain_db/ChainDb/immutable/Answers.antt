@@ -1,4 +1,4 @@
-use Rattle.std.proofs.Common.{◌≡◌, arith}
+use Rattle.std.proofs.Common.{arith}
 use Rattle.chain_core.proofs.chain_db.ChainDb.immutable.Goals as goal
 
 pub returns-clause-immutable : goal.returns-clause-immutable

@@ -5,7 +5,6 @@ use Rattle.model.specs.Ledger.{network_of}
 use Rattle.model.specs.History.{State}
 use Rattle.chain_core.specs.ChainDbs.{HasState}
 use Rattle.chain_core.specs.Views.{followers_of, refusal_of}
-use Rattle.chain_core.proofs.Adding.{whole_same}
 use Rattle.chain_core.proofs.Arrivals.{at_rest, rests, is_ready, IsJudgedAt, refused_arrival, none_applies, kept_arrival}
 use Rattle.chain_core.proofs.ToldChains.{on_err}
 use Rattle.chain_core.proofs.node_core.Core.arrive.Goals as goal

@@ -1,0 +1,89 @@
+-- The mempool beside a chain: brought up to date with another one, and after a submission.
+use Rattle.std.proofs.Common.{◌≡◌, ℕ, ◌+◌, List, Option, Some, [], sym, ap, subst, ◌∙◌, arith}
+use Rattle.std.specs.Option.{option_map, option_map_or}
+use Rattle.model.specs.Block.{Block}
+use Rattle.model.specs.Transaction.{Transaction}
+use Rattle.model.specs.Utxo.{Utxo}
+use Rattle.model.specs.Rules.{Params}
+use Rattle.model.specs.Chain.{Tip}
+use Rattle.model.specs.Ledger.{Network, Ledger}
+use Rattle.model.specs.Applying.{LedgerState, IsStateOf}
+use Rattle.model.specs.Mempool.{utxo_after_all, passed, utxo_of, next_slot, revalidated, IsValidPool, SubmitReply, Answers, Submits}
+use Rattle.model.proofs.MempoolSteps.{up_to_date, nothing_valid, submitted_valid}
+use Rattle.mempool.specs.Pool.{Pool, Waiting}
+use Rattle.mempool.specs.Calls.{passed_on, IsSubmission}
+use Rattle.chain_core.specs.Pools.{IsPoolOf, IsBroughtTo}
+
+module _ (network : Network) (chain : List Block) (state : LedgerState) (is : IsStateOf network chain state) where
+  -- the unspent outputs of the chain are those of its state
+  pub outputs_are : utxo_of network chain ≡ Some state.ledger.utxo
+  outputs_are = ap (λ (o : Option Ledger). option_map (λ (l : Ledger). l.utxo) o) is.ledger
+
+  -- and the slot after its tip's is that of the state
+  pub slot_is : state.tip.slot + 1 ≡ next_slot chain
+  slot_is = let e = ap (λ (t : Tip). t.slot) is.tip in omega (arith, e)
+
+  -- so a pass on these brings up to date
+  passes : (txs : List Transaction) → passed network.verifies state.params (state.tip.slot + 1) state.ledger.utxo txs ≡ revalidated network chain txs
+  passes txs =
+      ap (λ (p : Params). passed network.verifies p (state.tip.slot + 1) state.ledger.utxo txs) is.params
+      ∙ (ap (λ (n : ℕ). passed network.verifies network.genesis.params n state.ledger.utxo txs) slot_is
+      ∙ ap (λ (o : Option Utxo). option_map_or (λ (utxo : Utxo). passed network.verifies network.genesis.params (next_slot chain) utxo txs) o []) (sym outputs_are))
+
+  one_utxo : (a b : Utxo) → utxo_of network chain ≡ Some a → Some a ≡ Some b → a ≡ b
+  one_utxo a b of_chain e = cc
+
+  pub brought : (params : Params) (slot : ℕ) (unspent : Utxo) (txs : List Transaction) (waiting : Waiting) → params ≡ state.params → slot ≡ state.tip.slot → unspent ≡ state.ledger.utxo
+      → waiting ≡ passed_on network.verifies params (slot + 1) unspent txs → IsBroughtTo network chain txs waiting
+  brought params slot unspent txs waiting params_is slot_of unspent_is waits =
+      let here : waiting ≡ passed_on network.verifies state.params (state.tip.slot + 1) state.ledger.utxo txs =
+      waits ∙ (λ i. passed_on network.verifies (params_is i) (slot_of i + 1) (unspent_is i) txs) in
+      record {
+        stay = ap (λ (w : Waiting). w.txs) here ∙ passes txs;
+        unspent = λ utxo of_chain.
+            let same : state.ledger.utxo ≡ utxo = one_utxo state.ledger.utxo utxo outputs_are (sym outputs_are ∙ of_chain) in
+            ap (λ (w : Waiting). w.unspent) here ∙ (ap (λ (w : Waiting). utxo_after_all state.ledger.utxo w.txs) (sym here) ∙ ap (λ (u : Utxo). utxo_after_all u waiting.txs) same);
+      }
+
+  -- a submission to the code's mempool is one beside the chain, and leaves its mempool
+  module _ (pool new : Pool) (of : IsPoolOf network chain pool) (params : Params) (slot : ℕ) (bytes : List ℕ) (reply : SubmitReply) (params_is : params ≡ state.params) (slot_of : slot ≡ state.tip.slot)
+      (submission : IsSubmission network.verifies params (slot + 1) pool bytes reply new) where
+    pub submits : Submits network chain pool.waiting.txs bytes reply new.waiting.txs
+    submits = record {
+      utxo = state.ledger.utxo;
+      of_chain = outputs_are;
+      answers = subst (λ (n : ℕ). Answers network.verifies network.genesis.params (next_slot chain) (utxo_after_all state.ledger.utxo pool.waiting.txs) n pool.waiting.txs bytes reply) of.capacity
+          (subst (λ (u : Utxo). Answers network.verifies network.genesis.params (next_slot chain) u pool.capacity pool.waiting.txs bytes reply) (of.unspent state.ledger.utxo outputs_are)
+          (subst (λ (n : ℕ). Answers network.verifies network.genesis.params n pool.waiting.unspent pool.capacity pool.waiting.txs bytes reply) (ap (λ n. n + 1) slot_of ∙ slot_is)
+          (subst (λ (p : Params). Answers network.verifies p (slot + 1) pool.waiting.unspent pool.capacity pool.waiting.txs bytes reply) (params_is ∙ is.params) submission.answers)));
+      pool = submission.after;
+    }
+
+    pub pool_after : IsPoolOf network chain new
+    pool_after = record {
+      capacity = submission.capacity ∙ of.capacity;
+      valid = submitted_valid network chain pool.waiting.txs bytes reply new.waiting.txs submits of.valid;
+      unspent = λ utxo of_chain. submission.unspent utxo (of.unspent utxo of_chain);
+    }
+
+-- a mempool that was brought up to date with another chain is that chain's
+pub pool_brought : (network : Network) (chain : List Block) (old new : Pool) (waiting : Waiting) → old.capacity ≡ network.genesis.max_mempool → IsBroughtTo network chain old.waiting.txs waiting
+    → new ≡ record old { waiting = waiting } → IsPoolOf network chain new
+pool_brought network chain old new waiting capacity brought_to is = record {
+  capacity = ap (λ (p : Pool). p.capacity) is ∙ capacity;
+  valid = subst (λ (p : Pool). IsValidPool network chain p.waiting.txs) (sym is) (subst (IsValidPool network chain) (sym brought_to.stay) (up_to_date network chain old.waiting.txs));
+  unspent = subst (λ (p : Pool). (utxo : Utxo) → utxo_of network chain ≡ Some utxo → p.waiting.unspent ≡ utxo_after_all utxo p.waiting.txs) (sym is) brought_to.unspent;
+}
+
+-- and its transactions are those that stay
+pub stay_brought : (network : Network) (chain : List Block) (old new : Pool) (waiting : Waiting) → IsBroughtTo network chain old.waiting.txs waiting → new ≡ record old { waiting = waiting } → new.waiting.txs ≡ revalidated network chain old.waiting.txs
+stay_brought network chain old new waiting brought_to is = ap (λ (p : Pool). p.waiting.txs) is ∙ brought_to.stay
+
+-- before anything came
+pub pool_at_start : (network : Network) (state : LedgerState) → IsStateOf network [] state → (pool : Pool) (capacity : ℕ) (unspent : Utxo) → capacity ≡ network.genesis.max_mempool → unspent ≡ state.ledger.utxo
+    → pool ≡ record { capacity = capacity; waiting = record { txs = []; unspent = unspent } } → IsPoolOf network [] pool
+pool_at_start network state is pool capacity unspent capacity_is unspent_is pool_is = subst (IsPoolOf network []) (sym pool_is) (record {
+  capacity = capacity_is;
+  valid = nothing_valid network [];
+  unspent = λ utxo of_chain. unspent_is ∙ one_utxo network [] state is state.ledger.utxo utxo (outputs_are network [] state is) (sym (outputs_are network [] state is) ∙ of_chain);
+})
