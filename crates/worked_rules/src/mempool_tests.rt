@@ -107,69 +107,82 @@ fn full_mempool(rt: HostRuntime) -> Result<(), Fail> {
     Ok(())
 }
 
-/// How many of three bytes that are no transaction's are refused as such: a payment with a byte after it, one without
-/// its last byte, and none.
-fn malformed(alloc: Global, core: &mut Core<TestScheme>) -> Result<u8, Fail> {
-    let mut text = bytes_of(alloc, &GOOD)?;
-    text.push(0)?;
-    let mut count = 0;
-    for bytes in [text.as_slice(), &text[..text.len().saturating_sub(2)], &[]] {
-        count += u8::from(answer(core, bytes)? == SubmitReply::Malformed);
-    }
-    Ok(count)
+/// Whether bytes are refused as those of no transaction.
+fn is_malformed(core: &mut Core<TestScheme>, bytes: &[u8]) -> Result<bool, AllocError> {
+    Ok(answer(core, bytes)? == SubmitReply::Malformed)
 }
 
+// A payment with a byte after it, one without its last byte, and no bytes.
 #[test]
 fn bytes_of_no_transaction(rt: HostRuntime) -> Result<(), Fail> {
     let mut core = new_core(rt.alloc())?;
-    assert!(rt; malformed(rt.alloc(), &mut core)? == 3);
+    let mut text = bytes_of(rt.alloc(), &GOOD)?;
+    text.push(0)?;
+    assert!(rt; is_malformed(&mut core, &text)?);
+    text.truncate(189);
+    assert!(rt; is_malformed(&mut core, &text)?);
+    assert!(rt; is_malformed(&mut core, &[])?);
     assert!(rt; core.mempool().is_empty());
     Ok(())
 }
 
-/// The number of those that wait, and their fees, one after the other.
-fn waiting(pool: &Mempool<TestScheme>) -> (usize, u64, u64) {
-    let mut fees = pool.iter().map(|tx| tx.tx().fee());
-    let first = fees.next().unwrap_or(0);
-    (pool.len(), first, fees.next().unwrap_or(0))
-}
-
-/// What waits of these payments once a block has arrived.
-fn left_after(alloc: Global, payments: &[Payment], made: &Made) -> Result<(usize, u64, u64), Fail> {
-    let mut core = new_core(alloc)?;
-    for payment in payments {
-        submit(alloc, &mut core, payment)?;
+/// The fees of those that wait, in their order.
+fn fees(alloc: Global, pool: &Mempool<TestScheme>) -> Result<Vec<u64>, AllocError> {
+    let mut fees = Vec::new(alloc);
+    for tx in pool.iter() {
+        fees.push(tx.tx().fee())?;
     }
-    arrive(&mut core, made)?;
-    Ok(waiting(core.mempool()))
+    Ok(fees)
 }
 
-// The second payment spends what the first one makes.
-#[test]
-fn mempool_after_a_block(rt: HostRuntime) -> Result<(), Fail> {
-    let alloc = rt.alloc();
-    let next = next_payment(alloc)?;
-    let cases: [(&[Payment], (usize, u64, u64)); 4] = [
-        (&[], (2, 290, 310)),
-        (&[GOOD], (1, 310, 0)),
-        (&[GOOD, next], (0, 0, 0)),
-        (&[OTHER], (0, 0, 0)),
-    ];
-    for (in_block, want) in cases {
-        let made = make(alloc, first(), 1, in_block)?;
-        assert!(rt; left_after(alloc, &[GOOD, next], &made)? == want);
+/// Submits payments, one after the other.
+fn submit_all(
+    alloc: Global,
+    core: &mut Core<TestScheme>,
+    payments: &[Payment],
+) -> Result<(), Fail> {
+    for payment in payments {
+        submit(alloc, core, payment)?;
     }
     Ok(())
 }
 
-// The payment may be in a block of a slot before 7 alone: after a block in slot 6 it can't, and after one in slot 5 it can.
+/// The fees of those of these payments that wait once a block has arrived.
+fn left_after(alloc: Global, payments: &[Payment], made: &Made) -> Result<Vec<u64>, Fail> {
+    let mut core = new_core(alloc)?;
+    submit_all(alloc, &mut core, payments)?;
+    arrive(&mut core, made)?;
+    Ok(fees(alloc, core.mempool())?)
+}
+
+/// Whether these fees are left of a payment and the one that spends what it makes, once a block of others has arrived.
+fn leaves(alloc: Global, in_block: &[Payment], want: &[u64]) -> Result<bool, Fail> {
+    let made = make(alloc, first(), 1, in_block)?;
+    let left = left_after(alloc, &[GOOD, next_payment(alloc)?], &made)?;
+    Ok(left.as_slice() == want)
+}
+
+#[test]
+fn mempool_after_a_block(rt: HostRuntime) -> Result<(), Fail> {
+    let alloc = rt.alloc();
+    let next = next_payment(alloc)?;
+    assert!(rt; leaves(alloc, &[], &[290, 310])?);
+    assert!(rt; leaves(alloc, &[GOOD], &[310])?);
+    assert!(rt; leaves(alloc, &[GOOD, next], &[])?);
+    assert!(rt; leaves(alloc, &[OTHER], &[])?);
+    Ok(())
+}
+
+/// How many wait of the payment that may be in a block of a slot before 7 alone, after a block in this slot.
+fn expiring_after(alloc: Global, slot: u64) -> Result<usize, Fail> {
+    let made = make(alloc, first(), slot, &[])?;
+    Ok(left_after(alloc, &[EXPIRING], &made)?.len())
+}
+
 #[test]
 fn mempool_at_the_slot_after_the_tips(rt: HostRuntime) -> Result<(), Fail> {
-    let alloc = rt.alloc();
-    for (slot, want) in [(6, (0, 0, 0)), (5, (1, 300, 0))] {
-        let made = make(alloc, first(), slot, &[])?;
-        assert!(rt; left_after(alloc, &[EXPIRING], &made)? == want);
-    }
+    assert!(rt; expiring_after(rt.alloc(), 6)? == 0);
+    assert!(rt; expiring_after(rt.alloc(), 5)? == 1);
     Ok(())
 }
 
