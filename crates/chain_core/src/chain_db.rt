@@ -91,8 +91,8 @@ impl<S: SigScheme> ChainDb<S> {
         self.db.state()
     }
 
-    /// Keeps the block, selects the chain anew, and brings the mempool up to date with it. Where memory runs out nothing
-    /// changes.
+    /// Keeps the block, selects the chain anew, and brings the mempool up to date with it. Where memory runs out
+    /// nothing changes.
     pub fn add(
         &mut self,
         alloc: Global,

@@ -39,8 +39,8 @@ impl<S: SigScheme> fmt::Display for Reply<S> {
 
     ghost output = { λ reply. Some (reply_text reply) };
 
-    /// Writes what was answered to an arrival or a submission, `opened` and the follower's number, or what the follower is told, and
-    /// `none` where it is told nothing; `refused` and the fault's name, or `out of memory`.
+    /// Writes what was answered to an arrival or a submission, `opened` and the follower's number, or what the follower
+    /// is told, and `none` where it is told nothing; `refused` and the fault's name, or `out of memory`.
     fn fmt<W: fmt::Write>(&self, f: &mut fmt::Formatter<W>) -> fmt::Result {
         match self {
             Reply::Arrive(Ok(reply)) => write!(f, "{reply}"),

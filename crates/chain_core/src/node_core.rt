@@ -159,10 +159,11 @@ impl<S: SigScheme> Core<S> {
     }
 
     /// Bytes of a transaction are submitted. They are judged on what the mempool's transactions leave of the selected
-    /// chain's unspent outputs, at the slot after its tip's, and the transaction waits at the mempool's end, or the reply
-    /// says why it doesn't. Where memory runs out nothing changes.
+    /// chain's unspent outputs, at the slot after its tip's, and the transaction waits at the mempool's end, or the
+    /// reply says why it doesn't. Where memory runs out nothing changes.
     ///
-    /// Linear in the bytes, with a look-up of the identifier; only a transaction that is new has its signatures verified.
+    /// Linear in the bytes, with a look-up of the identifier; only a transaction that is new has its signatures
+    /// verified.
     pub fn submit(&mut self, bytes: &[u8]) -> Result<SubmitReply, AllocError>
         ensures step { (s : State) → Stands self.old s → (t : State)
             × Step (network_of self.old.genesis S.verifies) s (Submit bytes.now) (submit_reply_of result) t
@@ -173,8 +174,8 @@ impl<S: SigScheme> Core<S> {
         self.chain_db.submit(bytes)
     }
 
-    /// A transaction is submitted whose signatures and scripts were judged before, on this thread or another. The answer
-    /// is that of [`Core::submit`] to its bytes. Where memory runs out nothing changes.
+    /// A transaction is submitted whose signatures and scripts were judged before, on this thread or another. The
+    /// answer is that of [`Core::submit`] to its bytes. Where memory runs out nothing changes.
     pub fn submit_checked(&mut self, tx: CheckedTx<S>) -> Result<SubmitReply, AllocError>
         ensures step { (bytes : List ℕ) → SpellsTransaction tx bytes → (s : State) → Stands self.old s → (t : State)
             × Step (network_of self.old.genesis S.verifies) s (Submit bytes) (submit_reply_of result) t

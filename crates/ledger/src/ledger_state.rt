@@ -16,9 +16,9 @@ use std::alloc::{AllocError, Global};
 use std::marker::Model;
 use utxo_rules::{Params, Utxo};
 
-/// What a chain leaves: its unspent outputs, its fees and where it ends, with what the network asks of the next block. A
-/// copy takes no memory and shares what the two have in common, so that a program can keep thousands of states. What the
-/// outputs hold and the fees are less than 2^63 lovelace together.
+/// What a chain leaves: its unspent outputs, its fees and where it ends, with what the network asks of the next block.
+/// A copy takes no memory and shares what the two have in common, so that a program can keep thousands of states. What
+/// the outputs hold and the fees are less than 2^63 lovelace together.
 #[derive(Drop)]
 pub struct LedgerState {
     pub(crate) alloc: Global,

@@ -97,8 +97,9 @@ impl LedgerDb {
 
     /// What is needed to roll the last `back` blocks back, `back` at most the depth, and to put these blocks in their
     /// place: the states that they make, each block applied once. Else the first block that isn't applied, counted from
-    /// 0, with its first fault; or OutOfMemory, where the blocks before some place are applied and the one at it has none
-    /// of the first four faults. The database stays. Takes the time to apply the blocks, and time that grows with `back`.
+    /// 0, with its first fault; or OutOfMemory, where the blocks before some place are applied and the one at it has
+    /// none of the first four faults. The database stays. Takes the time to apply the blocks, and time that grows with
+    /// `back`.
     ///
     /// ```text
     /// match db.fork(2, &blocks) {

@@ -41,8 +41,8 @@ impl<S: SigScheme> Model for Mempool<S> {
     ghost view = { λ m. record { capacity = m.capacity; waiting = m.waiting } };
 }
 
-/// What stays of a mempool on another chain, made ready by [`Mempool::resync`] and taken by [`Mempool::put`]. All memory
-/// that the change needs is in it.
+/// What stays of a mempool on another chain, made ready by [`Mempool::resync`] and taken by [`Mempool::put`]. All
+/// memory that the change needs is in it.
 #[derive(Drop)]
 pub struct Resynced<S: SigScheme> {
     waiting: Waiting<S>,
@@ -93,9 +93,9 @@ impl<S: SigScheme> Mempool<S> {
         self.waiting.iter()
     }
 
-    /// What stays of the transactions on other unspent outputs, judged in their order at this slot: that after the tip's
-    /// of the chain whose outputs these are. Err where memory runs out. Judges each transaction once; no signature is
-    /// verified again. Nothing changes before [`Mempool::put`].
+    /// What stays of the transactions on other unspent outputs, judged in their order at this slot: that after the
+    /// tip's of the chain whose outputs these are. Err where memory runs out. Judges each transaction once; no
+    /// signature is verified again. Nothing changes before [`Mempool::put`].
     pub fn resync(
         &self,
         params: &Params,

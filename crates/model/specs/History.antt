@@ -105,8 +105,8 @@ pub record IsChange (old new : List Block) (back added : ℕ) : Type 0 where
 
 -- RULE OF A KEPT BLOCK (the report, addition of a block to the chain database)
 -- Bytes are kept where they are read as a block and no refusal applies. The block joins the kept ones, the selection
--- rule then says which chain is selected, and the reply counts the blocks rolled back and put on. The mempool is brought
--- up to date with that chain. Followers are told later.
+-- rule then says which chain is selected, and the reply counts the blocks rolled back and put on. The mempool is
+-- brought up to date with that chain. Followers are told later.
 pub record Keeps (network : Network) (s : State) (bytes : List ℕ) (back added : ℕ) (t : State) : Type 0 where
   pub block : Block
   pub read : SpellsBlock block bytes
