@@ -31,6 +31,3 @@ mod tree;
 
 pub use iter::Iter;
 pub use persistent_map::PersistentMap;
-
-#[cfg(test)]
-mod caller_tests;

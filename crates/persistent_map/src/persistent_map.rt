@@ -1,6 +1,6 @@
 //! The map.
 
-ghost use Rattle.std.specs.Prelude.{◌≡◌, ◌↔◌, [], length, IsTrue, IfOk, OnOk, OnErr};
+ghost use Rattle.std.specs.Prelude.{◌≡◌, ◌↔◌, ◌≤◌, [], length, IsTrue, IfOk, OnOk, OnErr};
 ghost use Rattle.std.specs.Option.{option_copied, option_map};
 ghost use Rattle.std.specs.FinMap.{find, put};
 ghost use Rattle.std.specs.Arc.{arc_value};
@@ -11,9 +11,6 @@ use crate::tree::Tree;
 use std::alloc::{AllocError, Global};
 use std::marker::Model;
 use std::sync::Arc;
-
-#[cfg(test)]
-mod tests;
 
 /// A map from keys to shared values, in the order of the keys. Copies of it share their nodes, and threads may share
 /// copies. In contracts it is the list of its entries, of which the keys rise.
@@ -62,6 +59,15 @@ impl<K: Copy + Ord, V> PersistentMap<K, V> {
         ensures rise { Rise K.cmp self.now }
     {
         self.len == 0
+    }
+
+    /// How many entries stand on the longest way down the tree: a measure of what a look-up costs, which no clause
+    /// bounds but by the length. In practice it stays below twice the binary logarithm of that. Meets each entry.
+    pub fn depth(&self) -> usize
+        ensures depth { result ≤ length self.now }
+        ensures rise { Rise K.cmp self.now }
+    {
+        self.tree.depth()
     }
 
     /// The same map again, in constant time and with no memory: the two share all their nodes until one is changed.

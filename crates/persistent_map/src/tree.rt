@@ -1,6 +1,6 @@
 //! The tree beneath a map.
 
-ghost use Rattle.std.specs.Prelude.{◌≡◌, [], ◌∷◌, ◌++◌, IfOk, OnOk, OnErr, MatchOption};
+ghost use Rattle.std.specs.Prelude.{◌≡◌, ◌≤◌, [], ◌∷◌, ◌++◌, length, IfOk, OnOk, OnErr, MatchOption};
 ghost use Rattle.std.specs.Option.{option_copied, option_map, option_map_or};
 ghost use Rattle.std.specs.FinMap.{find};
 ghost use Rattle.std.specs.Arc.{arc_value};
@@ -80,6 +80,19 @@ impl<K, V> Tree<K, V> {
             Link::Fork(weight, node) => Ok(Tree {
                 link: Link::Fork(*weight, Arc::try_clone(node)?),
             }),
+        }
+    }
+
+    /// How many entries stand on the longest way down. Takes time in proportion to the number of entries.
+    pub(crate) fn depth(&self) -> usize
+        ensures { result ≤ length self.now }
+    {
+        match &self.link {
+            Link::Leaf => 0,
+            Link::Fork(_, node) => {
+                let below = node.left.depth().max(node.right.depth());
+                below.saturating_add(1)
+            }
         }
     }
 

@@ -1,7 +1,8 @@
 //! The run of a script.
 
 ghost use Rattle.std.specs.Prelude.{◌≡◌, ℕ, ◌+◌, ◌≤◌, ◌⊎◌, List, [], ◌∷◌, ◌++◌, length, OnOk, IfErr, IfSome};
-ghost use Rattle.scenario.specs.Run.{script_network, EndsWell, EndsBy, fault_of};
+ghost use Rattle.scenario.specs.Run.{opening_scene, script_network, EndsWell, EndsBy, fault_of};
+ghost use Rattle.scenario.specs.SessionView.{Holds};
 ghost use Rattle.script.specs.declared.fault.LineFault.TheVariants.{BadLine};
 
 use crate::fault::ScenarioFault;
@@ -49,6 +50,46 @@ fn unended(number: u64) -> ScenarioFault
     }
 }
 
+/// Runs the lines of a script in a session before the first one.
+fn run_lines<R: BufRead, W: Write>(
+    alloc: Global,
+    session: &mut Session,
+    reader: &mut R,
+    writer: &mut W,
+) -> Result<(), ScenarioFault>
+    requires { Holds session.now (opening_scene session.now.core.genesis) }
+    ensures ok { OnOk result (IfSome (R.remaining reader.old)
+        (λ text. EndsWell (script_network session.old.core.genesis) text (W.contents writer.old)
+        (W.contents writer.new))) }
+    ensures fault { IfErr result (λ why. IfSome (R.remaining reader.old)
+        (λ text. EndsBy (script_network session.old.core.genesis) text (R.remaining reader.new)
+        (W.contents writer.old) (W.contents writer.new) why)) }
+{
+    let mut before: u64 = 0;
+    for number in 1..4_194_306u64 {
+        let mut line = Vec::new(alloc);
+        if let Err(error) = reader.read_until(b'\n', &mut line) {
+            return Err(read_fault(&error, &line));
+        }
+        if line.is_empty() {
+            if let Some(begun) = session.open_line() {
+                return Err(unended(begun));
+            }
+            return Ok(());
+        }
+        let printed = match session.obey(LinePlace { number, before }, &line) {
+            Ok(printed) => printed,
+            Err(stop) => return Err(line_fault(number, stop)),
+        };
+        before += line.len() as u64;
+        if let Err(WriteStopped {}) = write_all(writer, &printed) {
+            return Err(ScenarioFault::WriteFailed);
+        }
+    }
+    // Each line has a byte, so the limit of the size comes first.
+    unreachable!()
+}
+
 /// Runs a script line by line on a new network of this genesis, whose signatures are those of the scheme for tests.
 /// What each line prints is written before the next line is read, and the first fault ends the run; what was written
 /// before stands. Where there is no memory for the outputs of the genesis, nothing is read.
@@ -80,27 +121,5 @@ pub fn run<R: BufRead, W: Write>(
     let Ok(mut session) = Session::new(alloc, genesis) else {
         return Err(ScenarioFault::OutOfMemory);
     };
-    let mut before: u64 = 0;
-    for number in 1..4_194_306u64 {
-        let mut line = Vec::new(alloc);
-        if let Err(error) = reader.read_until(b'\n', &mut line) {
-            return Err(read_fault(&error, &line));
-        }
-        if line.is_empty() {
-            if let Some(begun) = session.open_line() {
-                return Err(unended(begun));
-            }
-            return Ok(());
-        }
-        let printed = match session.obey(LinePlace { number, before }, &line) {
-            Ok(printed) => printed,
-            Err(stop) => return Err(line_fault(number, stop)),
-        };
-        before += line.len() as u64;
-        if let Err(WriteStopped {}) = write_all(writer, &printed) {
-            return Err(ScenarioFault::WriteFailed);
-        }
-    }
-    // Each line has a byte, so the limit of the size comes first.
-    unreachable!()
+    run_lines(alloc, &mut session, reader, writer)
 }

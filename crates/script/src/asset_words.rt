@@ -12,7 +12,7 @@ use crate::part::AssetName;
 use crate::words::Words;
 
 /// So much of an asset, whose policy is the script of a name.
-#[derive(Clone, Copy, Debug)]
+#[derive(Clone, Copy)]
 pub struct NamedAsset<'a> {
     pub script: Name<'a>,
     pub name: AssetName<'a>,
@@ -48,7 +48,7 @@ impl<'a> NamedAsset<'a> {
 }
 
 /// The words of assets, three for each: a script's name, the asset's name, and how much of it.
-#[derive(Clone, Copy, Debug)]
+#[derive(Clone, Copy)]
 pub struct AssetWords<'a> {
     pub words: Words<'a>,
     pub ghost says: { IsSome (parse_assets (words_left words)) },

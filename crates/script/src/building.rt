@@ -18,7 +18,7 @@ use std::alloc::Global;
 use tx::Tx;
 
 /// What a block goes on from: how many blocks there are up to here, and the hash of the last one.
-#[derive(Clone, Copy, Debug)]
+#[derive(Clone, Copy)]
 pub struct Base {
     number: u64,
     hash: Option<BlockHash>,

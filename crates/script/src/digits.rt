@@ -9,7 +9,7 @@ use hex::FromHex;
 use std::alloc::{AllocError, Global};
 
 /// Hexadecimal digits of either case in a line, which say one byte or more.
-#[derive(Clone, Copy, Debug)]
+#[derive(Clone, Copy)]
 pub struct Digits<'a> {
     pub text: &'a [u8],
     pub ghost says: { IsSome (digits_bytes text.now) },

@@ -59,7 +59,7 @@ impl Form {
 }
 
 /// What a block goes on from.
-#[derive(Clone, Copy, Debug)]
+#[derive(Clone, Copy)]
 pub enum Parent<'a> {
     Genesis,
     After(Name<'a>),
@@ -79,7 +79,7 @@ impl<'a> Parent<'a> {
 }
 
 /// What a line says.
-#[derive(Clone, Copy, Debug)]
+#[derive(Clone, Copy)]
 pub enum Line<'a> {
     /// Nothing: the line is empty or a comment.
     Nothing,
@@ -245,17 +245,13 @@ fn pair_line<'a>(word: &[u8], first: &'a [u8], second: &'a [u8]) -> Option<Line<
         return spend_line(first, second);
     }
     // `raw`, `key` and `script` have a name and digits.
+    let name = Name::of_word(first)?;
+    let digits = Digits::of_word(second)?;
     if word == b"raw".as_slice() {
-        let name = Name::of_word(first)?;
-        let digits = Digits::of_word(second)?;
         Some(Line::Raw { name, digits })
     } else if word == b"key".as_slice() {
-        let name = Name::of_word(first)?;
-        let digits = Digits::of_word(second)?;
         Some(Line::Key { name, digits })
     } else if word == b"script".as_slice() {
-        let name = Name::of_word(first)?;
-        let digits = Digits::of_word(second)?;
         Some(Line::Script { name, digits })
     } else {
         None

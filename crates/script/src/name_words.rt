@@ -9,7 +9,7 @@ use crate::name::Name;
 use crate::words::{self, Words};
 
 /// Words each of which is a name.
-#[derive(Clone, Copy, Debug)]
+#[derive(Clone, Copy)]
 pub struct NameWords<'a> {
     pub words: Words<'a>,
     pub ghost names: { IsTrue (list_all is_name (words_left words)) },

@@ -13,7 +13,7 @@ use draft::Signing;
 use std::alloc::{AllocError, Global};
 
 /// What unlocks an output.
-#[derive(Clone, Copy, Debug)]
+#[derive(Clone, Copy)]
 pub enum Owner<'a> {
     /// The key of a name.
     Key(Name<'a>),
@@ -38,7 +38,7 @@ impl<'a> Owner<'a> {
 }
 
 /// The name of an asset.
-#[derive(Clone, Copy, Debug)]
+#[derive(Clone, Copy)]
 pub enum AssetName<'a> {
     Empty,
     Digits(Digits<'a>),
@@ -68,7 +68,7 @@ impl<'a> AssetName<'a> {
 }
 
 /// A number that a sign may stand in front of.
-#[derive(Clone, Copy, Debug)]
+#[derive(Clone, Copy)]
 pub struct Quantity {
     pub negative: bool,
     pub size: u64,
@@ -110,7 +110,7 @@ impl Quantity {
 }
 
 /// A part of a transaction.
-#[derive(Clone, Copy, Debug)]
+#[derive(Clone, Copy)]
 pub enum Part<'a> {
     /// An output of the genesis is spent.
     SpendGrant {

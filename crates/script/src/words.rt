@@ -72,7 +72,7 @@ fn first_space(content: &[u8]) -> Option<usize>
 }
 
 /// The words of a line that are not read yet, between single spaces.
-#[derive(Clone, Copy, Debug)]
+#[derive(Clone, Copy)]
 pub struct Words<'a> {
     rest: Option<&'a [u8]>,
 }

@@ -11,10 +11,10 @@ use std::test::Fail;
 use witness_pool::TestScheme;
 
 /// A core that nothing has come to, with k 2.
-pub fn new_core(alloc: Global) -> Result<Core<TestScheme>, Fail> {
+pub fn new_core(alloc: Global) -> Result<Box<Core<TestScheme>>, Fail> {
     let text = document(alloc, "k", "2", &[OUTPUT])?;
     let genesis = Genesis::from_toml(alloc, text.as_str())?;
-    Ok(Core::new(alloc, genesis)?)
+    Ok(Box::new(alloc, Core::new(alloc, genesis)?)?)
 }
 
 /// A block's text, with what the next block has to know of it.
