@@ -1,10 +1,11 @@
 //! A small network, and blocks without transactions by their place on a chain.
 
 use block::{Header, empty_body_hash, read, write_empty};
-use chain_core::Core;
+use chain_core::{ArriveReply, Core, RawEvent, Reply};
 use genesis::Genesis;
 use ident::BlockHash;
-use std::alloc::Global;
+use std::alloc::{AllocError, Global};
+use std::process::Abort;
 use std::test::Fail;
 use witness_pool::TestScheme;
 
@@ -17,21 +18,6 @@ min_utxo = 10
 max_tx_size = 4096
 max_body_size = 65536
 max_volatile = 100
-max_mempool = 100
-[[output]]
-key = \"0101010101010101010101010101010101010101010101010101010101010101\"
-coin = 1200
-";
-
-/// The same with one live block.
-pub const ONE_LIVE_BLOCK: &str = "network = 0
-k = 2
-min_fee_a = 1
-min_fee_b = 100
-min_utxo = 10
-max_tx_size = 4096
-max_body_size = 65536
-max_volatile = 1
 max_mempool = 100
 [[output]]
 key = \"0101010101010101010101010101010101010101010101010101010101010101\"
@@ -92,13 +78,47 @@ pub fn make(alloc: Global, parent: Option<&Made>, slot: u64) -> Result<Made, Fai
     })
 }
 
-/// A core that nothing has come to, on the network of this text.
-pub fn core_on(alloc: Global, network: &str) -> Result<Core<TestScheme>, Fail> {
+/// The blocks of a chain, in the slots from 1 on.
+pub fn chain_of(alloc: Global, count: u64) -> Result<Vec<Made>, Fail> {
+    let mut blocks: Vec<Made> = Vec::new(alloc);
+    for slot in 0..count {
+        let next = make(alloc, blocks.last(), slot.saturating_add(1))?;
+        blocks.push(next)?;
+    }
+    Ok(blocks)
+}
+
+/// A core that nothing has come to, on the network of this text. In a box it is dropped by a call, which keeps the
+/// proofs of the tests short.
+pub fn core_on(alloc: Global, network: &str) -> Result<Box<Core<TestScheme>>, Fail> {
     let genesis = Genesis::from_toml(alloc, network)?;
-    Ok(Core::new(alloc, genesis)?)
+    Ok(Box::new(alloc, Core::new(alloc, genesis)?)?)
 }
 
 /// A core that nothing has come to, on the small network.
-pub fn new_core(alloc: Global) -> Result<Core<TestScheme>, Fail> {
+pub fn new_core(alloc: Global) -> Result<Box<Core<TestScheme>>, Fail> {
     core_on(alloc, SMALL_NETWORK)
+}
+
+/// What the core answers to bytes. It promises nothing, which keeps the proofs of the tests short, as those below do.
+pub fn arrive_at(core: &mut Core<TestScheme>, bytes: &[u8]) -> Result<ArriveReply, Fail> {
+    Ok(core.arrive(bytes)?)
+}
+
+/// What the core answers to events.
+pub fn run_all(
+    core: &mut Core<TestScheme>,
+    events: &[RawEvent],
+) -> Result<Vec<Reply<TestScheme>>, AllocError> {
+    core.run(events)
+}
+
+/// What is said of a block that is kept.
+pub fn kept(back: u64, added: u64) -> ArriveReply {
+    ArriveReply::Kept { back, added }
+}
+
+/// The number that this is said of is the one that is wanted.
+pub fn same(rt: &impl Abort, about: &str, found: u64, want: u64) {
+    assert_eq!(rt; found, want, "{about}");
 }

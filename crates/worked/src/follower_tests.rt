@@ -1,25 +1,41 @@
 //! What followers are told.
 
-use super::fixture::{make, new_core};
-use chain_core::{ArriveReply, FollowerId, Instruction, NextFault, OpenFault, RawEvent, Reply};
+use super::fixture::{make, new_core, run_all};
+use chain_core::{
+    ArriveReply, Core, FollowerId, Instruction, NextFault, OpenFault, RawEvent, Reply,
+};
 use std::alloc::Global;
 use std::process::Abort;
 use std::test::Fail;
 use witness_pool::TestScheme;
 
+/// Whether no follower has this number.
+fn is_unknown(core: &mut Core<TestScheme>, number: u64) -> bool {
+    matches!(
+        core.next(FollowerId { number }),
+        Err(NextFault::UnknownFollower)
+    )
+}
+
+/// What the core answers to the opening of a follower.
+fn open(core: &mut Core<TestScheme>) -> Result<FollowerId, OpenFault> {
+    core.open()
+}
+
+/// So many followers are opened, each under the next number, and no more.
+fn opens_so_many(rt: &impl Abort, core: &mut Core<TestScheme>, count: u64) {
+    for number in 0..count {
+        assert!(rt; is_unknown(core, number));
+        assert!(rt; open(core) == Ok(FollowerId { number }));
+    }
+    assert!(rt; open(core) == Err(OpenFault::TooManyFollowers));
+    assert!(rt; is_unknown(core, count));
+}
+
 #[test]
 fn follower_ids(rt: HostRuntime) -> Result<(), Fail> {
     let mut core = new_core(rt.alloc())?;
-    let unknown = FollowerId { number: 1024 };
-    for number in 0..1024 {
-        assert_eq!(rt;
-            core.next(FollowerId { number }).err(),
-            Some(NextFault::UnknownFollower)
-        );
-        assert_eq!(rt; core.open(), Ok(FollowerId { number }));
-    }
-    assert_eq!(rt; core.open(), Err(OpenFault::TooManyFollowers));
-    assert_eq!(rt; core.next(unknown).err(), Some(NextFault::UnknownFollower));
+    opens_so_many(&rt, &mut core, 1024);
     Ok(())
 }
 
@@ -38,8 +54,8 @@ fn events_of(alloc: Global, text: Vec<u8>) -> Result<Vec<RawEvent>, Fail> {
     )?)
 }
 
-/// The answers to those are that the follower is told the block of this text.
-fn is_told(rt: &impl Abort, replies: &[Reply<TestScheme>], text: &[u8]) {
+/// Whether the answers to those are that the follower is told the block of this text.
+fn is_told(replies: &[Reply<TestScheme>], text: &[u8]) -> bool {
     match replies {
         [
             Reply::Next(Err(NextFault::UnknownFollower)),
@@ -47,18 +63,16 @@ fn is_told(rt: &impl Abort, replies: &[Reply<TestScheme>], text: &[u8]) {
             Reply::Arrive(Ok(ArriveReply::Kept { back: 0, added: 1 })),
             Reply::Next(Ok(Some(Instruction::AddBlock(told)))),
             Reply::Next(Ok(None)),
-        ] => {
-            assert!(rt; *opened == (FollowerId { number: 0 }));
-            assert!(rt; told.bytes() == text);
-        }
-        other => panic!(rt; "{other:?}"),
+        ] => opened.number == 0 && told.bytes() == text,
+        _ => false,
     }
 }
 
 /// What a new core answers to those.
 fn replies_to(alloc: Global, text: Vec<u8>) -> Result<Vec<Reply<TestScheme>>, Fail> {
     let events = events_of(alloc, text)?;
-    Ok(new_core(alloc)?.run(&events)?)
+    let mut core = new_core(alloc)?;
+    Ok(run_all(&mut core, &events)?)
 }
 
 // Events in a list are answered as one by one.
@@ -67,6 +81,6 @@ fn run_with_a_follower(rt: HostRuntime) -> Result<(), Fail> {
     let again = make(rt.alloc(), None, 1)?.text;
     let text = make(rt.alloc(), None, 1)?.text;
     let replies = replies_to(rt.alloc(), text)?;
-    is_told(&rt, &replies, &again);
+    assert!(rt; is_told(&replies, &again));
     Ok(())
 }

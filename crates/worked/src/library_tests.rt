@@ -1,26 +1,34 @@
 //! The crates as a library, as the README shows it.
 
-use super::fixture::{SMALL_NETWORK, make};
-use chain_core::{ArriveReply, Core, Instruction};
-use genesis::Genesis;
+use super::fixture::{SMALL_NETWORK, arrive_at, core_on, make, same};
+use chain_core::{ArriveReply, Core, FollowerId, Instruction};
+use std::process::Abort;
 use std::test::Fail;
 use witness_pool::TestScheme;
 
-#[test]
-fn as_a_library(rt: HostRuntime) -> Result<(), Fail> {
-    let bytes = make(rt.alloc(), None, 1)?.text;
-    let text = SMALL_NETWORK.to_string(rt.alloc())?;
-
-    let genesis = Genesis::from_toml(rt.alloc(), &text)?;
-    let mut core = Core::<TestScheme>::new(rt.alloc(), genesis)?;
-    let follower = core.open()?;
-    match core.arrive(&bytes)? {
+/// Prints what came of an arrival.
+fn tell_arrival<R: Print>(rt: &R, reply: ArriveReply) -> Result<(), Fail> {
+    match reply {
         ArriveReply::Kept { back, added } => println!(rt; "{back} rolled back, {added} put on")?,
         ArriveReply::Refused(refusal) => println!(rt; "refused: {refusal}")?,
     }
+    Ok(())
+}
+
+/// Prints what the follower is told next.
+fn tell_follower<R: Print>(
+    rt: &R,
+    core: &mut Core<TestScheme>,
+    follower: FollowerId,
+) -> Result<(), Fail> {
     if let Some(Instruction::AddBlock(block)) = core.next(follower)? {
         println!(rt; "put on block {}", block.number())?;
     }
+    Ok(())
+}
+
+/// Prints where the chain ends, and what is unspent there.
+fn tell_chain<R: Print + Abort>(rt: &R, core: &Core<TestScheme>) -> Result<(), Fail> {
     println!(rt; "the chain ends in block {}", core.tip().number)?;
     println!(rt;
         "{} outputs are unspent, and {} lovelace are fees",
@@ -28,8 +36,24 @@ fn as_a_library(rt: HostRuntime) -> Result<(), Fail> {
         core.fees()
     )?;
 
-    assert_eq!(rt; core.tip().number, 1);
-    assert_eq!(rt; core.utxo().len(), 1);
-    assert_eq!(rt; core.fees(), 0);
+    same(rt, "the tip", core.tip().number, 1);
+    same(rt, "unspent outputs", core.utxo().len() as u64, 1);
+    same(rt, "fees", core.fees(), 0);
     Ok(())
+}
+
+/// The bytes arrive at the core, and what comes of them is printed.
+fn tell<R: Print + Abort>(rt: &R, core: &mut Core<TestScheme>, bytes: &[u8]) -> Result<(), Fail> {
+    let follower = core.open()?;
+    let reply = arrive_at(core, bytes)?;
+    tell_arrival(rt, reply)?;
+    tell_follower(rt, core, follower)?;
+    tell_chain(rt, core)
+}
+
+#[test]
+fn as_a_library(rt: HostRuntime) -> Result<(), Fail> {
+    let bytes = make(rt.alloc(), None, 1)?.text;
+    let mut core = core_on(rt.alloc(), SMALL_NETWORK)?;
+    tell(&rt, &mut core, &bytes)
 }

@@ -1,47 +1,9 @@
-//! Scripts with followers.
+//! Scripts with followers, as many as there can be, and with want of memory.
 
-use super::script_tests::{ends, prints, run_script};
-use super::scripts;
+use super::script_tests::{ends, run_script};
 use scenario::{LineFault, ScenarioFault};
 use std::alloc::Global;
 use std::test::Fail;
-
-/// Scripts that run to their end, and what they print.
-const RUNS: &[(&str, &str)] = &[
-    (
-        scripts::FOLLOWER_IS_TOLD_A_BLOCK,
-        scripts::FOLLOWER_IS_TOLD_A_BLOCK_PRINTS,
-    ),
-    (
-        scripts::FOLLOWER_LEFT_BEHIND,
-        scripts::FOLLOWER_LEFT_BEHIND_PRINTS,
-    ),
-    // Each follower has a chain of its own, and a follower may be named as a block is.
-    (
-        "block A genesis 1\nblock B A 2\nopen A\narrive A\nnext A\nopen G\narrive B\nnext G\nnext A\nnext G\nnext A\n",
-        "open A: ok\narrive A: kept back 0 added 1\nnext A: add A\nopen G: ok\narrive B: kept back 0 added 1\nnext G: add A\nnext A: add B\nnext G: add B\nnext A: none\n",
-    ),
-    (
-        "open ABCDEFGHIJKLMNOP\nblock ABCDEFGHIJKLMNOP genesis 1\narrive ABCDEFGHIJKLMNOP\nnext ABCDEFGHIJKLMNOP\n",
-        "open ABCDEFGHIJKLMNOP: ok\narrive ABCDEFGHIJKLMNOP: kept back 0 added 1\nnext ABCDEFGHIJKLMNOP: add ABCDEFGHIJKLMNOP\n",
-    ),
-    // A block is told by its first name, and where only a raw line brought it by none.
-    (
-        "block A genesis 1\nblock B genesis 1\nopen F\narrive B\nnext F\n",
-        "open F: ok\narrive B: kept back 0 added 1\nnext F: add A\n",
-    ),
-    (
-        "raw Z 82840101f6582076be8b528d0075f7aae98d6fa57a6d3c83ae480a8469e668d7b0af968995ac7180\nopen F\narrive Z\nnext F\n",
-        "open F: ok\narrive Z: kept back 0 added 1\nnext F: add ?\n",
-    ),
-];
-
-#[test]
-fn scripts_of_followers(rt: HostRuntime) {
-    for (script, printed) in RUNS {
-        prints(&rt, rt.alloc(), *script, *printed);
-    }
-}
 
 /// Puts the opening of 1,024 followers behind a text, each line with this end.
 fn put_openings(alloc: Global, text: &mut Vec<u8>, end: &str) -> Result<(), Fail> {
@@ -131,7 +93,12 @@ const ENDS: &[End] = &[
 
 /// Whether a run may end so, with this printed.
 fn may_end(ended: Result<(), ScenarioFault>, out: &[u8]) -> bool {
-    ENDS.iter().any(|end| end.0 == ended && end.1 == out)
+    for (end, printed) in ENDS {
+        if *end == ended && *printed == out {
+            return true;
+        }
+    }
+    false
 }
 
 #[test]
@@ -139,6 +106,6 @@ fn want_of_memory_with_a_follower(rt: HostRuntime) -> Result<(), Fail> {
     let mut out = Vec::with_capacity(rt.alloc(), 256)?;
     let mut reader = b"block A genesis 1\narrive A\nopen F\nnext F\nnext F\n".as_slice();
     let result = run_script(rt.alloc(), &mut reader, &mut out);
-    assert!(rt; may_end(result, &out), "{result:?}");
+    assert!(rt; may_end(result, &out));
     Ok(())
 }

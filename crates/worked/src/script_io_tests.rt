@@ -1,12 +1,28 @@
 //! Scripts whose reader or writer fails.
 
 use super::script_tests::{run_script, same_bytes, same_end};
-use super::scripts;
 use scenario::ScenarioFault;
 use std::alloc::Global;
 use std::io;
 use std::io::{BufReader, Read, Write};
 use std::test::Fail;
+
+/// A predecessor that comes last.
+const SCRIPT: &[u8] = b"block A1 genesis 1
+block B1 genesis 2
+block B2 B1 3
+arrive A1
+arrive B2
+arrive B1
+tip
+";
+
+/// What it prints.
+const PRINTED: &[u8] = b"arrive A1: kept back 0 added 1
+arrive B2: kept back 0 added 0
+arrive B1: kept back 1 added 2
+tip: 2 B2
+";
 
 /// A reader whose second read fails.
 #[derive(Drop)]
@@ -85,12 +101,10 @@ fn end_with_room(room: usize, printed: usize) -> Result<(), ScenarioFault> {
 
 #[test]
 fn a_writer_that_fails(rt: HostRuntime) {
-    let script = scripts::LATE_PREDECESSOR.as_bytes();
-    let printed = scripts::LATE_PREDECESSOR_PRINTS.as_bytes();
-    for room in 0..printed.len() + 1 {
-        let (result, written) = run_limited(rt.alloc(), script, room);
-        same_end(&rt, "less room", result, end_with_room(room, printed.len()));
-        same_bytes(&rt, "less room", &written, &printed[..room]);
+    for room in 0..PRINTED.len() + 1 {
+        let (result, written) = run_limited(rt.alloc(), SCRIPT, room);
+        same_end(&rt, "less room", result, end_with_room(room, PRINTED.len()));
+        same_bytes(&rt, "less room", &written, &PRINTED[..room]);
     }
 }
 
@@ -119,13 +133,12 @@ impl Write for Interrupted {
 
 #[test]
 fn a_writer_that_is_interrupted(rt: HostRuntime) {
-    let mut reader = scripts::LATE_PREDECESSOR.as_bytes();
+    let mut reader = SCRIPT;
     let mut writer = Interrupted {
         turns: 0,
         written: Vec::new(rt.alloc()),
     };
     let result = run_script(rt.alloc(), &mut reader, &mut writer);
     same_end(&rt, "interruptions", result, Ok(()));
-    let printed = scripts::LATE_PREDECESSOR_PRINTS.as_bytes();
-    same_bytes(&rt, "interruptions", &writer.written, printed);
+    same_bytes(&rt, "interruptions", &writer.written, PRINTED);
 }

@@ -104,8 +104,10 @@ fn no_parts(alloc: Global) -> TxParts {
     }
 }
 
-/// Puts inputs, outputs, what is minted and a signature into parts.
-fn put_parts(alloc: Global, parts: &mut TxParts, policy: ScriptHash) -> Result<(), Fail> {
+/// Puts the script, inputs, outputs, what is minted and a signature into parts.
+fn put_parts(alloc: Global, parts: &mut TxParts, script: Script) -> Result<(), Fail> {
+    let policy = script.hash();
+    parts.scripts.push(script)?;
     put_inputs(&mut parts.inputs)?;
     put_outputs(alloc, &mut parts.outputs, policy)?;
     parts.mint = minted(alloc, policy)?;
@@ -118,8 +120,7 @@ fn put_parts(alloc: Global, parts: &mut TxParts, policy: ScriptHash) -> Result<(
 fn transaction(alloc: Global) -> Result<Tx, Fail> {
     let script = script(alloc)?;
     let mut parts = no_parts(alloc);
-    put_parts(alloc, &mut parts, script.hash())?;
-    parts.scripts.push(script)?;
+    put_parts(alloc, &mut parts, script)?;
     Ok(Tx::new(alloc, parts)?)
 }
 
@@ -167,9 +168,8 @@ fn texts_for_another_reader(rt: HostRuntime) -> Result<(), Fail> {
     print(&rt, "block", &block)?;
     // As another writer of CBOR and another SHA-256 have it: it names the body's hash, so no byte differs.
     let hash = shown_hash(rt.alloc(), &block)?;
-    assert_eq!(rt;
-        hash.as_str(),
-        "7584a177b65bbba9a8136e54fe6e5e8f4edc3cb52a0e7f5ae9e03e4fd7e38c13"
+    assert!(rt;
+        hash.as_str() == "7584a177b65bbba9a8136e54fe6e5e8f4edc3cb52a0e7f5ae9e03e4fd7e38c13"
     );
     Ok(())
 }

@@ -1,7 +1,8 @@
-//! Documents that are a genesis.
+//! Documents that are a genesis, and what it is then.
 
 use crate::documents::{OUTPUT, document};
-use genesis::{Genesis, GenesisFault, Grant};
+use crate::payments::same;
+use genesis::{Genesis, GenesisFault};
 use ident::KeyHash;
 use std::alloc::Global;
 use std::process::Abort;
@@ -17,60 +18,50 @@ fn read(alloc: Global, outputs: &str) -> Result<Genesis, Fail> {
     Ok(Genesis::from_toml(alloc, text.as_str())?)
 }
 
-/// The numbers of a genesis, in the order of the documents.
-fn numbers(genesis: &Genesis) -> [u64; 9] {
-    [
-        u64::from(genesis.network()),
-        genesis.k(),
-        genesis.min_fee_a(),
-        genesis.min_fee_b(),
-        genesis.min_utxo(),
-        genesis.max_tx_size(),
-        genesis.max_body_size(),
-        genesis.max_volatile(),
-        genesis.max_mempool(),
-    ]
+/// The genesis has the usual numbers.
+fn has_numbers(rt: &impl Abort, genesis: &Genesis) {
+    same(rt, "network", u64::from(genesis.network()), 0);
+    same(rt, "k", genesis.k(), 2);
+    same(rt, "min_fee_a", genesis.min_fee_a(), 1);
+    same(rt, "min_fee_b", genesis.min_fee_b(), 100);
+    same(rt, "min_utxo", genesis.min_utxo(), 10);
+    same(rt, "max_tx_size", genesis.max_tx_size(), 4096);
+    same(rt, "max_body_size", genesis.max_body_size(), 65_536);
+    same(rt, "max_volatile", genesis.max_volatile(), 100);
+    same(rt, "max_mempool", genesis.max_mempool(), 100);
 }
 
 #[test]
 fn numbers_of_a_genesis(rt: HostRuntime) -> Result<(), Fail> {
     let genesis = read(rt.alloc(), OUTPUT)?;
-    assert_eq!(rt;
-        numbers(&genesis),
-        [0, 2, 1, 100, 10, 4096, 65536, 100, 100]
-    );
+    has_numbers(&rt, &genesis);
     Ok(())
 }
 
 /// The address that the key of 32 bytes 01 unlocks.
-fn address() -> Result<Option<Address>, Fail> {
+fn address() -> Result<Address, Fail> {
     let hash = KEY_HASH.parse::<KeyHash>()?;
-    Ok(Address::new(0, Credential::Key(hash)))
+    Ok(Address::new(0, Credential::Key(hash)).ok_or("0 is a network")?)
 }
 
-/// The supply of a genesis, how many outputs it has, and the first one.
-fn granted(genesis: &Genesis) -> (u64, usize, Option<Grant>) {
-    let outputs = genesis.outputs();
-    (genesis.supply(), outputs.len(), outputs.first().copied())
-}
-
-/// Of a copy.
-fn copied(alloc: Global) -> Result<(u64, usize, Option<Grant>), Fail> {
-    let genesis = read(alloc, OUTPUT)?;
-    let copy = genesis.try_clone()?;
-    Ok(granted(&copy))
+/// The genesis has one output of 1,200 lovelace, to this address.
+fn has_output(rt: &impl Abort, genesis: &Genesis, address: Address) {
+    same(rt, "supply", genesis.supply(), 1200);
+    match genesis.outputs() {
+        [grant] => {
+            assert!(rt; grant.address == address);
+            same(rt, "coin", grant.coin, 1200);
+        }
+        _ => panic!(rt; "one output"),
+    }
 }
 
 #[test]
 fn outputs_of_a_genesis(rt: HostRuntime) -> Result<(), Fail> {
-    let Some(address) = address()? else {
-        panic!(rt; "0 is a network");
-    };
-    let grant = Grant {
-        address,
-        coin: 1200,
-    };
-    assert_eq!(rt; copied(rt.alloc())?, (1200, 1, Some(grant)));
+    let address = address()?;
+    let genesis = read(rt.alloc(), OUTPUT)?;
+    let copy = genesis.try_clone()?;
+    has_output(&rt, &copy, address);
     Ok(())
 }
 
@@ -79,18 +70,22 @@ const TWO: &str =
     "output = [{ coin = 7, address = \"70aaaaaaaaaaaaaaaaaaaaaaaaaaaaaaaaaaaaaaaaaaaaaaaaaaaaaaaaaaaaaaaa\" },\n\
     { address = \"60BBbbbbbbbbbbbbbbbbbbbbbbbbbbbbbbbbbbbbbbbbbbbbbbbbbbbbbbbbbbbbbb\", coin = 5 }]\n";
 
-/// The supply and the coins of those outputs, if there are two.
-fn coins_of_two(alloc: Global) -> Result<Option<(u64, u64, u64)>, Fail> {
-    let genesis = read(alloc, TWO)?;
+/// The coins of the outputs are 7 and 5.
+fn has_two(rt: &impl Abort, genesis: &Genesis) {
+    same(rt, "supply", genesis.supply(), 12);
     match genesis.outputs() {
-        [first, second] => Ok(Some((genesis.supply(), first.coin, second.coin))),
-        _ => Ok(None),
+        [first, second] => {
+            same(rt, "first", first.coin, 7);
+            same(rt, "second", second.coin, 5);
+        }
+        _ => panic!(rt; "two outputs"),
     }
 }
 
 #[test]
 fn outputs_in_their_order(rt: HostRuntime) -> Result<(), Fail> {
-    assert_eq!(rt; coins_of_two(rt.alloc())?, Some((12, 7, 5)));
+    let genesis = read(rt.alloc(), TWO)?;
+    has_two(&rt, &genesis);
     Ok(())
 }
 
@@ -111,6 +106,6 @@ fn supply_at_last(alloc: Global, text: &str) -> Result<u64, GenesisFault> {
 #[test]
 fn read_again_after_want_of_memory(rt: HostRuntime) -> Result<(), Fail> {
     let text = document(rt.alloc(), "", "", &[OUTPUT])?;
-    assert_eq!(rt; supply_at_last(rt.alloc(), text.as_str()), Ok(1200));
+    assert!(rt; supply_at_last(rt.alloc(), text.as_str()) == Ok(1200));
     Ok(())
 }

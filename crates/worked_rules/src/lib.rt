@@ -1,5 +1,6 @@
-//! Worked examples of the rules of transactions, of the unspent outputs, of genesis files, of blocks that are applied
-//! and of the chains of such blocks: each is a test, with what is to come out written by hand.
+//! Worked examples of the rules of transactions, of the unspent outputs, of genesis files, of blocks that are applied,
+//! of the chains of such blocks and of the mempool that a file of cases can't say: each is a test, with what is to come
+//! out written by hand.
 #![tactic(auto)]
 
 #[cfg(test)]
@@ -18,8 +19,6 @@ mod ledger_tests;
 mod ledgerdb_tests;
 #[cfg(test)]
 mod mempool_tests;
-#[cfg(test)]
-mod minting_tests;
 #[cfg(test)]
 mod payment_blocks;
 #[cfg(test)]

@@ -1,11 +1,10 @@
 //! The mempool of a core, beside chains of payments, on a genesis of one output of 1,200 lovelace.
 
-use crate::core_tests::{Made, arrive, first, make, new_core};
-use crate::documents::{OUTPUT, document};
-use crate::payment_blocks::next_payment;
-use crate::payments::{EXPIRING, GOOD, OTHER, Payment, Signed, checked_payment, signed_payment};
+use crate::core_tests::{Made, arrive_at, core_with, first, make, new_core};
+use crate::payments::{
+    EXPIRING, GOOD, OTHER, Payment, Signed, checked_payment, next_payment, signed_payment,
+};
 use chain_core::{Core, FollowerId, RawEvent, Reply};
-use genesis::Genesis;
 use mempool::{Mempool, SubmitReply};
 use std::alloc::{AllocError, Global};
 use std::test::Fail;
@@ -51,35 +50,25 @@ fn submit(
     Ok(answer(core, &bytes)?)
 }
 
-/// A core whose mempool may have one transaction.
-fn small_core(alloc: Global) -> Result<Core<TestScheme>, Fail> {
-    let text = document(alloc, "max_mempool", "1", &[OUTPUT])?;
-    let genesis = Genesis::from_toml(alloc, text.as_str())?;
-    Ok(Core::new(alloc, genesis)?)
-}
-
 /// Whether payments that are submitted one after the other are answered so.
 fn are_answered(
     alloc: Global,
     core: &mut Core<TestScheme>,
     calls: &[(Payment, SubmitReply)],
 ) -> Result<bool, Fail> {
-    let mut good = true;
     for (payment, want) in calls {
-        good = submit(alloc, core, payment)? == *want && good;
+        if submit(alloc, core, payment)? != *want {
+            return Ok(false);
+        }
     }
-    Ok(good)
+    Ok(true)
 }
 
 #[test]
 fn submitted_payments(rt: HostRuntime) -> Result<(), Fail> {
-    let alloc = rt.alloc();
-    let mut core = new_core(alloc)?;
+    let next = next_payment(rt.alloc())?;
     let calls = [
-        (
-            next_payment(alloc)?,
-            SubmitReply::Refused(Reason::MissingInput),
-        ),
+        (next, SubmitReply::Refused(Reason::MissingInput)),
         (CHEAP, SubmitReply::Refused(Reason::FeeTooSmall)),
         (FORGED, SubmitReply::Refused(Reason::BadSignature)),
         (UNSIGNED, SubmitReply::Refused(Reason::MissingKeyWitness)),
@@ -87,23 +76,24 @@ fn submitted_payments(rt: HostRuntime) -> Result<(), Fail> {
         (GOOD, SubmitReply::Known),
         (FORGED, SubmitReply::Known),
         (OTHER, SubmitReply::Refused(Reason::MissingInput)),
-        (next_payment(alloc)?, SubmitReply::Added),
+        (next, SubmitReply::Added),
     ];
-    assert!(rt; are_answered(alloc, &mut core, &calls)?);
+    let mut core = new_core(rt.alloc())?;
+    assert!(rt; are_answered(rt.alloc(), &mut core, &calls)?);
     Ok(())
 }
 
 #[test]
 fn full_mempool(rt: HostRuntime) -> Result<(), Fail> {
-    let alloc = rt.alloc();
-    let mut core = small_core(alloc)?;
+    let next = next_payment(rt.alloc())?;
     let calls = [
         (GOOD, SubmitReply::Added),
         (GOOD, SubmitReply::Known),
         (OTHER, SubmitReply::Refused(Reason::MissingInput)),
-        (next_payment(alloc)?, SubmitReply::Full),
+        (next, SubmitReply::Full),
     ];
-    assert!(rt; are_answered(alloc, &mut core, &calls)?);
+    let mut core = core_with(rt.alloc(), "max_mempool", "1")?;
+    assert!(rt; are_answered(rt.alloc(), &mut core, &calls)?);
     Ok(())
 }
 
@@ -112,17 +102,22 @@ fn is_malformed(core: &mut Core<TestScheme>, bytes: &[u8]) -> Result<bool, Alloc
     Ok(answer(core, bytes)? == SubmitReply::Malformed)
 }
 
-// A payment with a byte after it, one without its last byte, and no bytes.
+/// Whether the text of a payment with a byte after it, without its last byte, and no bytes are refused so, and nothing
+/// waits then.
+fn are_malformed(core: &mut Core<TestScheme>, text: &mut Vec<u8>) -> Result<bool, AllocError> {
+    text.push(0)?;
+    let longer = is_malformed(core, text)?;
+    text.truncate(189);
+    let shorter = is_malformed(core, text)?;
+    let none = is_malformed(core, &[])?;
+    Ok(longer && shorter && none && core.mempool().is_empty())
+}
+
 #[test]
 fn bytes_of_no_transaction(rt: HostRuntime) -> Result<(), Fail> {
-    let mut core = new_core(rt.alloc())?;
     let mut text = bytes_of(rt.alloc(), &GOOD)?;
-    text.push(0)?;
-    assert!(rt; is_malformed(&mut core, &text)?);
-    text.truncate(189);
-    assert!(rt; is_malformed(&mut core, &text)?);
-    assert!(rt; is_malformed(&mut core, &[])?);
-    assert!(rt; core.mempool().is_empty());
+    let mut core = new_core(rt.alloc())?;
+    assert!(rt; are_malformed(&mut core, &mut text)?);
     Ok(())
 }
 
@@ -147,12 +142,22 @@ fn submit_all(
     Ok(())
 }
 
-/// The fees of those of these payments that wait once a block has arrived.
+/// The fees of those of these payments that wait in the core once a block has arrived.
+fn left_in(
+    alloc: Global,
+    core: &mut Core<TestScheme>,
+    payments: &[Payment],
+    made: &Made,
+) -> Result<Vec<u64>, Fail> {
+    submit_all(alloc, core, payments)?;
+    arrive_at(core, &made.text)?;
+    Ok(fees(alloc, core.mempool())?)
+}
+
+/// Those that wait in a new core.
 fn left_after(alloc: Global, payments: &[Payment], made: &Made) -> Result<Vec<u64>, Fail> {
     let mut core = new_core(alloc)?;
-    submit_all(alloc, &mut core, payments)?;
-    arrive(&mut core, made)?;
-    Ok(fees(alloc, core.mempool())?)
+    left_in(alloc, &mut core, payments, made)
 }
 
 /// Whether these fees are left of a payment and the one that spends what it makes, once a block of others has arrived.
@@ -188,8 +193,9 @@ fn mempool_at_the_slot_after_the_tips(rt: HostRuntime) -> Result<(), Fail> {
 
 /// The answer of a new core to a payment that was judged before.
 fn checked_answer(alloc: Global, payment: &Payment) -> Result<SubmitReply, Fail> {
+    let tx = checked_payment(alloc, payment)?;
     let mut core = new_core(alloc)?;
-    Ok(core.submit_checked(checked_payment(alloc, payment)?)?)
+    Ok(core.submit_checked(tx)?)
 }
 
 #[test]
@@ -200,26 +206,33 @@ fn submitted_with_verdicts(rt: HostRuntime) -> Result<(), Fail> {
 
 /// A payment twice, a block with it, and a follower that is told of it.
 fn events(alloc: Global, made: Made) -> Result<Vec<RawEvent>, Fail> {
-    let mut events = Vec::new(alloc);
-    events.push(RawEvent::Submit(bytes_of(alloc, &GOOD)?))?;
-    events.push(RawEvent::Submit(bytes_of(alloc, &GOOD)?))?;
-    events.push(RawEvent::Arrive(made.text))?;
-    events.push(RawEvent::Open)?;
-    for number in [0, 0, 7] {
-        events.push(RawEvent::Next(FollowerId { number }))?;
-    }
-    Ok(events)
+    let one = bytes_of(alloc, &GOOD)?;
+    let other = bytes_of(alloc, &GOOD)?;
+    let events = [
+        RawEvent::Submit(one),
+        RawEvent::Submit(other),
+        RawEvent::Arrive(made.text),
+        RawEvent::Open,
+        RawEvent::Next(FollowerId { number: 0 }),
+        RawEvent::Next(FollowerId { number: 0 }),
+        RawEvent::Next(FollowerId { number: 7 }),
+    ];
+    Ok(Vec::from_array(alloc, events)?)
 }
 
-/// The replies of a new core to events, each in its words, with a semicolon after it.
-fn replies(alloc: Global, events: &[RawEvent]) -> Result<String, Fail> {
-    let mut core = new_core(alloc)?;
-    let replies: Vec<Reply<TestScheme>> = core.run(events)?;
+/// The replies, each in its words, with a semicolon after it.
+fn words_of(alloc: Global, replies: &[Reply<TestScheme>]) -> Result<String, AllocError> {
     let mut text = String::new(alloc);
-    for reply in replies.iter() {
-        text.push_str(&format!(in alloc; "{reply};")?)?;
+    for reply in replies {
+        write!(text, "{reply};")?;
     }
     Ok(text)
+}
+
+/// The replies of a new core to events.
+fn replies_to(alloc: Global, events: &[RawEvent]) -> Result<Vec<Reply<TestScheme>>, Fail> {
+    let mut core = new_core(alloc)?;
+    Ok(core.run(events)?)
 }
 
 #[test]
@@ -231,6 +244,7 @@ fn replies_in_words(rt: HostRuntime) -> Result<(), Fail> {
         made.hash
     )?;
     let events = events(alloc, made)?;
-    assert!(rt; replies(alloc, &events)?.as_str() == want.as_str());
+    let replies = replies_to(alloc, &events)?;
+    assert!(rt; words_of(alloc, &replies)?.as_str() == want.as_str());
     Ok(())
 }

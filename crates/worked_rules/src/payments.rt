@@ -1,12 +1,13 @@
 //! Payments for the tests of the rules: that of the worked example, of 190 bytes and so with a least fee of 290, and
 //! others that differ in one thing or two.
 
-use ident::{KeyHash, ScriptHash, TxId};
+use ident::{KeyHash, TxId};
 use std::alloc::{AllocError, Global};
+use std::process::Abort;
 use std::test::Fail;
 use timelock::{Interval, Script, ScriptFault, Timelock, Timelocks};
 use tx::{Address, Credential, Input, KeyWitness, Output, Tx, TxParts};
-use utxo_rules::{CheckFault, Params, Utxo, apply, check};
+use utxo_rules::Utxo;
 use value::{AssetQuantity, Mint, Value};
 use witness_pool::{CheckedTx, TestScheme, plain};
 
@@ -16,58 +17,39 @@ const KEY: [u8; 32] = [1; 32];
 /// The identifier of the genesis.
 const GENESIS: [u8; 32] = [0; 32];
 
-/// What signs a payment.
+/// How a payment is signed.
 #[derive(Clone, Copy)]
 pub enum Signed {
     Well,
     Badly,
-    /// By another key, and badly.
-    ByAnother,
     NotAtAll,
 }
 
-/// A payment to the key. Its asset has the empty name.
+/// A payment to the key. Its asset has the empty name, under the script that asks for all of none.
 #[derive(Clone, Copy)]
 pub struct Payment {
     /// The transaction of which outputs are spent, where it isn't the genesis.
     pub from: Option<TxId>,
-    /// The index of the first output that is spent.
-    pub first: u16,
-    /// The index behind the last one.
-    pub end: u16,
-    /// How many outputs are paid, all equal.
-    pub outputs: u8,
-    /// How much lovelace is in each.
+    /// How many of its outputs are spent, from the first one on.
+    pub inputs: u16,
+    /// How much lovelace is in the output.
     pub coin: u64,
-    /// How much of the asset is in each.
-    pub held: u64,
     pub fee: u64,
-    pub network: u8,
     pub until: Option<u64>,
-    /// How much of the asset is minted.
-    pub minted: i64,
-    /// Whether the script that governs the asset holds.
-    pub policy: bool,
+    /// How much of the asset is minted, and is in the output.
+    pub minted: u32,
     pub signed: Signed,
-    /// The scripts that are supplied, each by whether it holds.
-    pub supplied: &'static [bool],
 }
 
 /// The payment of the worked example, which is good.
 pub const GOOD: Payment = Payment {
     from: None,
-    first: 0,
-    end: 1,
-    outputs: 1,
+    inputs: 1,
     coin: 910,
-    held: 0,
     fee: 290,
-    network: 0,
     until: None,
     minted: 0,
-    policy: true,
     signed: Signed::Well,
-    supplied: &[],
 };
 
 /// Another payment of the same output.
@@ -85,33 +67,12 @@ pub const EXPIRING: Payment = Payment {
     ..GOOD
 };
 
-/// A transaction that spends nothing, which no rules let through.
-pub const IDLE: Payment = Payment {
-    end: 0,
-    outputs: 0,
-    fee: 0,
-    signed: Signed::NotAtAll,
-    ..GOOD
-};
-
-/// The payment that mints 5 of the script that holds, which is supplied.
+/// The payment that mints 5, with the script.
 pub const MINTING: Payment = Payment {
     coin: 800,
-    held: 5,
     fee: 400,
     minted: 5,
-    supplied: &[true],
     ..GOOD
-};
-
-/// What the network of the worked examples asks.
-pub const PARAMS: Params = Params {
-    network: 0,
-    min_fee_a: 1,
-    min_fee_b: 100,
-    min_utxo: 10,
-    max_tx_size: 4096,
-    max_body_size: 65_536,
 };
 
 /// The output of this index of the genesis.
@@ -122,32 +83,20 @@ pub fn genesis(index: u16) -> Input {
     }
 }
 
-/// The address of the key on this network.
-fn address(network: u8) -> Option<Address> {
-    Address::new(network, Credential::Key(KeyHash::of_key(&KEY)))
+/// The address of the key.
+fn address() -> Option<Address> {
+    Address::new(0, Credential::Key(KeyHash::of_key(&KEY)))
 }
 
-/// The script that asks for all of none, or for one of none.
-fn script(alloc: Global, holds: bool) -> Result<Script, ScriptFault> {
+/// The script that asks for all of none.
+fn script(alloc: Global) -> Result<Script, ScriptFault> {
     let none = Timelocks::from_vec(Vec::new(alloc));
-    if holds {
-        return Script::new(alloc, Timelock::RequireAllOf(none));
-    }
-    Script::new(alloc, Timelock::RequireAnyOf(none))
+    Script::new(alloc, Timelock::RequireAllOf(none))
 }
 
-/// The hash of that script.
-fn policy(alloc: Global, holds: bool) -> Result<ScriptHash, ScriptFault> {
-    let script = script(alloc, holds)?;
-    Ok(script.hash())
-}
-
-/// So much of the empty name under this policy.
-fn asset<Q: Drop>(
-    alloc: Global,
-    policy: ScriptHash,
-    quantity: Q,
-) -> Result<Vec<AssetQuantity<Q>>, AllocError> {
+/// So much of the asset.
+fn asset<Q: Drop>(alloc: Global, quantity: Q) -> Result<Vec<AssetQuantity<Q>>, Fail> {
+    let policy = script(alloc)?.hash();
     let mut assets = Vec::new(alloc);
     assets.push(AssetQuantity {
         policy,
@@ -157,13 +106,12 @@ fn asset<Q: Drop>(
     Ok(assets)
 }
 
-/// The value of an output of the payment.
+/// The value of the payment's output.
 fn value(alloc: Global, payment: &Payment) -> Result<Value, Fail> {
-    if payment.held == 0 {
+    if payment.minted == 0 {
         return Ok(Value::of_coin(alloc, payment.coin));
     }
-    let policy = policy(alloc, payment.policy)?;
-    let assets = asset(alloc, policy, payment.held)?;
+    let assets = asset(alloc, u64::from(payment.minted))?;
     Ok(Value::new(alloc, payment.coin, assets)?)
 }
 
@@ -172,48 +120,41 @@ fn minted(alloc: Global, payment: &Payment) -> Result<Mint, Fail> {
     if payment.minted == 0 {
         return Ok(Mint::nothing(alloc));
     }
-    let policy = policy(alloc, payment.policy)?;
-    let assets = asset(alloc, policy, payment.minted)?;
+    let assets = asset(alloc, i64::from(payment.minted))?;
     Ok(Mint::new(alloc, assets)?)
 }
 
 /// Puts the payment's inputs into parts.
 fn put_inputs(parts: &mut TxParts, payment: &Payment) -> Result<(), AllocError> {
     let transaction = payment.from.unwrap_or(TxId::from_bytes(GENESIS));
-    for index in payment.first..payment.end {
+    for index in 0..payment.inputs {
         parts.inputs.push(Input { transaction, index })?;
     }
     Ok(())
 }
 
-/// Puts the payment's outputs into parts.
-fn put_outputs(alloc: Global, parts: &mut TxParts, payment: &Payment) -> Result<(), Fail> {
-    if let Some(address) = address(payment.network) {
-        for _ in 0..payment.outputs {
-            let value = value(alloc, payment)?;
-            parts.outputs.push(Output { address, value })?;
-        }
-    }
-    Ok(())
+/// Puts the payment's output into parts.
+fn put_output(alloc: Global, parts: &mut TxParts, payment: &Payment) -> Result<(), Fail> {
+    let address = address().ok_or("0 is a network")?;
+    let value = value(alloc, payment)?;
+    Ok(parts.outputs.push(Output { address, value })?)
 }
 
-/// Puts the scripts that are supplied into parts.
-fn put_scripts(alloc: Global, parts: &mut TxParts, payment: &Payment) -> Result<(), Fail> {
-    for holds in payment.supplied {
-        let script = script(alloc, *holds)?;
-        parts.scripts.push(script)?;
+/// Puts what the payment mints into parts, with the script that it needs then.
+fn put_mint(alloc: Global, parts: &mut TxParts, payment: &Payment) -> Result<(), Fail> {
+    parts.mint = minted(alloc, payment)?;
+    if payment.minted > 0 {
+        parts.scripts.push(script(alloc)?)?;
     }
     Ok(())
 }
 
 /// Puts what signs this identifier into parts.
 fn put_signature(parts: &mut TxParts, payment: &Payment, id: TxId) -> Result<(), AllocError> {
-    let good = TestScheme::sign(&KEY, id.as_bytes());
     let witness = match payment.signed {
         Signed::NotAtAll => return Ok(()),
-        Signed::Well => KeyWitness::new(KEY, good),
+        Signed::Well => KeyWitness::new(KEY, TestScheme::sign(&KEY, id.as_bytes())),
         Signed::Badly => KeyWitness::new(KEY, [0; 64]),
-        Signed::ByAnother => KeyWitness::new([2; 32], good),
     };
     Ok(parts.signatures.push(witness)?)
 }
@@ -226,13 +167,13 @@ fn put_payment(
     id: TxId,
 ) -> Result<(), Fail> {
     put_inputs(parts, payment)?;
-    put_outputs(alloc, parts, payment)?;
-    put_scripts(alloc, parts, payment)?;
+    put_output(alloc, parts, payment)?;
+    put_mint(alloc, parts, payment)?;
     Ok(put_signature(parts, payment, id)?)
 }
 
-/// Parts of nothing but this mint, and the fee and the interval of the payment.
-fn nothing(alloc: Global, payment: &Payment, mint: Mint) -> TxParts {
+/// Parts of nothing but the fee and the interval of the payment.
+fn nothing(alloc: Global, payment: &Payment) -> TxParts {
     TxParts {
         inputs: Vec::new(alloc),
         outputs: Vec::new(alloc),
@@ -241,7 +182,7 @@ fn nothing(alloc: Global, payment: &Payment, mint: Mint) -> TxParts {
             start: None,
             end: payment.until,
         },
-        mint,
+        mint: Mint::nothing(alloc),
         signatures: Vec::new(alloc),
         scripts: Vec::new(alloc),
     }
@@ -249,8 +190,7 @@ fn nothing(alloc: Global, payment: &Payment, mint: Mint) -> TxParts {
 
 /// The payment, signed for this identifier.
 fn made(alloc: Global, payment: &Payment, id: TxId) -> Result<Tx, Fail> {
-    let mint = minted(alloc, payment)?;
-    let mut parts = nothing(alloc, payment, mint);
+    let mut parts = nothing(alloc, payment);
     put_payment(alloc, &mut parts, payment, id)?;
     Ok(Tx::new(alloc, parts)?)
 }
@@ -267,6 +207,17 @@ pub fn checked_payment(alloc: Global, payment: &Payment) -> Result<CheckedTx<Tes
     Ok(plain(alloc, tx)?)
 }
 
+/// The payment that spends the output of the first one.
+pub fn next_payment(alloc: Global) -> Result<Payment, Fail> {
+    let from = Some(signed_payment(alloc, &GOOD)?.id());
+    Ok(Payment {
+        from,
+        coin: 600,
+        fee: 310,
+        ..GOOD
+    })
+}
+
 /// Puts an output of so much lovelace into a UTXO.
 pub fn put_unspent(
     alloc: Global,
@@ -275,7 +226,7 @@ pub fn put_unspent(
     coin: u64,
 ) -> Result<(), AllocError> {
     let value = Value::of_coin(alloc, coin);
-    match address(0) {
+    match address() {
         None => Ok(()),
         Some(address) => utxo.insert(place, Output { address, value }),
     }
@@ -289,9 +240,14 @@ fn put_genesis(alloc: Global, utxo: &mut Utxo, count: u16, coin: u64) -> Result<
     Ok(())
 }
 
+/// A UTXO of nothing. In a box it is dropped by a call, which keeps the proofs of the tests short.
+pub fn no_outputs(alloc: Global) -> Result<Box<Utxo>, AllocError> {
+    Ok(Box::new(alloc, Utxo::new(alloc))?)
+}
+
 /// The UTXO of so many outputs of the genesis, each of this lovelace.
-pub fn opening(alloc: Global, count: u16, coin: u64) -> Result<Utxo, AllocError> {
-    let mut utxo = Utxo::new(alloc);
+pub fn opening(alloc: Global, count: u16, coin: u64) -> Result<Box<Utxo>, AllocError> {
+    let mut utxo = no_outputs(alloc)?;
     put_genesis(alloc, &mut utxo, count, coin)?;
     Ok(utxo)
 }
@@ -304,61 +260,15 @@ pub fn first_of(tx: &CheckedTx<TestScheme>) -> Input {
     }
 }
 
-/// How much lovelace stands there.
-pub fn coin_at(utxo: &Utxo, place: &Input) -> Option<u64> {
-    Some(utxo.get(place)?.value.coin())
-}
-
-/// The number of the reason that is told, 0 for none, and 15 for want of memory.
-pub fn number(checked: Result<(), CheckFault>) -> u8 {
-    match checked {
-        Ok(()) => 0,
-        Err(CheckFault::Refused(reason)) => reason.number(),
-        Err(CheckFault::OutOfMemory) => 15,
+/// How much lovelace stands there, 0 where nothing does.
+pub fn coin_at(utxo: &Utxo, place: &Input) -> u64 {
+    match utxo.get(place) {
+        Some(output) => output.value.coin(),
+        None => 0,
     }
 }
 
-/// What came of a payment that was judged, then put into effect whatever was told, and judged once more.
-#[derive(Clone, Copy, Debug, PartialEq, Eq)]
-pub struct Outcome {
-    /// The number that was told.
-    pub told: u8,
-    /// The number that was told once more.
-    pub again: u8,
-    /// How many outputs are unspent now.
-    pub len: usize,
-    /// How much lovelace they hold.
-    pub coin: u128,
-    /// How much the payment's own first output holds.
-    pub first: Option<u64>,
-}
-
-/// What comes of a transaction.
-fn put_into_effect(
-    alloc: Global,
-    params: &Params,
-    utxo: &mut Utxo,
-    tx: &CheckedTx<TestScheme>,
-) -> Result<Outcome, AllocError> {
-    let told = number(check(alloc, params, utxo, 7, tx));
-    apply(utxo, tx.tx())?;
-    Ok(Outcome {
-        told,
-        again: number(check(alloc, params, utxo, 7, tx)),
-        len: utxo.len(),
-        coin: utxo.coin()?,
-        first: coin_at(utxo, &first_of(tx)),
-    })
-}
-
-/// What comes of a payment, and its identifier.
-pub fn spend(
-    alloc: Global,
-    params: &Params,
-    utxo: &mut Utxo,
-    payment: &Payment,
-) -> Result<(TxId, Outcome), Fail> {
-    let tx = checked_payment(alloc, payment)?;
-    let outcome = put_into_effect(alloc, params, utxo, &tx)?;
-    Ok((tx.tx().id(), outcome))
+/// The number that this is said of is the one that is wanted.
+pub fn same(rt: &impl Abort, about: &str, found: u64, want: u64) {
+    assert_eq!(rt; found, want, "{about}");
 }

@@ -1,442 +1,150 @@
-//! Payments that are judged: each reason alone, and pairs of reasons, of which the first is told.
+//! Payments that are judged where an output stands in the place of their own, or beside want of memory.
 
 use crate::payments::{
-    GOOD, MINTING, Outcome, PARAMS, Payment, Signed, checked_payment, coin_at, first_of, genesis,
-    number, opening, put_unspent, spend,
+    GOOD, MINTING, Payment, Signed, checked_payment, coin_at, first_of, genesis, opening,
+    put_unspent, same,
 };
 use std::alloc::{AllocError, Global};
 use std::process::Abort;
 use std::test::Fail;
-use utxo_rules::{Params, Utxo, apply, check};
+use utxo_rules::{CheckFault, Params, Utxo, apply, check};
 use witness_pool::{CheckedTx, TestScheme};
 
-/// A payment that is judged at slot 7 on a genesis of one output of 1,200 lovelace.
-#[derive(Clone, Copy)]
-struct Row {
-    payment: Payment,
-    /// How many bytes a transaction has at most.
-    max_tx_size: u32,
-    /// Whether an output stands already where the payment's own would stand.
-    taken: bool,
-    /// The number of the first reason against it, or 0.
-    told: u8,
-}
-
-/// The payment that is good.
-const ROW: Row = Row {
-    payment: GOOD,
+/// What the network of the worked examples asks.
+const PARAMS: Params = Params {
+    network: 0,
+    min_fee_a: 1,
+    min_fee_b: 100,
+    min_utxo: 10,
     max_tx_size: 4096,
-    taken: false,
-    told: 0,
+    max_body_size: 65_536,
 };
 
-/// Each reason alone, and payments that are good.
-const ALONE: [Row; 19] = [
-    Row {
-        payment: Payment {
-            until: Some(7),
-            ..GOOD
-        },
-        told: 1,
-        ..ROW
-    },
-    Row {
-        payment: Payment {
-            until: Some(8),
-            fee: 300,
-            coin: 900,
-            ..GOOD
-        },
-        told: 0,
-        ..ROW
-    },
-    Row {
-        payment: Payment { end: 0, ..GOOD },
-        told: 2,
-        ..ROW
-    },
-    Row {
-        max_tx_size: 190,
-        told: 0,
-        ..ROW
-    },
-    Row {
-        max_tx_size: 189,
-        told: 3,
-        ..ROW
-    },
-    Row {
-        payment: MINTING,
-        max_tx_size: 273,
-        told: 0,
-        ..ROW
-    },
-    Row {
-        payment: MINTING,
-        max_tx_size: 272,
-        told: 3,
-        ..ROW
-    },
-    Row {
-        payment: Payment {
-            coin: 911,
-            fee: 289,
-            ..GOOD
-        },
-        told: 4,
-        ..ROW
-    },
-    Row {
-        payment: Payment {
-            first: 1,
-            end: 2,
-            ..GOOD
-        },
-        told: 5,
-        ..ROW
-    },
-    Row {
-        payment: Payment {
-            coin: 9,
-            fee: 1191,
-            ..GOOD
-        },
-        told: 6,
-        ..ROW
-    },
-    Row {
-        payment: Payment { network: 1, ..GOOD },
-        told: 7,
-        ..ROW
-    },
-    Row {
-        payment: Payment { coin: 909, ..GOOD },
-        told: 8,
-        ..ROW
-    },
-    Row {
-        taken: true,
-        told: 9,
-        ..ROW
-    },
-    Row {
-        payment: Payment {
-            signed: Signed::Badly,
-            ..GOOD
-        },
-        told: 10,
-        ..ROW
-    },
-    Row {
-        payment: Payment {
-            signed: Signed::NotAtAll,
-            ..GOOD
-        },
-        told: 11,
-        ..ROW
-    },
-    Row {
-        payment: Payment {
-            supplied: &[],
-            ..MINTING
-        },
-        told: 12,
-        ..ROW
-    },
-    Row {
-        payment: Payment {
-            coin: 800,
-            fee: 400,
-            supplied: &[true],
-            ..GOOD
-        },
-        told: 13,
-        ..ROW
-    },
-    Row {
-        payment: Payment {
-            supplied: &[true, false],
-            ..MINTING
-        },
-        told: 13,
-        ..ROW
-    },
-    Row {
-        payment: Payment {
-            policy: false,
-            supplied: &[false],
-            ..MINTING
-        },
-        told: 14,
-        ..ROW
-    },
-];
+/// The number of the first reason against a transaction at slot 7, 0 for none, and 15 for want of memory.
+fn told(alloc: Global, params: &Params, utxo: &Utxo, tx: &CheckedTx<TestScheme>) -> u64 {
+    match check(alloc, params, utxo, 7, tx) {
+        Ok(()) => 0,
+        Err(CheckFault::Refused(reason)) => u64::from(reason.number()),
+        Err(CheckFault::OutOfMemory) => 15,
+    }
+}
 
-/// Two reasons.
-const PAIRS: [Row; 13] = [
-    Row {
-        payment: Payment {
-            until: Some(7),
-            end: 0,
-            ..GOOD
-        },
-        told: 1,
-        ..ROW
-    },
-    Row {
-        payment: Payment { end: 0, ..GOOD },
-        max_tx_size: 100,
-        told: 2,
-        ..ROW
-    },
-    Row {
-        payment: Payment { fee: 289, ..GOOD },
-        max_tx_size: 189,
-        told: 3,
-        ..ROW
-    },
-    Row {
-        payment: Payment {
-            fee: 289,
-            first: 1,
-            end: 2,
-            ..GOOD
-        },
-        told: 4,
-        ..ROW
-    },
-    Row {
-        payment: Payment {
-            first: 1,
-            end: 2,
-            coin: 9,
-            ..GOOD
-        },
-        told: 5,
-        ..ROW
-    },
-    Row {
-        payment: Payment {
-            coin: 9,
-            network: 1,
-            ..GOOD
-        },
-        told: 6,
-        ..ROW
-    },
-    Row {
-        payment: Payment {
-            coin: 909,
-            network: 1,
-            ..GOOD
-        },
-        told: 7,
-        ..ROW
-    },
-    Row {
-        payment: Payment { coin: 909, ..GOOD },
-        taken: true,
-        told: 8,
-        ..ROW
-    },
-    Row {
-        payment: Payment {
-            signed: Signed::Badly,
-            ..GOOD
-        },
-        taken: true,
-        told: 9,
-        ..ROW
-    },
-    Row {
-        payment: Payment {
-            signed: Signed::ByAnother,
-            ..GOOD
-        },
-        told: 10,
-        ..ROW
-    },
-    Row {
-        payment: Payment {
-            signed: Signed::NotAtAll,
-            supplied: &[],
-            ..MINTING
-        },
-        told: 11,
-        ..ROW
-    },
-    Row {
-        payment: Payment {
-            supplied: &[false],
-            ..MINTING
-        },
-        told: 12,
-        ..ROW
-    },
-    Row {
-        payment: Payment {
-            coin: 800,
-            fee: 400,
-            supplied: &[false],
-            ..GOOD
-        },
-        told: 13,
-        ..ROW
-    },
-];
+/// The payment with its verdicts, in a box for the same reason as the UTXO.
+fn boxed_payment(alloc: Global, payment: &Payment) -> Result<Box<CheckedTx<TestScheme>>, Fail> {
+    let tx = checked_payment(alloc, payment)?;
+    Ok(Box::new(alloc, tx)?)
+}
 
-/// The payment of two outputs, each of 300 lovelace and 2^63 of an asset, which nothing mints: a sum in 64 bits would
-/// be 0.
-const HALVES: Payment = Payment {
-    outputs: 2,
-    coin: 300,
-    held: 1 << 63,
-    fee: 600,
+/// What is told of a payment where an output of 10 lovelace stands where its own would.
+fn told_where_taken(alloc: Global, payment: &Payment) -> Result<u64, Fail> {
+    let tx = boxed_payment(alloc, payment)?;
+    let mut utxo = opening(alloc, 1, 1200)?;
+    put_unspent(alloc, &mut utxo, &first_of(&tx), 10)?;
+    Ok(told(alloc, &PARAMS, &utxo, &tx))
+}
+
+/// A payment of a lovelace less.
+const UNBALANCED: Payment = Payment { coin: 909, ..GOOD };
+
+/// A payment with a signature of zeros.
+const BADLY_SIGNED: Payment = Payment {
+    signed: Signed::Badly,
+    ..GOOD
+};
+
+// Alone, behind the reason before it, and before the one behind it.
+#[test]
+fn places_that_are_taken(rt: HostRuntime) -> Result<(), Fail> {
+    same(&rt, "good", told_where_taken(rt.alloc(), &GOOD)?, 9);
+    same(
+        &rt,
+        "unbalanced",
+        told_where_taken(rt.alloc(), &UNBALANCED)?,
+        8,
+    );
+    same(
+        &rt,
+        "badly signed",
+        told_where_taken(rt.alloc(), &BADLY_SIGNED)?,
+        9,
+    );
+    Ok(())
+}
+
+/// A thousand outputs are spent, and nobody signs.
+const GATHERING: Payment = Payment {
+    inputs: 1000,
+    coin: 9000,
+    fee: 1000,
     signed: Signed::NotAtAll,
     ..GOOD
 };
 
-/// Puts an output of 10 lovelace where that of the transaction would stand, if it is to be taken.
-fn put_taken(
+/// Nothing is paid for a byte here, so that the fee is no matter.
+const FREE: Params = Params {
+    min_fee_a: 0,
+    max_tx_size: 65_536,
+    ..PARAMS
+};
+
+/// The transaction is judged, put into effect whatever is told, and judged once more.
+fn gather(
+    rt: &impl Abort,
     alloc: Global,
     utxo: &mut Utxo,
-    taken: bool,
     tx: &CheckedTx<TestScheme>,
-) -> Result<(), AllocError> {
-    if !taken {
-        return Ok(());
-    }
-    put_unspent(alloc, utxo, &first_of(tx), 10)
-}
-
-/// The UTXO on which a row's payment is judged.
-fn unspent_for(alloc: Global, taken: bool, tx: &CheckedTx<TestScheme>) -> Result<Utxo, AllocError> {
-    let mut utxo = opening(alloc, 1, 1200)?;
-    put_taken(alloc, &mut utxo, taken, tx)?;
-    Ok(utxo)
-}
-
-/// The number that is told of the row's payment.
-fn told(alloc: Global, row: &Row) -> Result<u8, Fail> {
-    let tx = checked_payment(alloc, &row.payment)?;
-    let utxo = unspent_for(alloc, row.taken, &tx)?;
-    let params = Params {
-        max_tx_size: row.max_tx_size,
-        ..PARAMS
-    };
-    Ok(number(check(alloc, &params, &utxo, 7, &tx)))
-}
-
-/// What is told of each row's payment is what is wanted.
-fn judge(rt: &impl Abort, alloc: Global, rows: &[Row]) -> Result<(), Fail> {
-    for (index, row) in rows.iter().enumerate() {
-        assert_eq!(rt; told(alloc, row)?, row.told, "row {index}");
-    }
+) -> Result<(), Fail> {
+    same(rt, "told", told(alloc, &FREE, utxo, tx), 11);
+    apply(utxo, tx.tx())?;
+    same(rt, "told again", told(alloc, &FREE, utxo, tx), 5);
+    same(rt, "outputs", utxo.len() as u64, 1);
+    same(rt, "its own", coin_at(utxo, &first_of(tx)), 9000);
+    assert!(rt; utxo.coin()? == 9000);
     Ok(())
 }
 
-#[test]
-fn each_reason_alone(rt: HostRuntime) -> Result<(), Fail> {
-    judge(&rt, rt.alloc(), &ALONE)
-}
-
-#[test]
-fn of_two_reasons_the_first(rt: HostRuntime) -> Result<(), Fail> {
-    judge(&rt, rt.alloc(), &PAIRS)
-}
-
-#[test]
-fn sums_past_64_bits(rt: HostRuntime) -> Result<(), Fail> {
-    let row = Row {
-        payment: HALVES,
-        told: 8,
-        ..ROW
-    };
-    judge(&rt, rt.alloc(), &[row])
-}
-
-/// What comes of the payment where so many outputs of the genesis stand, each of this lovelace.
-fn spent(
-    alloc: Global,
-    params: &Params,
-    count: u16,
-    each: u64,
-    payment: &Payment,
-) -> Result<Outcome, Fail> {
-    let mut utxo = opening(alloc, count, each)?;
-    let (_, outcome) = spend(alloc, params, &mut utxo, payment)?;
-    Ok(outcome)
-}
-
-#[test]
-fn a_payment_is_good(rt: HostRuntime) -> Result<(), Fail> {
-    let expected = Outcome {
-        told: 0,
-        again: 5,
-        len: 1,
-        coin: 910,
-        first: Some(910),
-    };
-    assert_eq!(rt; spent(rt.alloc(), &PARAMS, 1, 1200, &GOOD)?, expected);
-    Ok(())
-}
-
-// Nothing is paid for a byte here, so that the fee is no matter.
 #[test]
 fn a_thousand_inputs(rt: HostRuntime) -> Result<(), Fail> {
-    let params = Params {
-        min_fee_a: 0,
-        max_tx_size: 65_536,
-        ..PARAMS
-    };
-    let payment = Payment {
-        end: 1000,
-        coin: 9000,
-        fee: 1000,
-        signed: Signed::NotAtAll,
-        ..GOOD
-    };
-    let expected = Outcome {
-        told: 11,
-        again: 5,
-        len: 1,
-        coin: 9000,
-        first: Some(9000),
-    };
-    assert_eq!(rt; spent(rt.alloc(), &params, 1000, 10, &payment)?, expected);
-    Ok(())
+    let tx = boxed_payment(rt.alloc(), &GATHERING)?;
+    let mut utxo = opening(rt.alloc(), 1000, 10)?;
+    gather(&rt, rt.alloc(), &mut utxo, &tx)
 }
 
 /// What is told, once more where memory ran out.
-fn told_at_last(alloc: Global, utxo: &Utxo, tx: &CheckedTx<TestScheme>) -> u8 {
-    match number(check(alloc, &PARAMS, utxo, 7, tx)) {
-        15 => number(check(alloc, &PARAMS, utxo, 7, tx)),
+fn told_at_last(alloc: Global, utxo: &Utxo, tx: &CheckedTx<TestScheme>) -> u64 {
+    match told(alloc, &PARAMS, utxo, tx) {
+        15 => told(alloc, &PARAMS, utxo, tx),
         told => told,
     }
 }
 
-/// Puts the transaction into effect, once more where memory ran out. Gives back how many outputs were unspent before
-/// it worked, and how much the one of the genesis held.
-fn applied_at_last(
+/// The UTXO has the output of the genesis and no other.
+fn is_opening(rt: &impl Abort, utxo: &Utxo) {
+    same(rt, "outputs before", utxo.len() as u64, 1);
+    same(rt, "of the genesis", coin_at(utxo, &genesis(0)), 1200);
+}
+
+/// Puts the transaction into effect, once more where memory ran out. Nothing had changed before it worked.
+fn apply_at_last(
+    rt: &impl Abort,
     utxo: &mut Utxo,
     tx: &CheckedTx<TestScheme>,
-) -> Result<(usize, Option<u64>), AllocError> {
-    let mut before = (utxo.len(), coin_at(utxo, &genesis(0)));
+) -> Result<(), AllocError> {
+    is_opening(rt, utxo);
     if apply(utxo, tx.tx()).is_err() {
-        before = (utxo.len(), coin_at(utxo, &genesis(0)));
+        is_opening(rt, utxo);
         apply(utxo, tx.tx())?;
     }
-    Ok(before)
+    same(rt, "outputs after", utxo.len() as u64, 1);
+    same(rt, "its own", coin_at(utxo, &first_of(tx)), 800);
+    Ok(())
 }
 
 // Under `rt try --test --fail-alloc N` the refused call says so and changes nothing, and then succeeds.
 #[test]
 fn judged_again_after_want_of_memory(rt: HostRuntime) -> Result<(), Fail> {
-    let tx = checked_payment(rt.alloc(), &MINTING)?;
+    let tx = boxed_payment(rt.alloc(), &MINTING)?;
     let mut utxo = opening(rt.alloc(), 1, 1200)?;
-    let told = told_at_last(rt.alloc(), &utxo, &tx);
-    let before = applied_at_last(&mut utxo, &tx)?;
-    let after = (utxo.len(), coin_at(&utxo, &first_of(&tx)));
-    assert_eq!(rt; (told, before, after), (0, (1, Some(1200)), (1, Some(800))));
-    Ok(())
+    same(&rt, "told", told_at_last(rt.alloc(), &utxo, &tx), 0);
+    Ok(apply_at_last(&rt, &mut utxo, &tx)?)
 }

@@ -1,10 +1,11 @@
 //! Blocks that arrive in bytes at one core, and seen at another: the same replies and the same chain.
 
-use crate::core_tests::{Made, after, arrive_at, first, make, new_core, seen};
+use crate::core_tests::{Made, after, arrive_at, first, is_seen, kept, make, new_core, seen};
 use crate::payments::{GOOD, OTHER};
 use block::Seen;
 use chain_core::{ArriveReply, Core, Refusal};
 use std::alloc::{AllocError, Global};
+use std::process::Abort;
 use std::test::Fail;
 use witness_pool::TestScheme;
 
@@ -44,8 +45,24 @@ fn told_seen(
     Ok(replies)
 }
 
-/// Whether two new cores answer so, of which one gets the bytes and the other gets them seen, and have the same chain
-/// then, whose tip has this number.
+/// Whether two cores answer so, of which one gets the bytes and the other gets them seen, and have the same chain then,
+/// whose tip has this number.
+fn both_tell(
+    alloc: Global,
+    by_bytes: &mut Core<TestScheme>,
+    by_seen: &mut Core<TestScheme>,
+    texts: &[&[u8]],
+    want: &[ArriveReply],
+    number: u64,
+) -> Result<bool, AllocError> {
+    let first = told_bytes(alloc, by_bytes, texts)?;
+    let second = told_seen(alloc, by_seen, texts)?;
+    let same_end = by_bytes.tip() == by_seen.tip() && seen(by_bytes)? == seen(by_seen)?;
+    let same_replies = first.as_slice() == want && second.as_slice() == want;
+    Ok(same_end && same_replies && by_seen.tip().number == number)
+}
+
+/// Whether two new cores do.
 fn are_told(
     alloc: Global,
     texts: &[&[u8]],
@@ -54,20 +71,11 @@ fn are_told(
 ) -> Result<bool, Fail> {
     let mut by_bytes = new_core(alloc)?;
     let mut by_seen = new_core(alloc)?;
-    let first = told_bytes(alloc, &mut by_bytes, texts)?;
-    let second = told_seen(alloc, &mut by_seen, texts)?;
-    let same_end = by_bytes.tip() == by_seen.tip() && seen(&by_bytes)? == seen(&by_seen)?;
-    let same_replies = first.as_slice() == want && second.as_slice() == want;
-    Ok(same_end && same_replies && by_seen.tip().number == number)
-}
-
-/// What is told of a block that is kept.
-const fn kept(back: u64, added: u64) -> ArriveReply {
-    ArriveReply::Kept { back, added }
+    Ok(both_tell(alloc, &mut by_bytes, &mut by_seen, texts, want, number)?)
 }
 
 /// What is told of bytes that are refused.
-const fn refused(refusal: Refusal) -> ArriveReply {
+fn refused(refusal: Refusal) -> ArriveReply {
     ArriveReply::Refused(refusal)
 }
 
@@ -110,16 +118,25 @@ fn bytes_that_are_no_block(rt: HostRuntime) -> Result<(), Fail> {
     Ok(())
 }
 
+/// The bytes arrive seen, once more where memory ran out. Nothing had changed before that worked.
+fn arrive_seen_at_last(
+    rt: &impl Abort,
+    alloc: Global,
+    core: &mut Core<TestScheme>,
+    bytes: &[u8],
+) -> Result<(), AllocError> {
+    if arrive_seen(alloc, core, bytes).is_err() {
+        is_seen(rt, core, 0, 1200, 0)?;
+        let reply = arrive_seen(alloc, core, bytes)?;
+        assert!(rt; reply == kept(0, 1));
+    }
+    is_seen(rt, core, 1, 910, 290)
+}
+
 // Under `rt try --test --fail-alloc N` the refused arrival says so and changes nothing, and then succeeds.
 #[test]
 fn seen_again_after_want_of_memory(rt: HostRuntime) -> Result<(), Fail> {
-    let alloc = rt.alloc();
-    let a1 = make(alloc, first(), 1, &[GOOD])?;
-    let mut core = new_core(alloc)?;
-    if let Err(AllocError) = arrive_seen(alloc, &mut core, &a1.text) {
-        assert!(rt; seen(&core)? == (0, 1, 1200, 0));
-        assert!(rt; arrive_seen(alloc, &mut core, &a1.text)? == kept(0, 1));
-    }
-    assert!(rt; seen(&core)? == (1, 1, 910, 290));
-    Ok(())
+    let a1 = make(rt.alloc(), first(), 1, &[GOOD])?;
+    let mut core = new_core(rt.alloc())?;
+    Ok(arrive_seen_at_last(&rt, rt.alloc(), &mut core, &a1.text)?)
 }

@@ -1,45 +1,42 @@
 //! Transactions in the making: each part once, each part twice, and what comes of them.
 
-use super::fixture::{KEY_HASH, POLICY, joined, same, same_bytes, same_text};
+use super::fixture::{KEY_HASH, ONES, POLICY, TWOS, ZEROS, check};
 use super::scripts::nested;
-use super::transactions::{PAYING_BODY, encoded};
+use super::transactions::{PAYING_BODY, is_spelled};
 use super::verdicts::DIGEST;
 use draft::{Draft, DraftFault, Signing};
 use ident::{KeyHash, ScriptHash, TxId};
 use std::alloc::{AllocError, Global};
-use std::process::Abort;
 use std::test::Fail;
-use timelock::Script;
 use tx::{Address, Credential, Input, Tx};
 use value::AssetQuantity;
 
-/// What came of adding a part, as a number.
-fn outcome(added: Result<(), DraftFault>) -> u64 {
-    match added {
-        Ok(()) => 0,
-        Err(DraftFault::NotBuilt) => 1,
-        Err(DraftFault::OutOfMemory) => 2,
-    }
+/// A part of a draft.
+#[derive(Clone, Copy)]
+enum Part {
+    /// The output at this place of the transaction of 32 such bytes is spent.
+    Spend(u8, u16),
+    /// 910 lovelace to the key of 32 bytes 01, with assets under names of so many bytes 07, each with so much of it.
+    Pay(&'static [(usize, u64)]),
+    Fee(u64),
+    Start(u64),
+    End(u64),
+    /// So much is minted under a name of so many bytes 07.
+    Mint(usize, i64),
+    /// The key of 32 such bytes signs.
+    Sign(u8, Signing),
+    /// The script that asks for all of none, inside others of one member: so many scripts in one another.
+    Supply(usize),
 }
 
-/// What comes of an input at this place of the transaction of 32 such bytes.
-fn spend(draft: &mut Draft, transaction: u8, index: u16) -> u64 {
-    let transaction = TxId::from_bytes([transaction; 32]);
-    outcome(draft.spend(Input { transaction, index }))
-}
-
-/// The address of the key of 32 bytes 01.
-fn address() -> Result<Address, Fail> {
-    let payment = Credential::Key(KeyHash::from_bytes(KEY_HASH));
-    match Address::new(0, payment) {
-        Some(address) => Ok(address),
-        None => Err(Fail::from(AllocError)),
-    }
-}
-
-/// A name of so many bytes 07.
+/// A name of so many bytes.
 fn name(alloc: Global, size: usize) -> Result<Vec<u8>, AllocError> {
     vec![in alloc; 7u8; size]
+}
+
+/// The policy of all assets.
+fn policy() -> ScriptHash {
+    ScriptHash::of_script(b"\x82\x01\x80")
 }
 
 /// Assets under names of so many bytes, each with so much of it.
@@ -47,7 +44,7 @@ fn assets(alloc: Global, told: &[(usize, u64)]) -> Result<Vec<AssetQuantity<u64>
     let mut assets = Vec::new(alloc);
     for (size, quantity) in told {
         assets.push(AssetQuantity {
-            policy: ScriptHash::from_bytes(POLICY),
+            policy: policy(),
             name: name(alloc, *size)?,
             quantity: *quantity,
         })?;
@@ -55,344 +52,254 @@ fn assets(alloc: Global, told: &[(usize, u64)]) -> Result<Vec<AssetQuantity<u64>
     Ok(assets)
 }
 
-/// What comes of an output of 910 lovelace with these assets.
-fn pay(alloc: Global, draft: &mut Draft, told: &[(usize, u64)]) -> Result<u64, Fail> {
-    let address = address()?;
-    let assets = assets(alloc, told)?;
-    Ok(outcome(draft.pay(address, 910, assets)))
-}
-
-/// What comes of a fee.
-fn set_fee(draft: &mut Draft, fee: u64) -> u64 {
-    outcome(draft.set_fee(fee))
-}
-
-/// What comes of a start.
-fn set_start(draft: &mut Draft, slot: u64) -> u64 {
-    outcome(draft.set_start(slot))
-}
-
-/// What comes of an end.
-fn set_end(draft: &mut Draft, slot: u64) -> u64 {
-    outcome(draft.set_end(slot))
-}
-
-/// What comes of minting so much under a name of so many bytes.
-fn mint(alloc: Global, draft: &mut Draft, size: usize, quantity: i64) -> Result<u64, AllocError> {
-    let name = name(alloc, size)?;
-    Ok(outcome(draft.mint(ScriptHash::from_bytes(POLICY), name, quantity)))
-}
-
-/// What comes of the key of 32 such bytes.
-fn sign(draft: &mut Draft, key: u8, signing: Signing) -> u64 {
-    outcome(draft.sign([key; 32], signing))
-}
-
-/// What comes of this script.
-fn supply_known(draft: &mut Draft, script: &Script) -> u64 {
-    outcome(draft.supply(script))
-}
-
-/// What comes of the script that asks for all of none, inside others of one member: so many scripts in one another.
-fn supply(alloc: Global, draft: &mut Draft, deep: usize) -> Result<u64, Fail> {
-    let script = nested(alloc, deep)?;
-    Ok(supply_known(draft, &script))
-}
-
-#[test]
-fn inputs_of_drafts(rt: HostRuntime) {
-    let mut draft = Draft::new(rt.alloc());
-    same(&rt, "an input", spend(&mut draft, 0, 0), 0);
-    same(&rt, "the same input", spend(&mut draft, 0, 0), 1);
-    same(&rt, "another place", spend(&mut draft, 0, 65_535), 0);
-    same(&rt, "another transaction", spend(&mut draft, 1, 0), 0);
-    same(&rt, "another place again", spend(&mut draft, 0, 65_535), 1);
-}
-
-#[test]
-fn numbers_of_drafts(rt: HostRuntime) {
-    let mut draft = Draft::new(rt.alloc());
-    same(&rt, "a fee", set_fee(&mut draft, 0), 0);
-    same(&rt, "a second fee", set_fee(&mut draft, 1), 1);
-    same(&rt, "a start", set_start(&mut draft, 0), 0);
-    same(&rt, "a second start", set_start(&mut draft, 0), 1);
-    same(&rt, "an end", set_end(&mut draft, 0), 0);
-    same(&rt, "a second end", set_end(&mut draft, 1), 1);
-}
-
-#[test]
-fn keys_of_drafts(rt: HostRuntime) {
-    let mut draft = Draft::new(rt.alloc());
-    same(&rt, "a key", sign(&mut draft, 1, Signing::Good), 0);
-    same(&rt, "the same key", sign(&mut draft, 1, Signing::Bad), 1);
-    same(&rt, "another key", sign(&mut draft, 2, Signing::Bad), 0);
-}
-
-#[test]
-fn assets_of_drafts(rt: HostRuntime) -> Result<(), Fail> {
-    let alloc = rt.alloc();
-    let mut draft = Draft::new(alloc);
-    same(&rt, "no assets", pay(alloc, &mut draft, &[])?, 0);
-    same(
-        &rt,
-        "0 and 32 bytes",
-        pay(alloc, &mut draft, &[(32, 1), (0, u64::MAX)])?,
-        0,
-    );
-    same(&rt, "33 bytes", pay(alloc, &mut draft, &[(33, 1)])?, 1);
-    same(
-        &rt,
-        "none of an asset",
-        pay(alloc, &mut draft, &[(0, 0)])?,
-        1,
-    );
-    same(
-        &rt,
-        "an asset twice",
-        pay(alloc, &mut draft, &[(1, 1), (0, 1), (1, 2)])?,
-        1,
-    );
-    Ok(())
-}
-
-#[test]
-fn minting_of_drafts(rt: HostRuntime) -> Result<(), Fail> {
-    let alloc = rt.alloc();
-    let mut draft = Draft::new(alloc);
-    same(&rt, "32 bytes", mint(alloc, &mut draft, 32, i64::MIN)?, 0);
-    same(&rt, "the same name", mint(alloc, &mut draft, 32, 1)?, 1);
-    same(
-        &rt,
-        "another name",
-        mint(alloc, &mut draft, 31, i64::MAX)?,
-        0,
-    );
-    same(&rt, "none of an asset", mint(alloc, &mut draft, 0, 0)?, 1);
-    same(&rt, "33 bytes", mint(alloc, &mut draft, 33, 1)?, 1);
-    Ok(())
-}
-
-// The item of n scripts in one another nests 2 n deep.
-#[test]
-fn scripts_of_drafts(rt: HostRuntime) -> Result<(), Fail> {
-    let alloc = rt.alloc();
-    let mut draft = Draft::new(alloc);
-    same(&rt, "60 deep", supply(alloc, &mut draft, 30)?, 0);
-    same(&rt, "the same script", supply(alloc, &mut draft, 30)?, 1);
-    same(&rt, "62 deep", supply(alloc, &mut draft, 31)?, 1);
-    same(&rt, "another script", supply(alloc, &mut draft, 1)?, 0);
-    Ok(())
-}
-
-/// What comes of an output after so many others.
-fn pay_often(alloc: Global, draft: &mut Draft, others: usize) -> Result<u64, Fail> {
-    for _ in 0..others {
-        pay(alloc, draft, &[])?;
+/// An output of 910 lovelace with these assets.
+fn pay(alloc: Global, draft: &mut Draft, told: &[(usize, u64)]) -> Result<(), DraftFault> {
+    let key = Credential::Key(KeyHash::of_key(&[1; 32]));
+    match Address::new(0, key) {
+        Some(address) => draft.pay(address, 910, assets(alloc, told)?),
+        None => Err(DraftFault::OutOfMemory),
     }
-    pay(alloc, draft, &[])
 }
 
+/// So much is minted under a name of so many bytes.
+fn mint(alloc: Global, draft: &mut Draft, size: usize, quantity: i64) -> Result<(), DraftFault> {
+    draft.mint(policy(), name(alloc, size)?, quantity)
+}
+
+/// A script of so many in one another.
+fn supply(alloc: Global, draft: &mut Draft, deep: usize) -> Result<(), DraftFault> {
+    match nested(alloc, deep) {
+        Ok(script) => draft.supply(&script),
+        Err(_) => Err(DraftFault::OutOfMemory),
+    }
+}
+
+/// The output at this place of the transaction of 32 such bytes.
+fn input(transaction: u8, index: u16) -> Input {
+    let transaction = TxId::from_bytes([transaction; 32]);
+    Input { transaction, index }
+}
+
+/// Adds a part.
+fn add(alloc: Global, draft: &mut Draft, part: Part) -> Result<(), DraftFault> {
+    match part {
+        Part::Spend(transaction, index) => draft.spend(input(transaction, index)),
+        Part::Pay(told) => pay(alloc, draft, told),
+        Part::Fee(fee) => draft.set_fee(fee),
+        Part::Start(slot) => draft.set_start(slot),
+        Part::End(slot) => draft.set_end(slot),
+        Part::Mint(size, quantity) => mint(alloc, draft, size, quantity),
+        Part::Sign(key, signing) => draft.sign([key; 32], signing),
+        Part::Supply(deep) => supply(alloc, draft, deep),
+    }
+}
+
+/// Parts, each with whether it is added. The assets are all of one policy.
+const PARTS: &[(Part, bool)] = &[
+    // an input, the same one, another place, another transaction, and that place again
+    (Part::Spend(0, 0), true),
+    (Part::Spend(0, 0), false),
+    (Part::Spend(0, 65_535), true),
+    (Part::Spend(1, 0), true),
+    (Part::Spend(0, 65_535), false),
+    // a fee, a start and an end, each once more
+    (Part::Fee(0), true),
+    (Part::Fee(1), false),
+    (Part::Start(0), true),
+    (Part::Start(0), false),
+    (Part::End(0), true),
+    (Part::End(1), false),
+    // a key, the same one, and another
+    (Part::Sign(1, Signing::Good), true),
+    (Part::Sign(1, Signing::Bad), false),
+    (Part::Sign(2, Signing::Bad), true),
+    // no assets, names of 0 and 32 bytes, one of 33, none of an asset, and an asset twice
+    (Part::Pay(&[]), true),
+    (Part::Pay(&[(32, 1), (0, u64::MAX)]), true),
+    (Part::Pay(&[(33, 1)]), false),
+    (Part::Pay(&[(0, 0)]), false),
+    (Part::Pay(&[(1, 1), (0, 1), (1, 2)]), false),
+    // a name of 32 bytes, the same one, another, none of an asset, and a name of 33 bytes
+    (Part::Mint(32, i64::MIN), true),
+    (Part::Mint(32, 1), false),
+    (Part::Mint(31, i64::MAX), true),
+    (Part::Mint(0, 0), false),
+    (Part::Mint(33, 1), false),
+    // scripts that nest 60 deep, the same one, 62 deep, and another: n of them in one another nest 2 n deep
+    (Part::Supply(30), true),
+    (Part::Supply(30), false),
+    (Part::Supply(31), false),
+    (Part::Supply(1), true),
+];
+
+/// Adds a part, once more where memory ran out: then nothing was added. Whether it is added.
+fn is_added(alloc: Global, draft: &mut Draft, part: Part) -> Result<bool, DraftFault> {
+    let added = match add(alloc, draft, part) {
+        Err(DraftFault::OutOfMemory) => add(alloc, draft, part),
+        answer => answer,
+    };
+    match added {
+        Ok(()) => Ok(true),
+        Err(DraftFault::NotBuilt) => Ok(false),
+        Err(fault) => Err(fault),
+    }
+}
+
+/// How many of so many outputs are added.
+fn add_outputs(alloc: Global, draft: &mut Draft, count: u64) -> u64 {
+    let mut added: u64 = 0;
+    for _ in 0..count {
+        if pay(alloc, draft, &[]) == Ok(()) {
+            added = added.saturating_add(1);
+        }
+    }
+    added
+}
+
+// Two outputs are there before the others. Under `rt try --test --fail-alloc N` with the number of an allocation of one
+// of the first calls the same call succeeds then.
 #[test]
-fn most_outputs_of_drafts(rt: HostRuntime) -> Result<(), Fail> {
-    let alloc = rt.alloc();
-    let mut draft = Draft::new(alloc);
-    same(
+fn parts_of_drafts(rt: HostRuntime) {
+    let mut draft = Draft::new(rt.alloc());
+    for (part, want) in PARTS {
+        check(
+            &rt,
+            "a part",
+            is_added(rt.alloc(), &mut draft, *part) == Ok(*want),
+        );
+    }
+    check(
         &rt,
         "65,536 outputs",
-        pay_often(alloc, &mut draft, 65_535)?,
-        0,
+        add_outputs(rt.alloc(), &mut draft, 65_534) == 65_534,
     );
-    same(&rt, "one more", pay_often(alloc, &mut draft, 0)?, 1);
-    Ok(())
+    check(&rt, "one more", add_outputs(rt.alloc(), &mut draft, 1) == 0);
 }
 
-/// Adds an input, a key and a script, each once more where memory ran out.
-fn add_twice(rt: &impl Abort, draft: &mut Draft, script: &Script) {
-    if spend(draft, 0, 0) == 2 {
-        same(rt, "the input", spend(draft, 0, 0), 0);
+/// Adds parts.
+fn add_all(alloc: Global, draft: &mut Draft, parts: &[Part]) -> Result<(), DraftFault> {
+    for part in parts {
+        add(alloc, draft, *part)?;
     }
-    if sign(draft, 1, Signing::Good) == 2 {
-        same(rt, "the key", sign(draft, 1, Signing::Good), 0);
-    }
-    if supply_known(draft, script) == 2 {
-        same(rt, "the script", supply_known(draft, script), 0);
-    }
-}
-
-// Under `rt try --test --fail-alloc N` with the number of an allocation of one of these calls nothing is added, and the
-// same call succeeds then.
-#[test]
-fn added_again_after_want_of_memory(rt: HostRuntime) -> Result<(), Fail> {
-    let script = nested(rt.alloc(), 2)?;
-    let mut draft = Draft::new(rt.alloc());
-    add_twice(&rt, &mut draft, &script);
-    same(&rt, "the input is there", spend(&mut draft, 0, 0), 1);
-    same(
-        &rt,
-        "the key is there",
-        sign(&mut draft, 1, Signing::Good),
-        1,
-    );
-    same(
-        &rt,
-        "the script is there",
-        supply_known(&mut draft, &script),
-        1,
-    );
     Ok(())
 }
 
-/// The transaction of a draft.
-fn finished(draft: Draft) -> Result<Tx, AllocError> {
-    draft.finish()
+/// A draft of these parts.
+fn draft_of(alloc: Global, parts: &[Part]) -> Result<Draft, DraftFault> {
+    let mut draft = Draft::new(alloc);
+    add_all(alloc, &mut draft, parts)?;
+    Ok(draft)
 }
 
-/// What is written of the transaction of a draft.
-fn text_of(draft: Draft) -> Result<Vec<u8>, AllocError> {
-    let tx = finished(draft)?;
-    encoded(&tx)
-}
-
-/// What is written of the transaction of a draft is this, in parts.
-fn is_written(
-    rt: &impl Abort,
-    alloc: Global,
-    draft: Draft,
-    parts: &[&[u8]],
-) -> Result<(), AllocError> {
-    let text = text_of(draft)?;
-    let expected = joined(alloc, parts)?;
-    same_bytes(rt, &text, &expected);
-    Ok(())
-}
-
-#[test]
-fn a_draft_without_parts(rt: HostRuntime) -> Result<(), Fail> {
-    let draft = Draft::new(rt.alloc());
-    is_written(
-        &rt,
-        rt.alloc(),
-        draft,
-        &[b"\x83\xa3\x00\x80\x01\x80\x02\x00\xa0\xf6"],
-    )?;
-    Ok(())
+/// The transaction of a draft of these parts.
+fn finished(alloc: Global, parts: &[Part]) -> Result<Tx, DraftFault> {
+    let draft = draft_of(alloc, parts)?;
+    Ok(draft.finish()?)
 }
 
 /// The payment of 910 lovelace for a fee of 290, signed by its key.
-fn payment(alloc: Global) -> Result<Draft, Fail> {
-    let mut draft = Draft::new(alloc);
-    spend(&mut draft, 0, 0);
-    pay(alloc, &mut draft, &[])?;
-    set_fee(&mut draft, 290);
-    sign(&mut draft, 1, Signing::Good);
-    Ok(draft)
-}
+const PAYMENT: &[Part] = &[
+    Part::Spend(0, 0),
+    Part::Pay(&[]),
+    Part::Fee(290),
+    Part::Sign(1, Signing::Good),
+];
 
-#[test]
-fn a_signed_payment(rt: HostRuntime) -> Result<(), Fail> {
-    let draft = payment(rt.alloc())?;
-    let parts: &[&[u8]] = &[
-        b"\x83",
-        &PAYING_BODY,
-        b"\xa1\x00\x81\x82\x58\x20",
-        &[1; 32],
-        b"\x58\x40",
-        &DIGEST,
-        &DIGEST,
-        b"\xf6",
-    ];
-    is_written(&rt, rt.alloc(), draft, parts)?;
-    Ok(())
-}
+/// Its text.
+const PAYMENT_TEXT: &[&str] = &[
+    "83",
+    PAYING_BODY,
+    "a1 0081825820",
+    ONES,
+    "5840",
+    DIGEST,
+    DIGEST,
+    "f6",
+];
 
-/// Adds three inputs, two outputs, of which one has two assets, a fee, a start and an end.
-fn put_ends(alloc: Global, draft: &mut Draft) -> Result<(), Fail> {
-    spend(draft, 1, 0);
-    spend(draft, 0, 65_535);
-    spend(draft, 0, 0);
-    pay(alloc, draft, &[])?;
-    pay(alloc, draft, &[(2, 1), (0, u64::MAX)])?;
-    set_fee(draft, 290);
-    set_start(draft, 7);
-    set_end(draft, 9);
-    Ok(())
-}
-
-/// Burns 3 of an asset, mints 5 of another, and adds two keys, of which the greater signs badly, and a script.
-fn put_rest(alloc: Global, draft: &mut Draft) -> Result<(), Fail> {
-    mint(alloc, draft, 2, -3)?;
-    mint(alloc, draft, 0, 5)?;
-    sign(draft, 2, Signing::Bad);
-    sign(draft, 1, Signing::Good);
-    supply(alloc, draft, 1)?;
-    Ok(())
-}
-
-/// A draft of all of these parts.
-fn whole(alloc: Global) -> Result<Draft, Fail> {
-    let mut draft = Draft::new(alloc);
-    put_ends(alloc, &mut draft)?;
-    put_rest(alloc, &mut draft)?;
-    Ok(draft)
-}
+/// Three inputs, two outputs, of which one has two assets, a fee, a start and an end; 3 of an asset burned, 5 of
+/// another minted, two keys, of which the greater signs badly, and a script.
+const WHOLE: &[Part] = &[
+    Part::Spend(1, 0),
+    Part::Spend(0, 65_535),
+    Part::Spend(0, 0),
+    Part::Pay(&[]),
+    Part::Pay(&[(2, 1), (0, u64::MAX)]),
+    Part::Fee(290),
+    Part::Start(7),
+    Part::End(9),
+    Part::Mint(2, -3),
+    Part::Mint(0, 5),
+    Part::Sign(2, Signing::Bad),
+    Part::Sign(1, Signing::Good),
+    Part::Supply(1),
+];
 
 /// The SHA-256 digest of 32 bytes 01 followed by the identifier of that transaction, which is the digest of its body.
-const WHOLE_DIGEST: [u8; 32] = [
-    0x32, 0xc7, 0x61, 0x98, 0xdb, 0xcf, 0x6c, 0x88, 0x0d, 0xa5, 0xd4, 0x09, 0xf1, 0xab, 0x68, 0x87,
-    0xe6, 0x4a, 0xfa, 0xef, 0xf3, 0x14, 0xf5, 0x61, 0xac, 0x58, 0xd7, 0x6f, 0xcc, 0x22, 0x50, 0xc5,
-];
+const WHOLE_DIGEST: &str = "32c76198dbcf6c880da5d409f1ab6887e64afaeff314f561ac58d76fcc2250c5";
 
-/// The text of that transaction.
-const WHOLE: &[&[u8]] = &[
+/// Its text.
+const WHOLE_TEXT: &[&str] = &[
     // the inputs, in rising order
-    b"\x83\xa6\x00\x83\x82\x58\x20",
-    &[0; 32],
-    b"\x00\x82\x58\x20",
-    &[0; 32],
-    b"\x19\xff\xff\x82\x58\x20",
-    &[1; 32],
+    "83 a6 00 83 825820",
+    ZEROS,
+    "00 825820",
+    ZEROS,
+    "19ffff 825820",
+    ONES,
     // the outputs, in the order in which they were added
-    b"\x00\x01\x82\x82\x58\x21\x60",
-    &KEY_HASH,
-    b"\x19\x03\x8e\x82\x58\x21\x60",
-    &KEY_HASH,
-    b"\x82\x19\x03\x8e\xa1\x58\x20",
-    &POLICY,
-    b"\xa2\x40\x1b\xff\xff\xff\xff\xff\xff\xff\xff\x42\x07\x07\x01",
+    "00 01 82 82582160",
+    KEY_HASH,
+    "19038e 82582160",
+    KEY_HASH,
+    "8219038e a15820",
+    POLICY,
+    "a2 40 1bffffffffffffffff 420707 01",
     // the fee, the end, the start, and what is minted
-    b"\x02\x19\x01\x22\x03\x09\x08\x07\x09\xa1\x58\x20",
-    &POLICY,
-    b"\xa2\x40\x05\x42\x07\x07\x22",
+    "02190122 0309 0807 09 a15820",
+    POLICY,
+    "a2 40 05 420707 22",
     // the signatures, by rising keys, and the script
-    b"\xa2\x00\x82\x82\x58\x20",
-    &[1; 32],
-    b"\x58\x40",
-    &WHOLE_DIGEST,
-    &WHOLE_DIGEST,
-    b"\x82\x58\x20",
-    &[2; 32],
-    b"\x58\x40",
-    &[0; 64],
-    b"\x01\x81\x82\x01\x80\xf6",
+    "a2 00 82 825820",
+    ONES,
+    "5840",
+    WHOLE_DIGEST,
+    WHOLE_DIGEST,
+    "825820",
+    TWOS,
+    "5840",
+    ZEROS,
+    ZEROS,
+    "01 81 820180 f6",
 ];
 
-#[test]
-fn a_draft_of_all_parts(rt: HostRuntime) -> Result<(), Fail> {
-    let draft = whole(rt.alloc())?;
-    is_written(&rt, rt.alloc(), draft, WHOLE)?;
-    Ok(())
+/// Drafts, and the texts of their transactions.
+const DRAFTS: &[(&[Part], &[&str])] = &[
+    (&[], &["83 a3 0080 0180 0200 a0 f6"]),
+    (PAYMENT, PAYMENT_TEXT),
+    (WHOLE, WHOLE_TEXT),
+];
+
+/// Whether the transaction of a draft of these parts has this text.
+fn is_drafted(alloc: Global, parts: &[Part], text: &[&str]) -> bool {
+    match finished(alloc, parts) {
+        Ok(tx) => is_spelled(&tx, text),
+        Err(_) => false,
+    }
 }
 
-/// A fault as text for people is this.
-fn is_shown(rt: &impl Abort, alloc: Global, fault: DraftFault, want: &str) -> Result<(), Fail> {
-    let shown = format!(in alloc; "{fault}")?;
-    same_text(rt, &shown, want);
-    Ok(())
+#[test]
+fn texts_of_drafts(rt: HostRuntime) {
+    for (parts, text) in DRAFTS {
+        check(&rt, "a draft", is_drafted(rt.alloc(), *parts, *text));
+    }
 }
 
 #[test]
 fn faults_of_drafts_shown(rt: HostRuntime) -> Result<(), Fail> {
-    let not_built = "no transaction has this part beside the others";
-    is_shown(&rt, rt.alloc(), DraftFault::NotBuilt, not_built)?;
-    is_shown(&rt, rt.alloc(), DraftFault::OutOfMemory, "out of memory")
+    let (not_built, no_memory) = (DraftFault::NotBuilt, DraftFault::OutOfMemory);
+    let shown = format!(in rt.alloc(); "{not_built}; {no_memory}")?;
+    let want = "no transaction has this part beside the others; out of memory";
+    check(&rt, "faults", shown.as_str() == want);
+    Ok(())
 }

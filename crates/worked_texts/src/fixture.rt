@@ -1,71 +1,74 @@
-//! What the tests share: texts in parts, assertions, and digests that another SHA-256 computed.
+//! What the tests share: hexadecimal texts, and hashes that another SHA-256 computed.
 
-use cbor::CborFault;
 use std::alloc::{AllocError, Global};
 use std::process::Abort;
 
-/// A text, in parts, and a figure of what is read of it, or why it is none's.
-pub type Row = (&'static [&'static [u8]], Result<u64, CborFault>);
-
-/// What is told of a text that is none's.
-pub const MALFORMED: Result<u64, CborFault> = Err(CborFault::Malformed);
-
 /// The SHA-256 digest of 32 bytes 01.
-pub const KEY_HASH: [u8; 32] = [
-    0x72, 0xcd, 0x6e, 0x84, 0x22, 0xc4, 0x07, 0xfb, 0x6d, 0x09, 0x86, 0x90, 0xf1, 0x13, 0x0b, 0x7d,
-    0xed, 0x7e, 0xc2, 0xf7, 0xf5, 0xe1, 0xd3, 0x0b, 0xd9, 0xd5, 0x21, 0xf0, 0x15, 0x36, 0x37, 0x93,
-];
+pub const KEY_HASH: &str = "72cd6e8422c407fb6d098690f1130b7ded7ec2f7f5e1d30bd9d521f015363793";
 
 /// The hash of the script that asks for all of none, which is the policy that it governs.
-pub const POLICY: [u8; 32] = [
-    0x31, 0x0e, 0x8a, 0xd6, 0xfd, 0x17, 0x68, 0x49, 0xa5, 0x66, 0x7f, 0x83, 0x09, 0xd8, 0x28, 0xa7,
-    0xaa, 0x48, 0xdd, 0x2d, 0x56, 0xe3, 0x08, 0xeb, 0xe7, 0x90, 0xba, 0xbd, 0x1c, 0x7d, 0xaf, 0x88,
-];
+pub const POLICY: &str = "310e8ad6fd176849a5667f8309d828a7aa48dd2d56e308ebe790babd1c7daf88";
 
-/// The parts, one after the other.
-pub fn joined(alloc: Global, parts: &[&[u8]]) -> Result<Vec<u8>, AllocError> {
-    let mut text = Vec::new(alloc);
-    for part in parts {
-        text.extend_from_slice(*part)?;
+/// 32 bytes 00, 01, 02 and 09.
+pub const ZEROS: &str = "0000000000000000000000000000000000000000000000000000000000000000";
+
+pub const ONES: &str = "0101010101010101010101010101010101010101010101010101010101010101";
+
+pub const TWOS: &str = "0202020202020202020202020202020202020202020202020202020202020202";
+
+pub const NINES: &str = "0909090909090909090909090909090909090909090909090909090909090909";
+
+/// The number of a hexadecimal digit.
+fn digit(character: u8) -> Option<u8> {
+    match character {
+        b'0'..=b'9' => Some(character - b'0'),
+        b'a'..=b'f' => Some(character - b'a' + 10),
+        _ => None,
     }
-    Ok(text)
 }
 
-/// The parts, one after the other, between two texts.
-pub fn between(
-    alloc: Global,
-    before: &[u8],
-    parts: &[&[u8]],
-    after: &[u8],
-) -> Result<Vec<u8>, AllocError> {
-    let inside = joined(alloc, parts)?;
-    joined(alloc, &[before, &inside, after])
+/// The bytes of hexadecimal texts, one after the other; all that is no digit is skipped.
+pub fn hex(alloc: Global, texts: &[&str]) -> Result<Vec<u8>, AllocError> {
+    let mut bytes = Vec::new(alloc);
+    let mut high = None;
+    for text in texts {
+        for character in text.as_bytes() {
+            if let Some(low) = digit(*character) {
+                high = match high {
+                    None => Some(low << 4),
+                    Some(high) => {
+                        bytes.push(high | low)?;
+                        None
+                    }
+                };
+            }
+        }
+    }
+    Ok(bytes)
 }
 
-// Each assertion, and each call of a function that promises much, makes the proof of its test longer. So most
-// assertions stand in these, and such a function is called by one helper of each module that promises nothing.
-
-/// The figure of this name is the one that is wanted.
-pub fn same(rt: &impl Abort, name: &str, found: u64, want: u64) {
-    assert_eq!(rt; found, want, "{name}");
+/// Whether hexadecimal texts, one after the other, spell these bytes.
+pub fn spells(texts: &[&str], bytes: &[u8]) -> bool {
+    let mut left = bytes.iter();
+    let mut high = None;
+    for text in texts {
+        for character in text.as_bytes() {
+            if let Some(low) = digit(*character) {
+                high = match high {
+                    None => Some(low << 4),
+                    Some(high) if left.next() == Some(&(high | low)) => None,
+                    Some(_) => return false,
+                };
+            }
+        }
+    }
+    left.next().is_none()
 }
 
-/// The bytes are those that are wanted.
-pub fn same_bytes(rt: &impl Abort, found: &[u8], want: &[u8]) {
-    assert_eq!(rt; found, want);
-}
+// Each assertion makes the proof of its test longer, and each message much longer. So most tests say what they see to
+// this one, and what they compare is found by helpers that answer true or false.
 
-/// The text for people is the one that is wanted.
-pub fn same_text(rt: &impl Abort, found: &str, want: &str) {
-    assert_eq!(rt; found, want);
-}
-
-/// What is read of the text in parts is what is wanted.
-pub fn gives(
-    rt: &impl Abort,
-    parts: &[&[u8]],
-    found: Result<u64, CborFault>,
-    want: Result<u64, CborFault>,
-) {
-    assert_eq!(rt; found, want, "{parts:?}");
+/// What is told of this case is so.
+pub fn check(rt: &impl Abort, case: &str, is_so: bool) {
+    assert!(rt; is_so, "{case}");
 }

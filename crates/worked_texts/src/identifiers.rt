@@ -1,83 +1,75 @@
 //! Digests of FIPS 180-4 and other known ones, and hexadecimal text in and out.
 
-use super::fixture::{same_bytes, same_text};
+use super::fixture::{check, spells};
 use ident::{BlockHash, BodyHash, IdentFault, KeyHash, Point, ScriptHash, TxId};
-use std::process::Abort;
 use std::test::Fail;
 
+/// The digests of nothing and of abc, which is written in both cases too.
 const EMPTY: &str = "e3b0c44298fc1c149afbf4c8996fb92427ae41e4649b934ca495991b7852b855";
 
 const ABC: &str = "ba7816bf8f01cfea414140de5dae2223b00361a396177a9cb410ff61f20015ad";
 
 const ABC_MIXED: &str = "BA7816BF8f01cfea414140DE5DAE2223b00361a396177a9cb410ff61f20015aD";
-/// The digest of one zero byte.
+
+/// The digests of one zero byte, and of 32.
 const ZERO: &str = "6e340b9cffb37a989ca544e6bb780a2c78901d3fb33738768511a30617afa01d";
-/// The digest of 32 zero bytes.
+
 const ZEROS: &str = "66687aadf862bd776c8fc18b8e9f8e20089714856ee233b3902a591d0d5f2925";
 
 #[test]
-fn digests(rt: HostRuntime) -> Result<(), Fail> {
-    same_text(&rt, &TxId::of_body(b"abc").to_string(rt.alloc())?, ABC);
-    same_text(&rt, &TxId::of_body(b"").to_string(rt.alloc())?, EMPTY);
-    same_text(
+fn digests(rt: HostRuntime) {
+    check(
         &rt,
-        &BlockHash::of_header(b"abc").to_string(rt.alloc())?,
-        ABC,
+        "a body",
+        spells(&[ABC], TxId::of_body(b"abc").as_bytes()),
     );
-    Ok(())
+    check(
+        &rt,
+        "nothing",
+        spells(&[EMPTY], TxId::of_body(b"").as_bytes()),
+    );
+    check(
+        &rt,
+        "a header",
+        spells(&[ABC], BlockHash::of_header(b"abc").as_bytes()),
+    );
+    check(
+        &rt,
+        "a block's body",
+        spells(&[ABC], BodyHash::of_body(b"abc").as_bytes()),
+    );
+    check(
+        &rt,
+        "a key",
+        spells(&[ZEROS], KeyHash::of_key(&[0; 32]).as_bytes()),
+    );
+    check(
+        &rt,
+        "a script",
+        spells(&[ZERO], ScriptHash::of_script(b"").as_bytes()),
+    );
 }
 
-#[test]
-fn other_digests(rt: HostRuntime) -> Result<(), Fail> {
-    same_text(&rt, &BodyHash::of_body(b"abc").to_string(rt.alloc())?, ABC);
-    same_text(
-        &rt,
-        &KeyHash::of_key(&[0; 32]).to_string(rt.alloc())?,
-        ZEROS,
-    );
-    same_text(
-        &rt,
-        &ScriptHash::of_script(b"").to_string(rt.alloc())?,
-        ZERO,
-    );
-    Ok(())
-}
-
-/// The bytes of what a text is read as are those of the digest.
-fn same_digest(rt: &impl Abort, found: &[u8; 32], want: &[u8; 32]) {
-    same_bytes(rt, found.as_slice(), want.as_slice());
-}
-
-#[test]
-fn read_in_either_case(rt: HostRuntime) -> Result<(), Fail> {
-    for text in [ABC, ABC_MIXED] {
-        let (tx, block) = (text.parse::<TxId>()?, text.parse::<BlockHash>()?);
-        same_digest(&rt, tx.as_bytes(), TxId::of_body(b"abc").as_bytes());
-        same_digest(
-            &rt,
-            block.as_bytes(),
-            BlockHash::of_header(b"abc").as_bytes(),
-        );
-        let body = text.parse::<BodyHash>()?;
-        same_digest(&rt, body.as_bytes(), BodyHash::of_body(b"abc").as_bytes());
+/// Whether a text is read as this identifier.
+fn is_read(text: &str, id: TxId) -> bool {
+    match text.parse::<TxId>() {
+        Ok(read) => read == id,
+        Err(_) => false,
     }
-    Ok(())
 }
 
+// The kinds of identifiers are one type, so one of them stands for all.
 #[test]
-fn hashes_read(rt: HostRuntime) -> Result<(), Fail> {
-    let (key, script) = (ZEROS.parse::<KeyHash>()?, ZERO.parse::<ScriptHash>()?);
-    same_digest(&rt, key.as_bytes(), KeyHash::of_key(&[0; 32]).as_bytes());
-    same_digest(
-        &rt,
-        script.as_bytes(),
-        ScriptHash::of_script(b"").as_bytes(),
-    );
+fn texts_in_and_out(rt: HostRuntime) -> Result<(), Fail> {
+    let id = TxId::of_body(b"abc");
+    check(&rt, "read", is_read(ABC, id) && is_read(ABC_MIXED, id));
+    let shown = id.to_string(rt.alloc())?;
+    check(&rt, "printed", shown.as_str() == ABC);
     Ok(())
 }
 
 /// Texts of no identifier, why they are none, and that as text for people.
-const REFUSED: [(&str, IdentFault, &str); 4] = [
+const REFUSED: &[(&str, IdentFault, &str)] = &[
     (
         "abc",
         IdentFault::OddDigits,
@@ -103,36 +95,39 @@ const REFUSED: [(&str, IdentFault, &str); 4] = [
     ),
 ];
 
+/// Whether a text is refused for this fault.
+fn is_refused(text: &str, fault: IdentFault) -> bool {
+    match text.parse::<TxId>() {
+        Ok(_) => false,
+        Err(found) => found == fault,
+    }
+}
+
 #[test]
 fn refused_text(rt: HostRuntime) -> Result<(), Fail> {
     for (text, fault, message) in REFUSED {
-        assert!(rt; text.parse::<TxId>() == Err(fault), "{text}");
-        same_text(&rt, &fault.to_string(rt.alloc())?, message);
+        check(&rt, *text, is_refused(*text, *fault));
+        let shown = (*fault).to_string(rt.alloc())?;
+        check(&rt, *text, shown.as_str() == *message);
     }
     Ok(())
 }
 
-/// The bytes are 32 times 7.
-fn are_sevens(rt: &impl Abort, bytes: &[u8; 32]) {
-    same_bytes(rt, bytes.as_slice(), &[7; 32]);
+/// What bytes are as an identifier.
+fn id_of(bytes: &[u8]) -> Result<TxId, IdentFault> {
+    TxId::try_from(bytes)
 }
 
 #[test]
-fn bytes_in_and_out(rt: HostRuntime) -> Result<(), Fail> {
-    let bytes = [7; 32];
-    let slice = bytes.as_slice();
-    are_sevens(&rt, TxId::try_from(slice)?.as_bytes());
-    are_sevens(&rt, BlockHash::try_from(slice)?.as_bytes());
-    are_sevens(&rt, BodyHash::try_from(slice)?.as_bytes());
-    are_sevens(&rt, KeyHash::try_from(slice)?.as_bytes());
-    are_sevens(&rt, ScriptHash::try_from(slice)?.as_bytes());
-    Ok(())
-}
-
-#[test]
-fn bytes_too_few(rt: HostRuntime) {
-    let short = TxId::try_from([7; 31].as_slice());
-    assert!(rt; short == Err(IdentFault::WrongLength { bytes: 31 }));
+fn bytes_in_and_out(rt: HostRuntime) {
+    let sevens = TxId::from_bytes([7; 32]);
+    check(&rt, "32", id_of(&[7; 32]) == Ok(sevens));
+    let short = id_of(&[7; 31]);
+    check(
+        &rt,
+        "31",
+        short == Err(IdentFault::WrongLength { bytes: 31 }),
+    );
 }
 
 #[test]
@@ -140,12 +135,13 @@ fn order(rt: HostRuntime) {
     let low = TxId::from_bytes([1; 32]);
     let mut bytes = [1; 32];
     bytes[31] = 2;
-    let high = TxId::from_bytes(bytes);
-    assert!(rt; low < high);
+    check(&rt, "identifiers", low < TxId::from_bytes(bytes));
     let genesis = Point::genesis();
-    let block = Point {
-        number: 1,
-        hash: BlockHash::from_bytes([0; 32]),
-    };
-    assert!(rt; genesis.number == 0 && genesis.hash == block.hash && genesis < block);
+    let hash = BlockHash::from_bytes([0; 32]);
+    check(
+        &rt,
+        "the genesis",
+        genesis.number == 0 && genesis.hash == hash,
+    );
+    check(&rt, "a block", genesis < (Point { number: 1, hash }));
 }

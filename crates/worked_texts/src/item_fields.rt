@@ -1,71 +1,64 @@
 //! Entries of maps whose keys are known.
 
+use super::fixture::{check, hex};
 use cbor::{field_key, map, optional_unsigned_field, unsigned_field};
-use std::process::Abort;
+use std::test::Fail;
 
-/// What is read of the map {1: a number, maybe 3: a number}.
-fn pair(bytes: &[u8]) -> Option<(u64, Option<u64>, &[u8])> {
+/// What is read of the map {1: a number, maybe 3: a number}: both numbers, 0 where there is no second one, and how many
+/// bytes are left.
+fn pair(bytes: &[u8]) -> Option<[u64; 3]> {
     let (left, rest) = map(bytes)?;
     let (first, left, rest) = unsigned_field(left, 1, rest)?;
     let (third, left, rest) = optional_unsigned_field(left, 3, rest)?;
     if left > 0 {
         return None;
     }
-    Some((first, third, rest))
+    Some([first, third.unwrap_or(0), rest.len() as u64])
 }
 
 /// Texts, and what is read of them.
-const RECORDS: [(&[u8], u64, Option<u64>, &[u8]); 3] = [
-    (b"\xa1\x01\x05\xff", 5, None, b"\xff"),
-    (b"\xa2\x01\x18\x18\x03\x19\x01\x00", 24, Some(256), b""),
+const RECORDS: &[(&str, Option<[u64; 3]>)] = &[
+    ("a1 0105 ff", Some([5, 0, 1])),
+    ("a2 011818 03190100", Some([24, 256, 0])),
     // an entry that is left out may be followed by the same bytes
-    (b"\xa1\x01\x05\x03\x06", 5, None, b"\x03\x06"),
-];
-
-#[test]
-fn fields_of_a_record(rt: HostRuntime) {
-    for (text, first, third, rest) in RECORDS {
-        assert_eq!(rt; pair(text), Some((first, third, rest)));
-    }
-}
-
-/// Texts of which none is read.
-const REFUSED: [&[u8]; 11] = [
+    ("a1 0105 0306", Some([5, 0, 2])),
     // no entry, and an array in place of the map
-    b"\xa0",
-    b"\x81\x01\x05",
+    ("a0", None),
+    ("810105", None),
     // the first entry is missing
-    b"\xa1\x03\x05",
+    ("a10305", None),
     // an unknown key, before and after
-    b"\xa2\x00\x05\x01\x05",
-    b"\xa2\x01\x05\x02\x05",
+    ("a2 0005 0105", None),
+    ("a2 0105 0205", None),
     // keys that fall, and a key twice
-    b"\xa2\x03\x06\x01\x05",
-    b"\xa2\x01\x05\x01\x05",
+    ("a2 0306 0105", None),
+    ("a2 0105 0105", None),
     // a key in a long form
-    b"\xa1\x18\x01\x05",
+    ("a1 180105", None),
     // a value of another kind
-    b"\xa2\x01\x05\x03\x41\x06",
+    ("a2 0105 034106", None),
     // a head that claims more entries than stand there
-    b"\xa2\x01\x05",
-    b"\xbb\xff\xff\xff\xff\xff\xff\xff\xff\x01\x05",
+    ("a2 0105", None),
+    ("bbffffffffffffffff 0105", None),
 ];
 
 #[test]
-fn other_fields_are_refused(rt: HostRuntime) {
-    for text in REFUSED {
-        assert!(rt; pair(text).is_none(), "{text:?}");
+fn fields_of_records(rt: HostRuntime) -> Result<(), Fail> {
+    for (text, want) in RECORDS {
+        let bytes = hex(rt.alloc(), &[*text])?;
+        check(&rt, *text, pair(&bytes) == *want);
     }
-}
-
-/// What is read of a text that begins with the key 0, where that one comes next or another, is what is wanted.
-fn same_key(rt: &impl Abort, left: u64, key: u64, want: Option<(u64, &[u8])>) {
-    assert_eq!(rt; field_key(left, key, b"\x00\x41\x07"), want);
+    Ok(())
 }
 
 #[test]
 fn keys_of_entries(rt: HostRuntime) {
-    same_key(&rt, 1, 0, Some((0, b"\x41\x07")));
-    same_key(&rt, 0, 0, None);
-    same_key(&rt, 1, 1, None);
+    let text = b"\x00\x41\x07".as_slice();
+    check(
+        &rt,
+        "the next key",
+        matches!(field_key(1, 0, text), Some((0, [0x41, 0x07]))),
+    );
+    check(&rt, "no entry left", field_key(0, 0, text).is_none());
+    check(&rt, "another key", field_key(1, 1, text).is_none());
 }

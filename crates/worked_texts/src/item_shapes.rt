@@ -1,16 +1,15 @@
 //! Lists and maps of typed items.
 
-use super::fixture::{same_bytes, same_text};
+use super::fixture::{check, hex};
 use cbor::{
     CborFault, Decode, DecodeEntry, bounded, entries_of_map, list_array, nonempty_map, rising,
     short,
 };
 use std::alloc::Global;
-use std::process::Abort;
 use std::test::Fail;
 
 /// A number below 100.
-#[derive(Debug, PartialEq, Eq, Drop)]
+#[derive(Drop)]
 struct Small {
     number: u64,
 }
@@ -32,7 +31,7 @@ impl Decode for Small {
 }
 
 /// A short text with a number below 100.
-#[derive(Debug, PartialEq, Eq, Drop)]
+#[derive(Drop)]
 struct Share {
     length: usize,
     number: u64,
@@ -62,75 +61,60 @@ impl DecodeEntry for Share {
     }
 }
 
-/// The list of the text that stands first, as text for people, and the bytes after it.
-fn list_shown(alloc: Global, bytes: &[u8]) -> Result<(String, &[u8]), Fail> {
-    let (numbers, rest) = list_array::<Small>(alloc, 1, bytes)?;
-    let shown = format!(in alloc; "{numbers:?}")?;
-    Ok((shown, rest))
-}
-
-#[test]
-fn lists_of_numbers(rt: HostRuntime) -> Result<(), Fail> {
-    let (shown, rest) = list_shown(rt.alloc(), b"\x83\x01\x18\x63\x00\xf6")?;
-    let want = "[Small { number: 1 }, Small { number: 99 }, Small { number: 0 }]";
-    same_text(&rt, &shown, want);
-    same_bytes(&rt, rest, b"\xf6");
-    Ok(())
-}
-
-/// The text is refused.
-fn is_refused(rt: &impl Abort, text: &[u8], fault: Option<CborFault>) {
-    assert_eq!(rt; fault, Some(CborFault::Malformed), "{text:?}");
-}
-
-/// Texts of no list of such numbers.
-const NO_LISTS: [&[u8]; 3] = [
-    b"\x82\x01",
-    b"\x81\x18\x64",
-    b"\x9b\xff\xff\xff\xff\xff\xff\xff\xff\x01",
-];
-
-#[test]
-fn no_lists_of_numbers(rt: HostRuntime) {
-    for text in NO_LISTS {
-        is_refused(&rt, text, list_array::<Small>(rt.alloc(), 1, text).err());
+/// The numbers of a list of three, and how many bytes are left.
+fn numbers(alloc: Global, bytes: &[u8]) -> Result<[u64; 4], CborFault> {
+    match list_array::<Small>(alloc, 1, bytes)? {
+        (list, rest) => match list.as_slice() {
+            [one, two, three] => Ok([one.number, two.number, three.number, rest.len() as u64]),
+            _ => Err(CborFault::OutOfMemory),
+        },
     }
 }
 
-/// The map of the text that stands first, as text for people, and the bytes after it.
-fn map_shown(alloc: Global, bytes: &[u8]) -> Result<(String, &[u8]), Fail> {
-    let (shares, rest) = nonempty_map::<Share>(alloc, bytes)?;
-    let shown = format!(in alloc; "{shares:?}")?;
-    Ok((shown, rest))
+/// The lengths and numbers of a map of two, and how many bytes are left.
+fn shares(alloc: Global, bytes: &[u8]) -> Result<[u64; 4], CborFault> {
+    match nonempty_map::<Share>(alloc, bytes)? {
+        (list, _) => match list.as_slice() {
+            [one, two] => Ok([one.length as u64, one.number, two.length as u64, two.number]),
+            _ => Err(CborFault::OutOfMemory),
+        },
+    }
 }
 
+/// A text of a map, or of a list, and what is read of it, if anything is.
+type Shape = (bool, &'static str, Option<[u64; 4]>);
+
+const SHAPES: &[Shape] = &[
+    (false, "83 01 1863 00 f6", Some([1, 99, 0, 1])),
+    // too few, one that is too great, and a count that no memory holds
+    (false, "82 01", None),
+    (false, "81 1864", None),
+    (false, "9bffffffffffffffff 01", None),
+    (true, "a2 4109 05 420000 06 ff", Some([1, 5, 2, 6])),
+    // none, a key twice, one that is too long, and a count that no memory holds
+    (true, "a0", None),
+    (true, "a2 4109 05 4109 06", None),
+    (true, "a1 43000000 05", None),
+    (true, "bbffffffffffffffff 4109 05", None),
+];
+
 #[test]
-fn maps_of_shares(rt: HostRuntime) -> Result<(), Fail> {
-    let (shown, rest) = map_shown(rt.alloc(), b"\xa2\x41\x09\x05\x42\x00\x00\x06\xff")?;
-    let want = "[Share { length: 1, number: 5 }, Share { length: 2, number: 6 }]";
-    same_text(&rt, &shown, want);
-    same_bytes(&rt, rest, b"\xff");
+fn lists_and_maps(rt: HostRuntime) -> Result<(), Fail> {
+    for (is_map, text, want) in SHAPES {
+        let bytes = hex(rt.alloc(), &[*text])?;
+        let found = if *is_map {
+            shares(rt.alloc(), &bytes)
+        } else {
+            numbers(rt.alloc(), &bytes)
+        };
+        check(&rt, *text, found == want.ok_or(CborFault::Malformed));
+    }
     Ok(())
 }
 
 #[test]
 fn map_of_no_share(rt: HostRuntime) -> Result<(), Fail> {
-    let (none, _) = entries_of_map::<Share>(rt.alloc(), b"\xa0")?;
-    assert!(rt; none.is_empty());
+    let (none, rest) = entries_of_map::<Share>(rt.alloc(), b"\xa0")?;
+    check(&rt, "none", none.is_empty() && rest.is_empty());
     Ok(())
-}
-
-/// Texts of no map of shares.
-const NO_MAPS: [&[u8]; 4] = [
-    b"\xa0",
-    b"\xa2\x41\x09\x05\x41\x09\x06",
-    b"\xa1\x43\x00\x00\x00\x05",
-    b"\xbb\xff\xff\xff\xff\xff\xff\xff\xff\x41\x09\x05",
-];
-
-#[test]
-fn no_maps_of_shares(rt: HostRuntime) {
-    for text in NO_MAPS {
-        is_refused(&rt, text, nonempty_map::<Share>(rt.alloc(), text).err());
-    }
 }

@@ -1,176 +1,152 @@
-//! Examples of RFC 8949, appendix A, each read and written, and texts that are refused.
+//! Items, and the readers and writers of their kinds.
 
-use super::fixture::same_bytes;
+use super::fixture::{check, hex, spells};
 use cbor::{
-    array, byte_string, fixed, map, negative, null, unsigned, write_array, write_byte_string,
-    write_map, write_negative, write_null, write_unsigned,
+    CborFault, array, byte_string, decode, encode, fixed, map, negative, null, read, unsigned,
+    write_array, write_byte_string, write_map, write_negative, write_null, write_unsigned,
 };
 use std::alloc::{AllocError, Global};
-use std::process::Abort;
 use std::test::Fail;
 
-/// Unsigned numbers and their texts.
-const UNSIGNED: [(u64, &[u8]); 11] = [
-    (0, b"\x00"),
-    (1, b"\x01"),
-    (10, b"\x0a"),
-    (23, b"\x17"),
-    (24, b"\x18\x18"),
-    (25, b"\x18\x19"),
-    (100, b"\x18\x64"),
-    (1000, b"\x19\x03\xe8"),
-    (1000000, b"\x1a\x00\x0f\x42\x40"),
-    (1000000000000, b"\x1b\x00\x00\x00\xe8\xd4\xa5\x10\x00"),
-    (
-        18446744073709551615,
-        b"\x1b\xff\xff\xff\xff\xff\xff\xff\xff",
-    ),
-];
-
-/// The `n` of negative numbers -1 - n, and their texts.
-const NEGATIVE: [(u64, &[u8]); 5] = [
-    (0, b"\x20"),
-    (9, b"\x29"),
-    (99, b"\x38\x63"),
-    (999, b"\x39\x03\xe7"),
-    (
-        18446744073709551615,
-        b"\x3b\xff\xff\xff\xff\xff\xff\xff\xff",
-    ),
-];
-
-/// Byte strings and their texts.
-const STRINGS: [(&[u8], &[u8]); 2] = [
-    (b"", b"\x40"),
-    (b"\x01\x02\x03\x04", b"\x44\x01\x02\x03\x04"),
-];
-
-/// Texts at which no reader finds anything.
-const REFUSED: [&[u8]; 20] = [
-    // not the shortest form
-    b"\x18\x17",
-    b"\x19\x00\xff",
-    b"\x1a\x00\x00\xff\xff",
-    b"\x1b\x00\x00\x00\x00\xff\xff\xff\xff",
-    b"\x58\x01\x00",
-    // reserved, and indefinite lengths
-    b"\x1c",
-    b"\x1f",
-    b"\x5f\x41\x00\xff",
-    b"\x9f\xff",
-    b"\xbf\xff",
-    // false, undefined, 1.0, a text and a tag
-    b"\xf4",
-    b"\xf7",
-    b"\xf9\x3c\x00",
-    b"\x62\xc3\xbc",
-    b"\xc0\x00",
-    // cut short
-    b"",
-    b"\x18",
-    b"\x1b\xff\xff\xff\xff\xff\xff\xff",
-    b"\x42\x01",
-    b"\x5b\xff\xff\xff\xff\xff\xff\xff\xff\x00",
-];
-
-/// The number that is read, with no bytes behind it, is the one that is wanted.
-fn same_number(rt: &impl Abort, found: Option<(u64, &[u8])>, want: u64) {
-    assert_eq!(rt; found, Some((want, b"".as_slice())), "{want}");
-}
-
-/// What is written of an unsigned number.
-fn written_unsigned(alloc: Global, n: u64) -> Result<Vec<u8>, AllocError> {
-    let mut out = Vec::new(alloc);
-    write_unsigned(&mut out, n)?;
-    Ok(out)
-}
-
-/// What is written of the negative number -1 - n.
-fn written_negative(alloc: Global, n: u64) -> Result<Vec<u8>, AllocError> {
-    let mut out = Vec::new(alloc);
-    write_negative(&mut out, n)?;
-    Ok(out)
-}
-
-#[test]
-fn numbers(rt: HostRuntime) -> Result<(), Fail> {
-    for (n, text) in UNSIGNED {
-        same_number(&rt, unsigned(text), n);
-        let out = written_unsigned(rt.alloc(), n)?;
-        same_bytes(&rt, &out, text);
-    }
-    for (n, text) in NEGATIVE {
-        same_number(&rt, negative(text), n);
-        let out = written_negative(rt.alloc(), n)?;
-        same_bytes(&rt, &out, text);
-    }
-    Ok(())
-}
-
-/// The byte string that is read, with no bytes behind it, is the one that is wanted.
-fn same_string(rt: &impl Abort, found: Option<(&[u8], &[u8])>, want: &[u8]) {
-    assert_eq!(rt; found, Some((want, b"".as_slice())), "{want:?}");
-}
-
-/// What is written of a byte string.
-fn written_string(alloc: Global, bytes: &[u8]) -> Result<Vec<u8>, AllocError> {
-    let mut out = Vec::new(alloc);
-    write_byte_string(&mut out, bytes)?;
-    Ok(out)
-}
-
-#[test]
-fn byte_strings(rt: HostRuntime) -> Result<(), Fail> {
-    for (bytes, text) in STRINGS {
-        same_string(&rt, byte_string(text), bytes);
-        let out = written_string(rt.alloc(), bytes)?;
-        same_bytes(&rt, &out, text);
-    }
-    Ok(())
-}
-
-#[test]
-fn byte_strings_of_a_size(rt: HostRuntime) {
-    let text = b"\x44\x01\x02\x03\x04\xf6";
-    assert!(rt; fixed::<4>(text) == Some(([1, 2, 3, 4], b"\xf6".as_slice())));
-    assert!(rt; fixed::<3>(text).is_none());
-}
-
-/// Puts the heads of [_ 25 members], {1: 2, 3: 4} and null behind bytes.
-fn put_heads(out: &mut Vec<u8>) -> Result<(), AllocError> {
+/// Writes 24, -1000, four bytes, the heads of 25 members and of 2 entries, and null.
+fn put_each(out: &mut Vec<u8>) -> Result<(), AllocError> {
+    write_unsigned(out, 24)?;
+    write_negative(out, 999)?;
+    write_byte_string(out, &[1, 2, 3, 4])?;
     write_array(out, 25)?;
     write_map(out, 2)?;
     write_null(out)
 }
 
-/// The counts of an array and of a map before null, where no bytes stand behind it.
-fn read_heads(bytes: &[u8]) -> Option<(u64, u64)> {
-    let (members, rest) = array(bytes)?;
-    let (entries, rest) = map(rest)?;
-    match null(rest)? {
-        [] => Some((members, entries)),
-        _ => None,
-    }
-}
-
 #[test]
-fn counts_and_null(rt: HostRuntime) -> Result<(), Fail> {
+fn each_kind_written(rt: HostRuntime) -> Result<(), Fail> {
     let mut out = Vec::new(rt.alloc());
-    put_heads(&mut out)?;
-    same_bytes(&rt, &out, b"\x98\x19\xa2\xf6");
-    assert!(rt; read_heads(&out) == Some((25, 2)));
+    put_each(&mut out)?;
+    check(
+        &rt,
+        "written",
+        spells(&["1818 3903e7 4401020304 9819 a2 f6"], &out),
+    );
     Ok(())
 }
 
+/// The number that was read, if one was.
+fn number(read: Option<(u64, &[u8])>) -> Option<u64> {
+    match read {
+        Some((number, _)) => Some(number),
+        None => None,
+    }
+}
+
+/// The byte of a byte string of one byte, if there is one.
+fn one_byte(bytes: &[u8]) -> Option<u64> {
+    let (one, _) = fixed::<1>(bytes)?;
+    Some(one[0] as u64)
+}
+
+/// The size of a byte string, if there is one.
+fn size(bytes: &[u8]) -> Option<u64> {
+    match byte_string(bytes) {
+        Some((string, _)) => Some(string.len() as u64),
+        None => None,
+    }
+}
+
+/// What the readers find: the number, n of the number -1 - n, the size of a byte string, its one byte, and the counts
+/// of members and of entries.
+fn found(bytes: &[u8]) -> [Option<u64>; 6] {
+    [
+        number(unsigned(bytes)),
+        number(negative(bytes)),
+        size(bytes),
+        one_byte(bytes),
+        number(array(bytes)),
+        number(map(bytes)),
+    ]
+}
+
+/// Texts, and what the readers find there. Null is found in the text of this name alone.
+const TEXTS: &[(&str, [Option<u64>; 6])] = &[
+    ("1818", [Some(24), None, None, None, None, None]),
+    ("3903e7", [None, Some(999), None, None, None, None]),
+    ("40", [None, None, Some(0), None, None, None]),
+    ("4401020304", [None, None, Some(4), None, None, None]),
+    ("4107f6", [None, None, Some(1), Some(7), None, None]),
+    ("9819", [None, None, None, None, Some(25), None]),
+    ("a2f6", [None, None, None, None, None, Some(2)]),
+    (NULL, [None; 6]),
+    // not the shortest form
+    ("1817", [None; 6]),
+    ("1900ff", [None; 6]),
+    ("1a0000ffff", [None; 6]),
+    ("1b00000000ffffffff", [None; 6]),
+    ("580100", [None; 6]),
+    // reserved, and indefinite lengths
+    ("1c", [None; 6]),
+    ("1f", [None; 6]),
+    ("5f4100ff", [None; 6]),
+    ("9fff", [None; 6]),
+    ("bfff", [None; 6]),
+    // false, undefined, 1.0, a text and a tag
+    ("f4", [None; 6]),
+    ("f7", [None; 6]),
+    ("f93c00", [None; 6]),
+    ("62c3bc", [None; 6]),
+    ("c000", [None; 6]),
+    // cut short
+    ("", [None; 6]),
+    ("18", [None; 6]),
+    ("1bffffffffffffff", [None; 6]),
+    ("4201", [None; 6]),
+    ("5bffffffffffffffff00", [None; 6]),
+];
+
+/// The text of null.
+const NULL: &str = "f6";
+
 #[test]
-fn refusals(rt: HostRuntime) {
-    for text in REFUSED {
-        let numbers = unsigned(text).is_none() && negative(text).is_none();
-        let strings = byte_string(text).is_none() && fixed::<1>(text).is_none();
-        let counts = array(text).is_none() && map(text).is_none();
-        assert!(rt;
-            numbers && strings && counts && null(text).is_none(),
-            "{text:?}"
+fn each_kind_read(rt: HostRuntime) -> Result<(), Fail> {
+    for (text, want) in TEXTS {
+        let bytes = hex(rt.alloc(), &[*text])?;
+        check(
+            &rt,
+            *text,
+            found(&bytes) == *want && null(&bytes).is_some() == (*text == NULL),
         );
     }
+    Ok(())
+}
+
+// A map of arrays of byte strings: where an allocation is refused the answer is OutOfMemory, and otherwise the item.
+#[test]
+fn refused_memory(rt: HostRuntime) {
+    let text = b"\xa2\x01\x82\x41\x07\x41\x08\x02\x82\x41\x09\x80";
+    match decode(rt.alloc(), text) {
+        Ok(item) => {
+            if let Ok(written) = encode(rt.alloc(), &item) {
+                check(&rt, "written", written.as_slice() == text.as_slice());
+            }
+        }
+        Err(fault) => check(&rt, "no memory", fault == CborFault::OutOfMemory),
+    }
+}
+
+/// How long the text of the item is that stands first.
+fn length(alloc: Global, bytes: &[u8]) -> Result<usize, CborFault> {
+    let (_, length) = read(alloc, bytes)?;
+    Ok(length)
+}
+
+#[test]
+fn front_of_longer_bytes(rt: HostRuntime) {
+    check(
+        &rt,
+        "a byte behind it",
+        length(rt.alloc(), b"\x82\x01\x41\x02\x18") == Ok(4),
+    );
+    check(
+        &rt,
+        "cut",
+        length(rt.alloc(), b"\x82\x01") == Err(CborFault::Malformed),
+    );
 }

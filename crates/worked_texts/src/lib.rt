@@ -17,11 +17,7 @@ mod item_fields;
 #[cfg(test)]
 mod item_shapes;
 #[cfg(test)]
-mod item_trees;
-#[cfg(test)]
 mod items;
-#[cfg(test)]
-mod minting;
 #[cfg(test)]
 mod pools;
 #[cfg(test)]
@@ -31,15 +27,9 @@ mod seen_blocks;
 #[cfg(test)]
 mod sums;
 #[cfg(test)]
-mod transaction_bodies;
-#[cfg(test)]
 mod transaction_making;
 #[cfg(test)]
-mod transaction_parts;
-#[cfg(test)]
 mod transactions;
-#[cfg(test)]
-mod value_making;
 #[cfg(test)]
 mod values;
 #[cfg(test)]

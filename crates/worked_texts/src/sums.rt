@@ -1,194 +1,146 @@
 //! Sums of values and of what is minted.
 
-use super::fixture::same;
-use super::value_making::{mint_of, read_mint, value_of};
-use super::values::read;
+use super::fixture::check;
+use super::values::{mint_of, value_of};
 use ident::ScriptHash;
 use std::alloc::{AllocError, Global};
 use std::process::Abort;
 use std::test::Fail;
 use value::{Mint, Totals, Value};
 
-/// A change of sums.
+/// Assets, each by the byte of its policy, its name and how many there are.
+type Held = &'static [(u8, &'static [u8], u64)];
+
+/// Values, by their lovelace and assets.
+const VALUES: &[(u64, Held)] = &[
+    (0, &[(1, b"gold", u64::MAX)]),
+    (u64::MAX, &[(1, b"gold", u64::MAX)]),
+    (0, &[(1, b"gold", 5)]),
+    // two assets of one policy, and the same with the quantities exchanged
+    (0, &[(1, b"gold", 3), (1, b"silver", 4)]),
+    (0, &[(1, b"gold", 4), (1, b"silver", 3)]),
+    // one name under two policies, and the same with the quantities exchanged
+    (0, &[(1, b"gold", 3), (2, b"gold", 4)]),
+    (0, &[(1, b"gold", 4), (2, b"gold", 3)]),
+    // the empty name
+    (5, &[(1, b"", u64::MAX)]),
+];
+
+/// What is minted.
+const MINTS: &[&[(u8, &[u8], i64)]] = &[&[(1, b"", 5)], &[(1, b"", -5)], &[(1, b"gold", -5)]];
+
+/// A change of sums by the value, or by what is minted, of this place.
 #[derive(Clone, Copy)]
-enum Change<'a> {
-    Add(&'a Value),
-    Take(&'a Value),
-    Mint(&'a Mint),
+enum Change {
+    Add(usize),
+    Take(usize),
+    Mint(usize),
+}
+
+/// A change, whether the sums are balanced behind it, and the sums of lovelace and of the empty name.
+type Row = (Change, bool, i128, i128);
+
+const CHANGES: &[Row] = &[
+    // more than 64 bits, of an asset and of the empty name
+    (Change::Add(0), false, 0, 0),
+    (Change::Add(1), false, 18446744073709551615, 0),
+    (Change::Take(1), false, 0, 0),
+    (Change::Take(0), true, 0, 0),
+    (Change::Add(7), false, 5, 18446744073709551615),
+    (Change::Add(7), false, 10, 36893488147419103230),
+    (Change::Take(7), false, 5, 18446744073709551615),
+    (Change::Take(7), true, 0, 0),
+    // 5 of an asset are made, and then burned, and so once more in the other order
+    (Change::Mint(0), false, 0, 5),
+    (Change::Mint(1), true, 0, 0),
+    (Change::Mint(1), false, 0, -5),
+    (Change::Mint(0), true, 0, 0),
+    // 5 that are held balance 5 that are burned, and more do not
+    (Change::Mint(2), false, 0, 0),
+    (Change::Add(2), true, 0, 0),
+    (Change::Add(2), false, 0, 0),
+    (Change::Take(2), true, 0, 0),
+    // only the same assets balance these, and not those with the quantities exchanged
+    (Change::Add(3), false, 0, 0),
+    (Change::Take(4), false, 0, 0),
+    (Change::Add(4), false, 0, 0),
+    (Change::Take(3), true, 0, 0),
+    (Change::Add(5), false, 0, 0),
+    (Change::Take(6), false, 0, 0),
+    (Change::Add(6), false, 0, 0),
+    (Change::Take(5), true, 0, 0),
+];
+
+/// The values.
+fn values(alloc: Global) -> Result<Vec<Value>, Fail> {
+    let mut values = Vec::new(alloc);
+    for (coin, assets) in VALUES {
+        values.push(value_of(alloc, *coin, *assets)?)?;
+    }
+    Ok(values)
+}
+
+/// What is minted.
+fn mints(alloc: Global) -> Result<Vec<Mint>, Fail> {
+    let mut mints = Vec::new(alloc);
+    for assets in MINTS {
+        mints.push(mint_of(alloc, *assets)?)?;
+    }
+    Ok(mints)
 }
 
 /// Makes a change. The sums are as they were where memory runs out.
-fn make_change(rt: &impl Abort, totals: &mut Totals, change: Change<'_>) -> Result<(), AllocError> {
+fn make_change(
+    rt: &impl Abort,
+    totals: &mut Totals,
+    values: &[Value],
+    mints: &[Mint],
+    change: Change,
+) -> Result<(), AllocError> {
     // Sums have room for 2^62 values.
     assert!(rt; totals.values() < 99);
     match change {
-        Change::Add(value) => value.add_to(totals),
-        Change::Take(value) => value.take_from(totals),
-        Change::Mint(mint) => mint.add_to(totals),
+        Change::Add(place) => values.get(place).expect(rt, "a value").add_to(totals),
+        Change::Take(place) => values.get(place).expect(rt, "a value").take_from(totals),
+        Change::Mint(place) => mints.get(place).expect(rt, "a mint").add_to(totals),
     }
 }
 
-/// Makes the changes, behind each of which the sums are balanced or not.
-fn goes(
+/// Makes a change, once more where memory ran out: then nothing had changed.
+fn change_at_last(
     rt: &impl Abort,
     totals: &mut Totals,
-    changes: &[(Change<'_>, bool)],
-) -> Result<(), AllocError> {
-    for (next, want) in changes {
-        make_change(rt, totals, *next)?;
-        assert!(rt; totals.is_balanced() == *want);
+    values: &[Value],
+    mints: &[Mint],
+    change: Change,
+) -> bool {
+    let is_made = make_change(rt, totals, values, mints, change).is_ok();
+    is_made || make_change(rt, totals, values, mints, change).is_ok()
+}
+
+/// Whether the sums are balanced so, with these sums of lovelace and of the empty name.
+fn are_so(totals: &Totals, balanced: bool, coin: i128, unnamed: i128) -> bool {
+    let policy = ScriptHash::from_bytes([1; 32]);
+    let is_summed = totals.coin() == coin && totals.amount(&policy, b"") == unnamed;
+    is_summed && totals.is_balanced() == balanced && totals.amount(&policy, b"\0") == 0
+}
+
+// Under `rt try --test --fail-alloc N` with the number of an allocation of a change nothing has changed, and the same
+// call succeeds then.
+#[test]
+fn sums_behind_changes(rt: HostRuntime) -> Result<(), Fail> {
+    let values = values(rt.alloc())?;
+    let mints = mints(rt.alloc())?;
+    let mut totals = Totals::new(rt.alloc());
+    check(&rt, "nothing", are_so(&totals, true, 0, 0));
+    for (change, balanced, coin, unnamed) in CHANGES {
+        let is_made = change_at_last(&rt, &mut totals, &values, &mints, *change);
+        check(
+            &rt,
+            "a change",
+            is_made && are_so(&totals, *balanced, *coin, *unnamed),
+        );
     }
+    check(&rt, "changes", totals.values() == 24);
     Ok(())
-}
-
-#[test]
-fn more_than_64_bits(rt: HostRuntime) -> Result<(), Fail> {
-    let most = value_of(rt.alloc(), 0, &[(1, b"gold", u64::MAX)])?;
-    let more = value_of(rt.alloc(), u64::MAX, &[(1, b"gold", u64::MAX)])?;
-    let mut totals = Totals::new(rt.alloc());
-    assert!(rt; totals.is_balanced());
-    let changes = [
-        (Change::Add(&most), false),
-        (Change::Add(&more), false),
-        (Change::Take(&more), false),
-        (Change::Take(&most), true),
-    ];
-    goes(&rt, &mut totals, &changes)?;
-    same(&rt, "values", totals.values(), 4);
-    Ok(())
-}
-
-/// 2^64 - 1 of the empty name under a policy, and 5 lovelace.
-const MOST: &[&[u8]] = &[
-    b"\x82\x05\xa1\x58\x20",
-    &[1; 32],
-    b"\xa1\x40\x1b\xff\xff\xff\xff\xff\xff\xff\xff",
-];
-
-/// The sum of this name under that policy is this.
-fn amounts_to(rt: &impl Abort, totals: &Totals, name: &[u8], want: i128) {
-    assert_eq!(rt; totals.amount(&ScriptHash::from_bytes([1; 32]), name), want);
-}
-
-#[test]
-fn quantities_past_64_bits(rt: HostRuntime) -> Result<(), Fail> {
-    let value = read(rt.alloc(), MOST)?;
-    let mut totals = Totals::new(rt.alloc());
-    let add = (Change::Add(&value), false);
-    goes(&rt, &mut totals, &[add, add])?;
-    amounts_to(&rt, &totals, b"", 36893488147419103230);
-    amounts_to(&rt, &totals, b"\x00", 0);
-    assert!(rt; totals.coin() == 10);
-    same(&rt, "values", totals.values(), 2);
-    let changes = [(Change::Take(&value), false), (Change::Take(&value), true)];
-    Ok(goes(&rt, &mut totals, &changes)?)
-}
-
-/// Texts that mint 5 of the empty name under that policy, and burn them.
-const MADE: &[&[u8]] = &[b"\xa1\x58\x20", &[1; 32], b"\xa1\x40\x05"];
-
-const BURNED: &[&[u8]] = &[b"\xa1\x58\x20", &[1; 32], b"\xa1\x40\x24"];
-
-/// 5 of an asset are made, and then burned.
-#[test]
-fn minted_and_burned(rt: HostRuntime) -> Result<(), Fail> {
-    let made = read_mint(rt.alloc(), MADE)?;
-    let burned = read_mint(rt.alloc(), BURNED)?;
-    let mut totals = Totals::new(rt.alloc());
-    let changes = [
-        (Change::Mint(&made), false),
-        (Change::Mint(&burned), true),
-        (Change::Mint(&burned), false),
-    ];
-    goes(&rt, &mut totals, &changes)?;
-    amounts_to(&rt, &totals, b"", -5);
-    Ok(())
-}
-
-/// 5 that are held balance 5 that are burned, and more do not.
-#[test]
-fn minted_below_zero(rt: HostRuntime) -> Result<(), Fail> {
-    let burned = mint_of(rt.alloc(), &[(1, b"gold", -5)])?;
-    let held = value_of(rt.alloc(), 0, &[(1, b"gold", 5)])?;
-    let mut totals = Totals::new(rt.alloc());
-    let changes = [
-        (Change::Mint(&burned), false),
-        (Change::Add(&held), true),
-        (Change::Add(&held), false),
-    ];
-    Ok(goes(&rt, &mut totals, &changes)?)
-}
-
-/// Only the same assets balance these, and not those with the quantities exchanged.
-fn balances_alone(
-    rt: &impl Abort,
-    alloc: Global,
-    assets: &Value,
-    exchanged: &Value,
-) -> Result<(), AllocError> {
-    let mut totals = Totals::new(alloc);
-    let changes = [
-        (Change::Add(assets), false),
-        (Change::Take(exchanged), false),
-        (Change::Add(exchanged), false),
-        (Change::Take(assets), true),
-    ];
-    goes(rt, &mut totals, &changes)
-}
-
-/// Two assets of one policy.
-#[test]
-fn names_apart(rt: HostRuntime) -> Result<(), Fail> {
-    let assets = value_of(rt.alloc(), 0, &[(1, b"gold", 3), (1, b"silver", 4)])?;
-    let exchanged = value_of(rt.alloc(), 0, &[(1, b"gold", 4), (1, b"silver", 3)])?;
-    Ok(balances_alone(&rt, rt.alloc(), &assets, &exchanged)?)
-}
-
-/// One name under two policies.
-#[test]
-fn policies_apart(rt: HostRuntime) -> Result<(), Fail> {
-    let assets = value_of(rt.alloc(), 0, &[(1, b"gold", 3), (2, b"gold", 4)])?;
-    let exchanged = value_of(rt.alloc(), 0, &[(1, b"gold", 4), (2, b"gold", 3)])?;
-    Ok(balances_alone(&rt, rt.alloc(), &assets, &exchanged)?)
-}
-
-/// The sums are those of the first value still, and the second is taken from them now.
-fn take_again(
-    rt: &impl Abort,
-    totals: &mut Totals,
-    held: &Value,
-    more: &Value,
-) -> Result<(), AllocError> {
-    same(rt, "values", totals.values(), 1);
-    let changes = [
-        (Change::Take(held), true),
-        (Change::Add(held), false),
-        (Change::Take(more), false),
-    ];
-    goes(rt, totals, &changes)
-}
-
-/// Takes the second value from sums of the first, once more where memory ran out, and goes back to nothing.
-fn change_twice(
-    rt: &impl Abort,
-    totals: &mut Totals,
-    held: &Value,
-    more: &Value,
-) -> Result<(), AllocError> {
-    make_change(rt, totals, Change::Add(held))?;
-    if make_change(rt, totals, Change::Take(more)).is_err() {
-        take_again(rt, totals, held, more)?;
-    }
-    let changes = [(Change::Add(more), false), (Change::Take(held), true)];
-    goes(rt, totals, &changes)
-}
-
-// Under `rt try --test --fail-alloc N` with the number of an allocation of the second change nothing has
-// changed, and the same call succeeds then.
-#[test]
-fn change_again_after_want_of_memory(rt: HostRuntime) -> Result<(), Fail> {
-    let held = value_of(rt.alloc(), 5, &[(1, b"gold", 7)])?;
-    let more = value_of(rt.alloc(), 2, &[(1, b"gold", 3), (2, b"gold", 4)])?;
-    let mut totals = Totals::new(rt.alloc());
-    Ok(change_twice(&rt, &mut totals, &held, &more)?)
 }

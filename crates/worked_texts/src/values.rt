@@ -1,222 +1,283 @@
-//! Texts of values: each read and written again, and texts that are refused.
+//! Values and mints that are made of assets in any order, assets that are refused, and what a value holds.
 
-use super::fixture::{MALFORMED, Row, gives, joined, same, same_bytes};
-use cbor::CborFault;
+use super::fixture::{ONES, TWOS, check, hex, spells};
+use ident::ScriptHash;
 use std::alloc::{AllocError, Global};
-use std::process::Abort;
 use std::test::Fail;
-use value::{Policy, Token, Value};
+use value::{AssetFault, AssetQuantity, Mint, Policy, Value};
 
-/// The text of a map key: 32 bytes 01.
-const FIRST: &[u8] = &[1; 32];
-
-/// 32 bytes 02.
-const SECOND: &[u8] = &[2; 32];
-
-/// The value whose text stands first, and the bytes after it.
-pub fn read_front(alloc: Global, bytes: &[u8]) -> Result<(Value, &[u8]), CborFault> {
-    Value::read(alloc, bytes)
-}
-
-/// Writes a value behind the bytes.
-pub fn put(out: &mut Vec<u8>, value: &Value) -> Result<(), AllocError> {
-    value.write(out)
-}
-
-/// The value that a text is, behind which a byte stands.
-fn read_followed(rt: &impl Abort, alloc: Global, text: &[u8]) -> Result<Value, CborFault> {
-    let followed = joined(alloc, &[text, b"\xff"])?;
-    let (value, rest) = read_front(alloc, &followed)?;
-    same_bytes(rt, rest, b"\xff");
-    Ok(value)
-}
-
-/// What is written of a value, behind a byte 01.
-fn written_behind(alloc: Global, value: &Value) -> Result<Vec<u8>, AllocError> {
-    let mut out = joined(alloc, &[b"\x01"])?;
-    put(&mut out, value)?;
-    Ok(out)
-}
-
-/// The text of a value is this.
-fn is_written(
-    rt: &impl Abort,
+/// Assets, each by the byte that the 32 bytes of its policy are, its name and its quantity.
+fn assets_of<Q: Copy + Drop>(
     alloc: Global,
-    value: &Value,
-    text: &[u8],
-) -> Result<(), AllocError> {
-    let out = written_behind(alloc, value)?;
-    let expected = joined(alloc, &[b"\x01", text])?;
-    same_bytes(rt, &out, &expected);
-    Ok(())
+    parts: &[(u8, &[u8], Q)],
+) -> Result<Vec<AssetQuantity<Q>>, AllocError> {
+    let mut assets = Vec::new(alloc);
+    for (byte, name, quantity) in parts {
+        assets.push(AssetQuantity {
+            policy: ScriptHash::from_bytes([*byte; 32]),
+            name: Vec::from_slice(alloc, *name)?,
+            quantity: *quantity,
+        })?;
+    }
+    Ok(assets)
 }
 
-/// The text of the copy of a value is this.
-fn is_copied(rt: &impl Abort, alloc: Global, value: &Value, text: &[u8]) -> Result<(), AllocError> {
-    let copy = value.try_clone()?;
-    assert!(rt; copy == *value);
-    is_written(rt, alloc, &copy, text)
+/// The value of so many lovelace and these assets.
+pub fn value_of(alloc: Global, coin: u64, parts: &[(u8, &[u8], u64)]) -> Result<Value, AssetFault> {
+    let assets = assets_of(alloc, parts)?;
+    Value::new(alloc, coin, assets)
 }
 
-/// Reads a value with a byte after it, and writes it and its copy again. How many lovelace it has.
-fn goes_round(rt: &impl Abort, alloc: Global, parts: &[&[u8]]) -> Result<u64, CborFault> {
-    let text = joined(alloc, parts)?;
-    let value = read_followed(rt, alloc, &text)?;
-    is_written(rt, alloc, &value, &text)?;
-    is_copied(rt, alloc, &value, &text)?;
-    Ok(value.coin())
+/// What mints these assets.
+pub fn mint_of(alloc: Global, parts: &[(u8, &[u8], i64)]) -> Result<Mint, AssetFault> {
+    let assets = assets_of(alloc, parts)?;
+    Mint::new(alloc, assets)
 }
 
-/// Two policies; the first has the empty name and two longer ones, of which the shorter one stands first.
-const WITH_ASSETS: &[&[u8]] = &[
-    b"\x82\x05\xa2\x58\x20",
-    FIRST,
-    b"\xa3\x40\x01\x41\xff\x18\x18\x42\x00\x00\x1b\xff\xff\xff\xff\xff\xff\xff\xff\x58\x20",
-    SECOND,
-    b"\xa1\x40\x1b\x80\x00\x00\x00\x00\x00\x00\x00",
+/// 33 bytes, of which names are made, the first 32 of them, and the first 31.
+const LONG: &[u8] = b"0123456789abcdefghijklmnopqrstuvw";
+
+const LONGEST: &[u8] = b"0123456789abcdefghijklmnopqrstuv";
+
+const SHORTER: &[u8] = b"0123456789abcdefghijklmnopqrstu";
+
+/// An asset by the byte of its policy, its name and its quantity.
+type Held = (u8, &'static [u8], u64);
+
+/// So many lovelace and assets, and the text of their value or what is wrong with them.
+type Made = (
+    u64,
+    &'static [Held],
+    Result<&'static [&'static str], AssetFault>,
+);
+
+/// 5 lovelace and the assets of two policies, of which the first has the empty name and two longer ones.
+const SORTED: &[&str] = &[
+    "8205a25820",
+    ONES,
+    "a3 4001 41ff1818 42000002 5820",
+    TWOS,
+    "a1401b8000000000000000",
 ];
 
-/// The most lovelace.
-const MOST: &[&[u8]] = &[b"\x1b\xff\xff\xff\xff\xff\xff\xff\xff"];
-
-/// Values, and how many lovelace they have.
-const VALUES: &[Row] = &[
-    (&[b"\x00"], Ok(0)),
-    (&[b"\x19\x03\x20"], Ok(800)),
-    (MOST, Ok(18446744073709551615)),
-    (WITH_ASSETS, Ok(5)),
-];
-
-#[test]
-fn written_again(rt: HostRuntime) {
-    for (parts, want) in VALUES {
-        gives(&rt, *parts, goes_round(&rt, rt.alloc(), *parts), *want);
-    }
-}
-
-/// The value that a text is.
-pub fn read(alloc: Global, parts: &[&[u8]]) -> Result<Value, CborFault> {
-    let text = joined(alloc, parts)?;
-    let (value, _) = read_front(alloc, &text)?;
-    Ok(value)
-}
-
-/// The tokens are those that are wanted, by name and quantity.
-fn same_tokens(rt: &impl Abort, found: &[Token<u64>], want: &[(&[u8], u64)]) {
-    same(rt, "tokens", found.len() as u64, want.len() as u64);
-    for (token, (name, quantity)) in found.iter().zip(want) {
-        same_bytes(rt, &token.name, *name);
-        same(rt, "quantity", token.quantity, *quantity);
-    }
-}
-
-/// The policy is the one that is wanted, with these tokens.
-fn same_policy(rt: &impl Abort, found: Option<&Policy<u64>>, id: &[u8], tokens: &[(&[u8], u64)]) {
-    let Some(policy) = found else {
-        panic!(rt; "no policy");
-    };
-    same_bytes(rt, policy.id.as_bytes(), id);
-    same_tokens(rt, &policy.tokens, tokens);
-}
-
-/// The tokens of the first of both policies.
-const TOKENS: &[(&[u8], u64)] = &[(b"", 1), (b"\xff", 24), (b"\x00\x00", 18446744073709551615)];
-
-#[test]
-fn coin_and_assets(rt: HostRuntime) -> Result<(), Fail> {
-    let value = read(rt.alloc(), WITH_ASSETS)?;
-    same(&rt, "policies", value.assets().len() as u64, 2);
-    same_policy(&rt, value.assets().first(), FIRST, TOKENS);
-    same_policy(&rt, value.assets().last(), SECOND, &[(b"", 1 << 63)]);
-    Ok(())
-}
-
-#[test]
-fn coin_alone(rt: HostRuntime) -> Result<(), Fail> {
-    let value = read(rt.alloc(), MOST)?;
-    same(&rt, "policies", value.assets().len() as u64, 0);
-    let value = Value::of_coin(rt.alloc(), 24);
-    is_written(&rt, rt.alloc(), &value, b"\x18\x18")?;
-    Ok(())
-}
-
-/// How many lovelace the value of a text has, or why it is none's.
-fn read_coin(alloc: Global, parts: &[&[u8]]) -> Result<u64, CborFault> {
-    Ok(read(alloc, parts)?.coin())
-}
-
-/// Texts of assets after a coin: what stands before the policy of 32 bytes 01, and what stands after it.
-const REFUSED_ASSETS: [(&[u8], &[u8]); 11] = [
-    // a quantity of 0, and one in a long form
-    (b"\x82\x00\xa1\x58\x20", b"\xa1\x40\x00"),
-    (b"\x82\x00\xa1\x58\x20", b"\xa1\x40\x18\x17"),
-    // a quantity below 0
-    (b"\x82\x00\xa1\x58\x20", b"\xa1\x40\x20"),
-    // a policy without a name
-    (b"\x82\x00\xa1\x58\x20", b"\xa0"),
-    // equal names, and names that fall
-    (b"\x82\x00\xa1\x58\x20", b"\xa2\x40\x01\x40\x01"),
-    (b"\x82\x00\xa1\x58\x20", b"\xa2\x42\x00\x00\x01\x41\xff\x01"),
-    // an array of three, one that ends too soon, and one of indefinite length
-    (b"\x83\x00\xa1\x58\x20", b"\xa1\x40\x01\x00"),
-    (b"\x82\x00\xa2\x58\x20", b"\xa1\x40\x01"),
-    (b"\x9f\x00\xa1\x58\x20", b"\xa1\x40\x01\xff"),
-    // a name that is a number, and a coin below 0
-    (b"\x82\x00\xa1\x58\x20", b"\xa1\x00\x01"),
-    (b"\x82\x20\xa1\x58\x20", b"\xa1\x40\x01"),
-];
-
-#[test]
-fn refused_values(rt: HostRuntime) {
-    for (before, after) in REFUSED_ASSETS {
-        let parts = [before, FIRST, after];
-        gives(&rt, &parts, read_coin(rt.alloc(), &parts), MALFORMED);
-    }
-}
-
-/// The start of a value with one policy of 32 bytes.
-const START: &[u8] = b"\x82\x00\xa1\x58\x20";
-
-/// The start of a value with two policies of 32 bytes.
-const START_OF_TWO: &[u8] = b"\x82\x00\xa2\x58\x20";
-
-/// A token between both policies.
-const BETWEEN: &[u8] = b"\xa1\x40\x01\x58\x20";
-
-/// A token behind the last policy.
-const END: &[u8] = b"\xa1\x40\x01";
-
-/// A map that claims 2^64 - 1 entries.
-pub const CLAIMED: &[u8] = b"\xbb\xff\xff\xff\xff\xff\xff\xff\xff";
-
-/// Texts just inside the shape and just outside, and the lovelace.
-const SHAPES: &[Row] = &[
-    // nothing, a negative number, and no assets
-    (&[], MALFORMED),
-    (&[b"\x20"], MALFORMED),
-    (&[b"\x82\x00\xa0"], MALFORMED),
-    // names of 32 and 33 bytes, and a policy of 31
-    (&[START, FIRST, b"\xa1\x58\x20", SECOND, b"\x01"], Ok(0)),
+/// The same assets in three orders, coin alone, names of 31 to 33 bytes, quantities of 0, and assets that stand there
+/// twice; of two faults the first.
+const VALUES: &[Made] = &[
     (
-        &[START, FIRST, b"\xa1\x58\x21", SECOND, b"\x02\x01"],
-        MALFORMED,
+        5,
+        &[
+            (1, b"", 1),
+            (1, b"\xff", 24),
+            (1, b"\0\0", 2),
+            (2, b"", 1 << 63),
+        ],
+        Ok(SORTED),
     ),
     (
-        &[b"\x82\x00\xa1\x58\x1f", &[1; 31], b"\xa1\x40\x01"],
-        MALFORMED,
+        5,
+        &[
+            (2, b"", 1 << 63),
+            (1, b"\0\0", 2),
+            (1, b"\xff", 24),
+            (1, b"", 1),
+        ],
+        Ok(SORTED),
     ),
-    // policies that rise, fall, and are the same
-    (&[START_OF_TWO, FIRST, BETWEEN, SECOND, END], Ok(0)),
-    (&[START_OF_TWO, SECOND, BETWEEN, FIRST, END], MALFORMED),
-    (&[START_OF_TWO, FIRST, BETWEEN, FIRST, END], MALFORMED),
-    // maps that claim 2^64 - 1 entries where the bytes end, of policies and of names
-    (&[b"\x82\x01", CLAIMED], MALFORMED),
-    (&[b"\x82\x01", b"\xa1\x58\x20", FIRST, CLAIMED], MALFORMED),
+    (
+        5,
+        &[
+            (1, b"\0\0", 2),
+            (2, b"", 1 << 63),
+            (1, b"", 1),
+            (1, b"\xff", 24),
+        ],
+        Ok(SORTED),
+    ),
+    (800, &[(1, b"", 5)], Ok(&["82190320a15820", ONES, "a14005"])),
+    (24, &[], Ok(&["1818"])),
+    (
+        1,
+        &[(1, LONGEST, 1), (2, LONGEST, 1), (1, SHORTER, 1)],
+        Ok(&[
+            "8201a25820",
+            ONES,
+            "a2 581f 303132333435363738396162636465666768696a6b6c6d6e6f707172737475 01",
+            "   5820 303132333435363738396162636465666768696a6b6c6d6e6f70717273747576 01 5820",
+            TWOS,
+            "a1 5820 303132333435363738396162636465666768696a6b6c6d6e6f70717273747576 01",
+        ]),
+    ),
+    (
+        1,
+        &[(1, LONGEST, 1), (1, b"", 0)],
+        Err(AssetFault::ZeroQuantity),
+    ),
+    (
+        1,
+        &[(1, LONGEST, 1), (2, b"", 1), (1, LONGEST, 2)],
+        Err(AssetFault::Repeated),
+    ),
+    (
+        1,
+        &[(1, LONGEST, 0), (1, LONGEST, 0)],
+        Err(AssetFault::ZeroQuantity),
+    ),
+    (
+        1,
+        &[(1, b"", 0), (1, LONG, 1), (1, LONG, 1)],
+        Err(AssetFault::NameTooLong),
+    ),
 ];
 
-#[test]
-fn shapes_of_values(rt: HostRuntime) {
-    for (parts, want) in SHAPES {
-        gives(&rt, *parts, read_coin(rt.alloc(), *parts), *want);
+/// Whether a value has this text.
+fn is_spelled(alloc: Global, value: &Value, text: &[&str]) -> bool {
+    let mut out = Vec::new(alloc);
+    value.write(&mut out).is_ok() && spells(text, &out)
+}
+
+/// Whether the value of so many lovelace and these assets has this text, or this is wrong with them.
+fn is_value(alloc: Global, (coin, assets, want): &Made) -> bool {
+    match (value_of(alloc, *coin, *assets), want) {
+        (Ok(value), Ok(text)) => is_spelled(alloc, &value, *text),
+        (Err(fault), Err(want)) => fault == *want,
+        _ => false,
     }
+}
+
+#[test]
+fn values_of_assets(rt: HostRuntime) {
+    for made in VALUES {
+        check(&rt, "a value", is_value(rt.alloc(), made));
+    }
+}
+
+/// What is minted, and its text or what is wrong with it.
+type Minted = (
+    &'static [(u8, &'static [u8], i64)],
+    Result<&'static [&'static str], AssetFault>,
+);
+
+/// The least and the greatest of what can be minted, and one under another name; nothing, whose text isn't read again;
+/// and the faults.
+const MINTS: &[Minted] = &[
+    (
+        &[(2, b"b", i64::MAX), (1, b"", -1), (2, b"a", i64::MIN)],
+        Ok(&[
+            "a25820",
+            ONES,
+            "a14020 5820",
+            TWOS,
+            "a2 41613b7fffffffffffffff 41621b7fffffffffffffff",
+        ]),
+    ),
+    (&[], Ok(&["a0"])),
+    (&[(1, b"", 3), (1, b"", -3)], Err(AssetFault::Repeated)),
+    (&[(1, b"", 0)], Err(AssetFault::ZeroQuantity)),
+    (&[(1, LONG, -1)], Err(AssetFault::NameTooLong)),
+];
+
+/// Whether a mint has this text.
+fn is_minted(alloc: Global, mint: &Mint, text: &[&str]) -> bool {
+    let mut out = Vec::new(alloc);
+    mint.write(&mut out).is_ok() && spells(text, &out)
+}
+
+/// Whether what mints these assets has this text, or this is wrong with them.
+fn is_mint(alloc: Global, (assets, want): &Minted) -> bool {
+    match (mint_of(alloc, *assets), want) {
+        (Ok(mint), Ok(text)) => is_minted(alloc, &mint, *text),
+        (Err(fault), Err(want)) => fault == *want,
+        _ => false,
+    }
+}
+
+#[test]
+fn mints_of_assets(rt: HostRuntime) {
+    for made in MINTS {
+        check(&rt, "a mint", is_mint(rt.alloc(), made));
+    }
+}
+
+/// Whether a policy is that of this byte, with these names and quantities.
+fn holds(policy: &Policy<u64>, byte: u8, tokens: &[(&[u8], u64)]) -> bool {
+    for (token, (name, quantity)) in policy.tokens.iter().zip(tokens) {
+        if token.name.as_slice() != *name || token.quantity != *quantity {
+            return false;
+        }
+    }
+    policy.tokens.len() == tokens.len() && *policy.id.as_bytes() == [byte; 32]
+}
+
+/// Whether these are both policies with their names and quantities.
+fn are_both(policies: &[Policy<u64>]) -> bool {
+    match policies {
+        [first, second] => {
+            holds(first, 1, &[(b"", 1), (b"\xff", 24), (b"\0\0", 2)])
+                && holds(second, 2, &[(b"", 1 << 63)])
+        }
+        _ => false,
+    }
+}
+
+#[test]
+fn value_of_a_text(rt: HostRuntime) -> Result<(), Fail> {
+    let text = hex(rt.alloc(), SORTED)?;
+    let (value, rest) = Value::read(rt.alloc(), &text)?;
+    check(&rt, "alone", rest.is_empty());
+    check(&rt, "two policies", are_both(value.assets()));
+    Ok(())
+}
+
+/// Whether the values of two lists of assets are equal.
+fn are_equal(alloc: Global, one: &[Held], other: &[Held]) -> bool {
+    match (value_of(alloc, 5, one), value_of(alloc, 5, other)) {
+        (Ok(one), Ok(other)) => one == other,
+        _ => false,
+    }
+}
+
+#[test]
+fn equal_values(rt: HostRuntime) {
+    check(
+        &rt,
+        "two orders",
+        are_equal(rt.alloc(), VALUES[1].1, VALUES[2].1),
+    );
+    check(
+        &rt,
+        "others",
+        !are_equal(rt.alloc(), VALUES[1].1, VALUES[3].1),
+    );
+}
+
+/// Whether nothing is minted by no assets.
+fn is_nothing(alloc: Global, nothing: &Mint) -> bool {
+    match mint_of(alloc, &[]) {
+        Ok(made) => made == *nothing,
+        Err(_) => false,
+    }
+}
+
+#[test]
+fn coin_alone_and_nothing_minted(rt: HostRuntime) {
+    let coin = Value::of_coin(rt.alloc(), 24);
+    check(&rt, "coin", is_spelled(rt.alloc(), &coin, &["1818"]));
+    let nothing = Mint::nothing(rt.alloc());
+    check(&rt, "nothing", is_nothing(rt.alloc(), &nothing));
+}
+
+/// How many policies the value of both has, or why there is none.
+fn policies_of_both(alloc: Global) -> Result<usize, AssetFault> {
+    Ok(value_of(alloc, 1, VALUES[0].1)?.assets().len())
+}
+
+/// With an allocation refused (`rt try --test --fail-alloc N`) the answer is OutOfMemory, and the next call makes
+/// the value.
+#[test]
+fn refused_memory(rt: HostRuntime) {
+    let mut policies = policies_of_both(rt.alloc());
+    if policies == Err(AssetFault::OutOfMemory) {
+        policies = policies_of_both(rt.alloc());
+    }
+    check(&rt, "made", policies == Ok(2));
 }

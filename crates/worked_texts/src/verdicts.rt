@@ -1,118 +1,122 @@
-//! Verdicts on a payment, whose digests were computed by another SHA-256.
+//! Verdicts on payments, whose digests were computed by another SHA-256.
 
-use super::fixture::{KEY_HASH, joined, same, same_bytes};
-use super::transactions::{PAYING_BODY, decoded};
+use super::fixture::{KEY_HASH, ONES, check, spells};
+use super::transactions::{MINTING_BODY, PAYING_BODY, read};
 use cbor::CborFault;
-use std::alloc::{AllocError, Global};
-use std::process::Abort;
+use std::alloc::Global;
 use std::test::Fail;
-use tx::Tx;
 use witness_pool::{CheckedTx, SigScheme, TestScheme, plain};
 
 /// The SHA-256 digest of 32 bytes 01 followed by the identifier of the payment, which is the digest of its body.
-pub const DIGEST: [u8; 32] = [
-    0x77, 0x20, 0x03, 0x8b, 0x2e, 0x76, 0xcc, 0xb2, 0x82, 0xaa, 0xfe, 0xb8, 0x7e, 0x01, 0x1a, 0xdf,
-    0x34, 0x6e, 0xfe, 0x4a, 0xf0, 0xe4, 0x08, 0xc4, 0x1b, 0x73, 0x4f, 0xcf, 0xbb, 0xce, 0xdf, 0x12,
+pub const DIGEST: &str = "7720038b2e76ccb282aafeb87e011adf346efe4af0e408c41b734fcfbbcedf12";
+
+/// The payment, signed by the key of 32 bytes 01, with the script that asks for all of none, which holds always.
+pub const SIGNED: &[&str] = &[
+    "83",
+    PAYING_BODY,
+    "a2 0081825820",
+    ONES,
+    "5840",
+    DIGEST,
+    DIGEST,
+    "0181820180 f6",
 ];
 
-/// The text of the payment of 910 lovelace to the key of 32 bytes 01 for a fee of 290, signed with these two halves by
-/// that key, and with the array of scripts of this text.
-fn payment(alloc: Global, halves: [&[u8; 32]; 2], scripts: &[u8]) -> Result<Vec<u8>, AllocError> {
-    let [first, second] = halves;
-    joined(
-        alloc,
-        &[
-            b"\x83",
-            &PAYING_BODY,
-            b"\xa2\x00\x81\x82\x58\x20",
-            &[1; 32],
-            b"\x58\x40",
-            first,
-            second,
-            b"\x01",
-            scripts,
-            b"\xf6",
-        ],
-    )
-}
-
-/// That payment.
-pub fn read_payment(
-    alloc: Global,
-    halves: [&[u8; 32]; 2],
-    scripts: &[u8],
-) -> Result<Tx, CborFault> {
-    let text = payment(alloc, halves, scripts)?;
-    decoded(alloc, &text)
-}
-
-/// That payment with its verdicts.
-fn checked(
-    alloc: Global,
-    halves: [&[u8; 32]; 2],
-    scripts: &[u8],
-) -> Result<CheckedTx<TestScheme>, CborFault> {
-    let tx = read_payment(alloc, halves, scripts)?;
-    Ok(plain::<TestScheme>(alloc, tx)?)
-}
-
-/// Whether it is signed, and whether the scripts of its copy hold.
-fn verdicts_on(
-    alloc: Global,
-    halves: [&[u8; 32]; 2],
-    scripts: &[u8],
-) -> Result<(bool, bool), CborFault> {
-    let checked = checked(alloc, halves, scripts)?;
-    let copy = checked.try_clone()?;
-    Ok((checked.is_signed(), copy.scripts_hold()))
-}
-
-/// The array of the script that asks for all of none, which holds always.
-pub const ALWAYS: &[u8] = b"\x81\x82\x01\x80";
-
-/// The array of the script that asks for one of none, which holds never.
-pub const NEVER: &[u8] = b"\x81\x82\x02\x80";
-
-/// Two halves of a signature, a script, whether the payment is signed, and whether its script holds.
-const SIGNED: [([&[u8; 32]; 2], &[u8], bool, bool); 4] = [
-    ([&DIGEST, &DIGEST], ALWAYS, true, true),
-    ([&DIGEST, &DIGEST], NEVER, true, false),
-    ([&DIGEST, &KEY_HASH], ALWAYS, false, true),
-    ([&KEY_HASH, &DIGEST], ALWAYS, false, true),
+/// The same with another second half of the signature.
+pub const BADLY: &[&str] = &[
+    "83",
+    PAYING_BODY,
+    "a2 0081825820",
+    ONES,
+    "5840",
+    DIGEST,
+    KEY_HASH,
+    "0181820180 f6",
 ];
 
-#[test]
-fn signatures_of_a_payment(rt: HostRuntime) {
-    for (halves, scripts, signed, holding) in SIGNED {
-        let found = verdicts_on(rt.alloc(), halves, scripts);
-        assert_eq!(rt; found, Ok((signed, holding)));
+/// The same with another first half.
+const BADLY_TOO: &[&str] = &[
+    "83",
+    PAYING_BODY,
+    "a2 0081825820",
+    ONES,
+    "5840",
+    KEY_HASH,
+    DIGEST,
+    "0181820180 f6",
+];
+
+/// The signed payment and a bad one with the script that asks for one of none, which holds never.
+pub const SIGNED_IN_VAIN: &[&str] = &[
+    "83",
+    PAYING_BODY,
+    "a2 0081825820",
+    ONES,
+    "5840",
+    DIGEST,
+    DIGEST,
+    "0181820280 f6",
+];
+
+pub const BADLY_IN_VAIN: &[&str] = &[
+    "83",
+    PAYING_BODY,
+    "a2 0081825820",
+    ONES,
+    "5840",
+    DIGEST,
+    KEY_HASH,
+    "0181820280 f6",
+];
+
+/// The SHA-256 digest of 32 bytes 01 followed by the identifier of the transaction that mints, which is the digest of
+/// its body.
+const MINTING_DIGEST: &str = "494996bcdf88777dc311b6c5734d29206dfbdcb18f63a8cce97a9cf471467c48";
+
+/// The text of the transaction that mints 5 of a policy for a fee of 400, signed by the key of 32 bytes 01, with the
+/// policy's script.
+pub const SIGNED_MINTING: &[&str] = &[
+    "83",
+    MINTING_BODY,
+    "a2 0081825820",
+    ONES,
+    "5840",
+    MINTING_DIGEST,
+    MINTING_DIGEST,
+    "0181820180 f6",
+];
+
+/// A payment with its verdicts.
+fn checked<S: SigScheme>(alloc: Global, text: &[&str]) -> Result<CheckedTx<S>, CborFault> {
+    let tx = read(alloc, text)?;
+    Ok(plain::<S>(alloc, tx)?)
+}
+
+/// Whether the scripts of a copy hold.
+fn holds_copied<S: SigScheme>(checked: &CheckedTx<S>) -> Option<bool> {
+    match checked.try_clone() {
+        Ok(copy) => Some(copy.scripts_hold()),
+        Err(_) => None,
     }
 }
 
-/// The one key of the payment is that of its output.
-fn has_key(rt: &impl Abort, checked: &CheckedTx<TestScheme>) {
-    let [key] = checked.keys() else {
-        panic!(rt; "one key signed");
-    };
-    same_bytes(rt, key.as_bytes(), &KEY_HASH);
+/// Whether a payment is signed, and whether the scripts of its copy hold.
+fn has_verdicts<S: SigScheme>(alloc: Global, text: &[&str], signed: bool, holding: bool) -> bool {
+    match checked::<S>(alloc, text) {
+        Ok(checked) => checked.is_signed() == signed && holds_copied(&checked) == Some(holding),
+        Err(_) => false,
+    }
 }
 
-#[test]
-fn keys_of_a_payment(rt: HostRuntime) -> Result<(), Fail> {
-    let checked = checked(rt.alloc(), [&DIGEST, &DIGEST], ALWAYS)?;
-    has_key(&rt, &checked);
-    same(&rt, "fee", checked.tx().fee(), 290);
-    Ok(())
-}
-
-#[test]
-fn one_good_signature(rt: HostRuntime) -> Result<(), Fail> {
-    let tx = read_payment(rt.alloc(), [&DIGEST, &DIGEST], ALWAYS)?;
-    let signature = TestScheme::sign(&[1; 32], tx.id().as_bytes());
-    let signed = joined(rt.alloc(), &[&DIGEST, &DIGEST])?;
-    same_bytes(&rt, &signature, &signed);
-    Ok(())
-}
+/// Transactions, whether each is signed, and whether its script holds.
+const PAYMENTS: &[(&[&str], bool, bool)] = &[
+    (SIGNED, true, true),
+    (SIGNED_IN_VAIN, true, false),
+    (BADLY, false, true),
+    (BADLY_TOO, false, true),
+    (BADLY_IN_VAIN, false, false),
+    (SIGNED_MINTING, true, true),
+];
 
 /// A scheme in which nothing is good.
 struct Nothing;
@@ -127,14 +131,33 @@ impl SigScheme for Nothing {
     }
 }
 
-/// Whether the payment is signed under that scheme, and whether its scripts hold.
-fn verdicts_of_nothing(alloc: Global) -> Result<(bool, bool), CborFault> {
-    let tx = read_payment(alloc, [&DIGEST, &DIGEST], ALWAYS)?;
-    let checked = plain::<Nothing>(alloc, tx)?;
-    Ok((checked.is_signed(), checked.scripts_hold()))
+#[test]
+fn verdicts_on_payments(rt: HostRuntime) {
+    for (text, signed, holding) in PAYMENTS {
+        let found = has_verdicts::<TestScheme>(rt.alloc(), *text, *signed, *holding);
+        check(&rt, "verdicts", found);
+    }
+    let found = has_verdicts::<Nothing>(rt.alloc(), SIGNED, false, true);
+    check(&rt, "another scheme", found);
+}
+
+/// Whether the key of a transaction is that of the payment's output.
+pub fn has_key(checked: &CheckedTx<TestScheme>) -> bool {
+    match checked.keys() {
+        [key] => spells(&[KEY_HASH], key.as_bytes()),
+        _ => false,
+    }
+}
+
+/// Whether a payment has its key, its fee, and the signature that the scheme makes.
+fn is_payment(checked: &CheckedTx<TestScheme>) -> bool {
+    let signature = TestScheme::sign(&[1; 32], checked.tx().id().as_bytes());
+    has_key(checked) && checked.tx().fee() == 290 && spells(&[DIGEST, DIGEST], &signature)
 }
 
 #[test]
-fn another_scheme(rt: HostRuntime) {
-    assert!(rt; verdicts_of_nothing(rt.alloc()) == Ok((false, true)));
+fn parts_of_a_payment(rt: HostRuntime) -> Result<(), Fail> {
+    let checked = checked::<TestScheme>(rt.alloc(), SIGNED)?;
+    check(&rt, "its parts", is_payment(&checked));
+    Ok(())
 }

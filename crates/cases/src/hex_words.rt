@@ -1,0 +1,98 @@
+//! Bytes written in words: hexadecimal, names of bytes, and either so many times.
+
+use std::alloc::{AllocError, Global};
+
+/// Bytes that have a name.
+#[derive(Drop)]
+struct Named<'a> {
+    name: &'a str,
+    bytes: Vec<u8>,
+}
+
+/// The names that were given to bytes so far.
+#[derive(Drop)]
+pub struct NamedBytes<'a> {
+    alloc: Global,
+    named: Vec<Named<'a>>,
+}
+
+/// A word without the number of times that it stands for, and that number, where it is one.
+fn repeated(word: &str) -> Option<(&str, u64)> {
+    match word.split_once('*') {
+        Some((once, times)) => Some((once, times.parse::<u64>().ok()?)),
+        None => Some((word, 1)),
+    }
+}
+
+impl<'a> NamedBytes<'a> {
+    /// No names.
+    pub fn new(alloc: Global) -> NamedBytes<'a> {
+        NamedBytes {
+            alloc,
+            named: Vec::new(alloc),
+        }
+    }
+
+    /// Gives words a name, and answers whether each has a meaning and the name had none.
+    pub fn bind(&mut self, name: &'a str, words: &str) -> Result<bool, AllocError> {
+        if self.bytes_of(name)?.is_some() {
+            return Ok(false);
+        }
+        let Some(bytes) = self.bytes_of(words)? else {
+            return Ok(false);
+        };
+        self.named.push(Named { name, bytes })?;
+        Ok(true)
+    }
+
+    /// The bytes of a name.
+    fn get(&self, name: &str) -> Option<&[u8]> {
+        for named in &self.named {
+            if named.name == name {
+                return Some(&named.bytes);
+            }
+        }
+        None
+    }
+
+    /// Puts the bytes of a word without a number behind others, if it has a meaning.
+    fn put_once(&self, bytes: &mut Vec<u8>, word: &str) -> Result<bool, AllocError> {
+        if let Some(named) = self.get(word) {
+            bytes.extend_from_slice(named)?;
+            return Ok(true);
+        }
+        match hex::decode(self.alloc, word) {
+            Ok(decoded) => {
+                bytes.extend_from_slice(&decoded)?;
+                Ok(true)
+            }
+            Err(_) => Ok(false),
+        }
+    }
+
+    /// Puts the bytes of a word behind others, if it has a meaning.
+    fn put(&self, bytes: &mut Vec<u8>, word: &str) -> Result<bool, AllocError> {
+        let Some((once, times)) = repeated(word) else {
+            return Ok(false);
+        };
+        let mut one = Vec::new(self.alloc);
+        if !self.put_once(&mut one, once)? {
+            return Ok(false);
+        }
+        for _ in 0..times {
+            bytes.extend_from_slice(&one)?;
+        }
+        Ok(true)
+    }
+
+    /// The bytes that words stand for, one after the other, if each has a meaning.
+    pub fn bytes_of(&self, words: &str) -> Result<Option<Vec<u8>>, AllocError> {
+        let mut bytes = Vec::new(self.alloc);
+        for word in words.split_whitespace() {
+            if !self.put(&mut bytes, word)? {
+                return Ok(None);
+            }
+        }
+        Ok(Some(bytes))
+    }
+}

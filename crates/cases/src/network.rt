@@ -1,0 +1,30 @@
+//! The network that a case runs on.
+
+use genesis::Genesis;
+use std::alloc::Global;
+use std::rt::Files;
+use std::{fs, io};
+
+/// The network of a case that names none.
+pub const USUAL: &str = "small";
+
+/// The folder of a path, with the slash behind it.
+fn folder_of(path: &str) -> &str {
+    match path.rsplit_once('/') {
+        Some((folder, _)) => folder,
+        None => ".",
+    }
+}
+
+/// The genesis of this name, in the folder `genesis` beside that of a file of cases. None where there is none.
+pub fn genesis_named<R: Files + AllocGlobal>(
+    rt: &R,
+    file: &str,
+    name: &str,
+) -> io::Result<Option<Genesis>> {
+    let path = format!(in rt.alloc(); "{}/../genesis/{name}.toml", folder_of(file))?;
+    match fs::read_to_string(rt, path.as_str()) {
+        Ok(text) => Ok(Genesis::from_toml(rt.alloc(), text.as_str()).ok()),
+        Err(_) => Ok(None),
+    }
+}
