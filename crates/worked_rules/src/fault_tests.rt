@@ -45,11 +45,14 @@ const ONE: &str =
 const ZERO: &str =
     "{ key = \"0101010101010101010101010101010101010101010101010101010101010101\", coin = 0 }";
 
-/// So many outputs that are alike, and the fault: too many alone, and with each other fault that a document may have
-/// beside it.
+/// So many outputs that are alike, and the fault.
 const COUNTS: &[(u32, &str, Option<GenesisFault>)] = &[
     (10_000, ONE, None),
     (10_001, ONE, Some(GenesisFault::BadOutputs)),
+];
+
+/// Too many outputs, each with another fault, which is told.
+const FAULTY: &[(u32, &str, Option<GenesisFault>)] = &[
     (10_001, ZERO, Some(GenesisFault::BadCoin)),
     (
         10_001,
@@ -71,11 +74,25 @@ fn told_of_many(
     Ok(fault_of(alloc, text.as_str()))
 }
 
-#[test]
-fn counts(rt: HostRuntime) -> Result<(), Fail> {
-    for (count, output, want) in COUNTS {
-        let told = told_of_many(rt.alloc(), *count, *output)?;
+/// The faults of the documents are those that are wanted.
+fn judge(
+    rt: &impl Abort,
+    alloc: Global,
+    rows: &[(u32, &str, Option<GenesisFault>)],
+) -> Result<(), AllocError> {
+    for (count, output, want) in rows {
+        let told = told_of_many(alloc, *count, *output)?;
         assert!(rt; told == *want, "{output}");
     }
     Ok(())
+}
+
+#[test]
+fn counts(rt: HostRuntime) -> Result<(), Fail> {
+    Ok(judge(&rt, rt.alloc(), COUNTS)?)
+}
+
+#[test]
+fn counts_beside_another_fault(rt: HostRuntime) -> Result<(), Fail> {
+    Ok(judge(&rt, rt.alloc(), FAULTY)?)
 }
