@@ -1,5 +1,5 @@
-//! The program `cases`: reads files of worked examples, tells each that comes out otherwise than is wanted, and how many
-//! there are of each file. Its status is 0 where there are some in each file and none differs, and else 1.
+//! The program `cases`: reads files of worked examples, tells each that comes out otherwise than is wanted, and how
+//! many there are of each file. Its status is 0 where there are some in each file and none differs, and else 1.
 #![tactic(auto)]
 
 mod bars;

@@ -88,8 +88,8 @@ impl<'a> Report<'a> {
         Ok(())
     }
 
-    /// Counts a case of this title, and tells where the lines that came are not those that are wanted. A case that is told by a
-    /// line of its own has that line behind the title.
+    /// Counts a case of this title, and tells where the lines that came are not those that are wanted. A case that is
+    /// told by a line of its own has that line behind the title.
     pub fn compare(
         &mut self,
         title: &str,
