@@ -61,7 +61,8 @@ fn put_in_and_spent(rt: HostRuntime) -> Result<(), Fail> {
     Ok(())
 }
 
-/// Puts an output of so much lovelace at index 0, where so many stand, of this lovelace, once more where memory ran out.
+/// Puts an output of so much lovelace at index 0, where so many stand, of this lovelace, once more where memory ran
+/// out.
 /// Nothing had changed before that worked.
 fn put_at_last(
     rt: &impl Abort,
