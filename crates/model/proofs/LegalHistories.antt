@@ -3,17 +3,17 @@ use Rattle.std.proofs.Common.{◌≡◌, ◌≢◌, ℕ, ◌<◌, ◌≤◌, ◌
 use Rattle.std.specs.Prelude.{nat_lt, slice_set}
 use Rattle.std.specs.List.{AllByRecursion, filter}
 use Rattle.std.proofs.lemmas.Bool.{lt-ltb, ltb-true}
-use Rattle.model.specs.Block.{Block, SpellsBlock, block_hash_of}
+use Rattle.model.specs.Block.{Block, SpellsBlock, block_text, block_hash_of}
 use Rattle.model.specs.Genesis.{Genesis}
 use Rattle.model.specs.Ledger.{Network}
-use Rattle.model.specs.Chain.{IsValidChain, NoneLonger, IsSelection, HaveDistinctHashes, immutable_length, immutable_part, live_blocks, BeginsWith}
+use Rattle.model.specs.Chain.{IsValidChain, NoneLonger, IsSelection, Stays, Changes, HaveDistinctHashes, immutable_length, immutable_part, live_blocks, BeginsWith}
 use Rattle.model.specs.Mempool.{SubmitReply, IsValidPool, revalidated}
 use Rattle.model.specs.Follower.{Instruction, Stay, AddBlock, RollBack, IsReplayed}
 use Rattle.model.specs.History.{State, opening, live_of, Refusal, Known, Clash, Applies, Event, Arrive, Submit, Open, Next, Reply, Kept, Refused, Submitted, Opened, TooManyFollowers, Instructed, UnknownFollower, OutOfMemory, Keeps, Takes, Instructs, Step, Entry, IsRun, IsLegal, BringsBlock, IsKeptBy, length_with, length_from}
-use Rattle.model.proofs.Lists.{all_from_members, all_filter_narrower, nothing_contained, contains_first, contains_later, contains_cases}
+use Rattle.model.proofs.Lists.{all_weaker, all_from_members, all_filter_narrower, nothing_contained, contains_first, contains_later, contains_cases}
 use Rattle.model.proofs.Chains.{begins_with_itself, begins_earlier}
 use Rattle.model.proofs.Selections.{one_selection, selection_valid, selection_longer, selection_not_shorter, selection_begins, selection_longest}
-use Rattle.model.proofs.BlockTexts.{one_block}
+use Rattle.model.proofs.BlockTexts.{one_block, block_text_is}
 use Rattle.model.proofs.MempoolSteps.{up_to_date, nothing_valid, submitted_valid, submitted_one}
 
 -- ---- live blocks have distinct hashes
@@ -46,12 +46,18 @@ distinct_with genesis s bytes b distinct spelled not_refused = with_test (nat_lt
 
 -- ---- what each step keeps
 
+-- the block is the one of its text
+abbrev pub HasItsText : Block → Type 0
+HasItsText b = SpellsBlock b (block_text b)
+
 -- a state as legal histories leave it
 pub record IsSoundState (network : Network) (s : State) : Type 0 where
   pub valid : IsValidChain network s.chain
   pub longest : NoneLonger network s.kept s.chain
   pub distinct : HaveDistinctHashes (live_of network.genesis s)
   pub mempool : IsValidPool network s.chain s.mempool
+  pub members : AllByRecursion (Contains s.kept) s.chain
+  pub spelled : AllByRecursion HasItsText s.kept
 
 no_longer_than_nothing : (network : Network) → NoneLonger network [] []
 no_longer_than_nothing network [] candidate = omega arith
@@ -63,7 +69,19 @@ opening_sound network = record {
   longest = no_longer_than_nothing network;
   distinct = tt;
   mempool = nothing_valid network [];
+  members = tt;
+  spelled = tt;
 }
+
+-- a block that bytes spell is the one of its text
+spelled_by : (b : Block) (bytes : List ℕ) → SpellsBlock b bytes → HasItsText b
+spelled_by b bytes read = subst (SpellsBlock b) (sym (block_text_is b bytes read)) read
+
+-- the blocks of the selected chain are kept
+selected_kept : (network : Network) (kept more old new : List Block) (b : Block) → more ≡ b ∷ kept → AllByRecursion (Contains kept) old → IsSelection network more old new → AllByRecursion (Contains more) new
+selected_kept network kept more old new b is members (Stays none) =
+    all_weaker (Contains kept) (Contains more) old (λ c member. subst (λ (bs : List Block). Contains bs c) (sym is) (contains_later b kept c member)) members
+selected_kept network kept more old new b is members (Changes chosen changes) = changes.candidate.members
 
 keeps_sound : (network : Network) (s : State) (bytes : List ℕ) (back added : ℕ) (t : State) → IsSoundState network s → Keeps network s bytes back added t → IsSoundState network t
 keeps_sound network s bytes back added t sound keeps =
@@ -75,6 +93,8 @@ keeps_sound network s bytes back added t sound keeps =
       distinct = narrower_distinct (λ b. nat_lt (immutable_length network.genesis s.chain) b.header.number) (λ b. nat_lt (immutable_length network.genesis t.chain) b.header.number) t.kept
           (λ b passes. lt-ltb (immutable_length network.genesis s.chain) b.header.number (let past = ltb-true (immutable_length network.genesis t.chain) b.header.number passes in omega arith)) distinct;
       mempool = subst (IsValidPool network t.chain) (sym keeps.mempool) (up_to_date network t.chain s.mempool);
+      members = selected_kept network s.kept t.kept s.chain t.chain keeps.block keeps.kept sound.members keeps.selection;
+      spelled = subst (AllByRecursion HasItsText) (sym keeps.kept) (spelled_by keeps.block bytes keeps.read, sound.spelled);
     }
 
 -- a step that neither keeps a block nor changes the chain, and leaves the mempool valid
@@ -107,6 +127,8 @@ quiet_sound network s event reply t sound quiet = record {
   longest = subst (λ (bs : List Block). NoneLonger network bs t.chain) (sym quiet.kept) (subst (λ (c : List Block). NoneLonger network s.kept c) (sym quiet.chain) sound.longest);
   distinct = subst (λ (bs : List Block). HaveDistinctHashes (live_blocks network.genesis bs t.chain)) (sym quiet.kept) (subst (λ (c : List Block). HaveDistinctHashes (live_blocks network.genesis s.kept c)) (sym quiet.chain) sound.distinct);
   mempool = quiet.mempool sound.mempool;
+  members = subst (λ (bs : List Block). AllByRecursion (Contains bs) t.chain) (sym quiet.kept) (subst (AllByRecursion (Contains s.kept)) (sym quiet.chain) sound.members);
+  spelled = subst (AllByRecursion HasItsText) (sym quiet.kept) sound.spelled;
 }
 
 kind_sound : (network : Network) (s : State) (event : Event) (reply : Reply) (t : State) → IsSoundState network s → Kind network s event reply t → IsSoundState network t

@@ -33,3 +33,7 @@ pub mod Sets
 pub mod Candidates
 pub mod MempoolPasses
 pub mod MempoolSteps
+pub mod ForgedBlocks
+pub mod ForgedArrivals
+pub mod Heights
+pub mod LogTexts

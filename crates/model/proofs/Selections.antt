@@ -48,7 +48,7 @@ live_rest network kept selected c candidate long =
     (all_both (λ b. m < b.header.number) (Contains kept) (drop m c) past members)
 
 -- two candidates of one length that end in one hash are the same
-same_candidates : (network : Network) (kept selected a b : List Block) → HaveDistinctHashes (live_blocks network.genesis kept selected)
+pub same_candidates : (network : Network) (kept selected a b : List Block) → HaveDistinctHashes (live_blocks network.genesis kept selected)
     → IsCandidate network kept selected a → IsCandidate network kept selected b
     → length selected < length a → length a ≡ length b → tip_hash a ≡ tip_hash b → a ≡ b
 same_candidates network kept selected a b distinct first second longer long same =

@@ -15,7 +15,10 @@ pub mod Applying
 pub mod Mempool
 pub mod Follower
 pub mod History
+pub mod Forging
 pub mod Journal
 pub mod Codes
 pub mod Examples
 pub mod TransactionExamples
+pub mod Disk
+pub mod Log

@@ -5,8 +5,11 @@
 #![tactic(auto)]
 
 mod examples;
+mod forging;
 mod histories;
+mod journals;
 mod ledgers;
+mod logs;
 mod mempool;
 mod opening;
 mod rule_examples;
@@ -17,11 +20,14 @@ pub use examples::{
     lengths_of_later_blocks, no_texts, scripts_of_times, scripts_that_count, texts_of_first_blocks,
     texts_of_maps, texts_of_nested_items, texts_of_numbers, texts_of_scripts,
 };
+pub use forging::forged_blocks;
 pub use histories::{
     chain_theorem, change_counts, immutable_part_grows, kept_blocks, live_hashes_differ,
     one_selection, one_state, selected_chain, told_chains,
 };
+pub use journals::heights_never_fall;
 pub use ledgers::{one_answer_to_a_block, states_of_chains, supply_conserved};
+pub use logs::{crashed_logs, one_way_to_open};
 pub use mempool::{mempool_passes, picked_transactions};
 pub use opening::{opening_outputs, opening_supply};
 pub use rule_examples::{asset_sum_past_64_bits, mint_and_burn, slots_of_intervals, spend_and_fee};

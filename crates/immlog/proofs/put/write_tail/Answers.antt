@@ -1,0 +1,10 @@
+use Rattle.immlog.proofs.Moments.{keeps_then}
+use Rattle.immlog.proofs.put.write_tail.Goals as goal
+
+pub returns-in_err-write_end-clause-fixed : goal.returns-in_err-write_end-clause-fixed
+returns-in_err-write_end-clause-fixed g c =
+    keeps_then _ _ _ _ _ _ _ _ c.write_end.ensures.fixed c.write_end-2.ensures.fixed c.in_ok-gate.ensures.further
+
+pub returns-clause-fixed : goal.returns-clause-fixed
+returns-clause-fixed g c =
+    keeps_then _ _ _ _ _ _ _ _ c.write_end.ensures.fixed c.write_end-2.ensures.fixed c.in_ok-gate.ensures.further

@@ -1,0 +1,4 @@
+pub mod Steps
+pub mod Views
+pub mod OpenLog
+pub mod HeldLog

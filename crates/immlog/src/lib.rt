@@ -1,0 +1,21 @@
+//! The immutable log: the blocks that no rollback can reach any more, on a disk that may stop at any moment.
+//!
+//! ```text
+//! let mut log = Log::open(alloc, disk)?; // or the disk again, beside why not
+//! log.append(&blocks)?;                  // once it answers Ok, each crash leaves them all
+//! println!("{}", log.durable());
+//! let disk = log.into_disk();
+//! ```
+#![tactic(auto)]
+
+mod copies;
+mod disk;
+mod faults;
+mod log;
+mod put;
+mod records;
+mod recover;
+
+pub use disk::{Disk, DiskFailed};
+pub use faults::{AppendFault, CreateFault, OpenFault};
+pub use log::Log;

@@ -1,0 +1,207 @@
+//! The immutable log.
+
+ghost use Rattle.std.specs.Prelude.{◌≡◌, ◌↔◌, ◌<◌, ◌≤◌, List, ℕ, [], ◌++◌, length, true, false};
+ghost use Rattle.std.specs.Prelude.{IsErrOf, IsOk, IfOk, IfErr, OnOk};
+ghost use Rattle.std.specs.List.{AllByRecursion};
+ghost use Rattle.model.specs.Disk.{Leaves, LeavesSince, one_more};
+ghost use Rattle.model.specs.Log.{IsLogBlock, Opens, IsDamaged, OpensToBeginning, IsLogOf};
+ghost use Rattle.immlog.specs.Views.{lists_of};
+ghost use Rattle.immlog.specs.OpenLog.{GoesOn};
+ghost use Rattle.immlog.specs.Steps.{KeepsLogs, IsBeginningOf};
+
+use crate::copies::copy_all;
+use crate::disk::Disk;
+use crate::faults::{AppendFault, CreateFault, OpenFault};
+use crate::put::{put_all, wipe};
+use crate::recover::recover;
+use std::alloc::Global;
+use std::marker::Model;
+
+/// A log of blocks on a disk, whose blocks it also keeps in memory. Where the disk failed in a call, the log is broken:
+/// it doesn't touch the disk any more, and is opened again from it.
+#[derive(Drop)]
+pub struct Log<D: Disk> {
+    alloc: Global,
+    disk: D,
+    kept: Vec<Vec<u8>>,
+    durable: usize,
+    gate: usize,
+    broken: bool,
+}
+
+impl<D: Disk> Model for Log<D> {
+    ghost use Rattle.immlog.specs.OpenLog.{OpenLog, open_log_code};
+
+    ghost Value = { OpenLog D };
+
+    ghost coded = { open_log_code D.code };
+
+    ghost use Rattle.immlog.specs.HeldLog.{log_of, IsHeld};
+
+    ghost view = { log_of };
+
+    ghost invariant = { IsHeld D.reads D.moment };
+}
+
+impl<D: Disk> Log<D> {
+    /// Makes a log without blocks, whatever was on the disk. Err, with the disk beside it, where the disk failed;
+    /// nothing is then said of what is on the disk, nor of a crash inside this call. Takes no memory.
+    pub fn create(alloc: Global, disk: D) -> Result<Log<D>, (CreateFault, D)>
+        ensures blocks { IfOk result (λ log. log.blocks ≡ []) }
+        ensures sound { IfOk result (λ log. log.broken ≡ false) }
+        ensures left { IfOk result (λ log. Leaves (λ bytes. Opens bytes log.blocks) (D.moment log.disk)) }
+        ensures kept { IfOk result (λ log. Leaves (IsLogOf (length log.blocks) log.blocks) (D.moment log.disk)) }
+        ensures failed { IfErr result (λ refused. D.failures refused.1 ≡ one_more (D.failures disk)) }
+    {
+        let mut disk = disk;
+        match wipe(&mut disk) {
+            Ok(()) => Ok(Log {
+                alloc,
+                disk,
+                kept: Vec::new(alloc),
+                durable: 0,
+                gate: 0,
+                broken: false,
+            }),
+            Err(_) => Err((CreateFault::DiskFault, disk)),
+        }
+    }
+
+    /// Opens the log on this disk: its blocks are read, and behind the last one stands a closed gate, which is made
+    /// sure, and nothing else. Err, with the disk beside it, where the disk failed, where an open gate has no record
+    /// behind it, or where memory ran out. Takes memory for the bytes of the disk and for a copy of the blocks, and the
+    /// time to compute their digests.
+    pub fn open(alloc: Global, disk: D) -> Result<Log<D>, (OpenFault, D)>
+        // The blocks are those of what the reads gave,
+        ensures opened { IfOk result (λ log. Opens (D.reads disk) log.blocks) }
+        // which is damaged at the place that is told.
+        ensures damaged { IfErr result (λ refused. (place : ℕ) →
+            refused.0 ≡ OpenFault.Damaged place → IsDamaged (D.reads disk) place) }
+        ensures failed { IfErr result (λ refused.
+            refused.0 ≡ OpenFault.DiskFault → D.failures refused.1 ≡ one_more (D.failures disk)) }
+        ensures sound { IfOk result (λ log. log.broken ≡ false) }
+        // A crash then leaves just the durable blocks.
+        ensures left { IfOk result (λ log. Leaves (λ bytes. Opens bytes log.blocks) (D.moment log.disk)) }
+        ensures kept { IfOk result (λ log. Leaves (IsLogOf (length log.blocks) log.blocks) (D.moment log.disk)) }
+
+        // Of a disk of which a crash leaves a log of these blocks, at least so many of them being sure, the same is
+        // left at every moment since, whatever it answers.
+        ensures crash { IfOk result (λ log.
+            KeepsLogs (D.moment disk) (D.past disk) (D.moment log.disk) (D.past log.disk)) }
+        ensures crash_refused { IfErr result (λ refused.
+            KeepsLogs (D.moment disk) (D.past disk) (D.moment refused.1) (D.past refused.1)) }
+        // A beginning of these blocks is opened, with those that were sure,
+        ensures begins { IfOk result (λ log. (least : ℕ) (blocks : List (List ℕ)) →
+            Leaves (IsLogOf least blocks) (D.moment disk) → IsBeginningOf least blocks log.blocks) }
+        // and it isn't damaged.
+        ensures undamaged { IfErr result (λ refused. (least : ℕ) (blocks : List (List ℕ)) →
+            Leaves (IsLogOf least blocks) (D.moment disk) → (place : ℕ) → refused.0 ≡ OpenFault.Damaged place → ⊥) }
+    {
+        let mut disk = disk;
+        match recover(alloc, &mut disk) {
+            Ok((kept, gate)) => {
+                let durable = kept.len();
+                Ok(Log {
+                    alloc,
+                    disk,
+                    kept,
+                    durable,
+                    gate,
+                    broken: false,
+                })
+            }
+            Err(fault) => Err((fault, disk)),
+        }
+    }
+
+    /// Puts these blocks, of 1 to 1,048,576 bytes each, onto the log, one after the other. Err where the log is broken,
+    /// else where memory ran out for the copies, else where the disk failed. Writes the bytes of the blocks and 37
+    /// bytes for each, and waits for the disk twice for each; takes memory for a copy of each.
+    pub fn append(&mut self, blocks: &[Vec<u8>]) -> Result<(), AppendFault>
+        requires { AllByRecursion IsLogBlock (lists_of blocks.now) }
+
+        ensures all { OnOk result (self.new.blocks ≡ self.old.blocks ++ lists_of blocks.now) }
+        ensures sound { OnOk result (self.new.broken ≡ false) }
+        // A crash then leaves just the durable blocks.
+        ensures left { OnOk result (Leaves (λ bytes. Opens bytes self.new.blocks) (D.moment self.new.disk)) }
+
+        // Whatever it answers, the blocks before stay, and behind them stand some of the new ones, from the first on.
+        ensures begins { GoesOn self.old.blocks (lists_of blocks.now) self.new.blocks }
+        // A crash at any moment since it was called leaves a log that isn't damaged, of a beginning of the blocks
+        // before and the new ones, with all that were durable when it was called.
+        ensures crash { self.old.broken ≡ false → LeavesSince (D.past self.old.disk) (D.past self.new.disk)
+            (D.moment self.new.disk)
+            (OpensToBeginning (length self.old.blocks) (self.old.blocks ++ lists_of blocks.now)) }
+        // Now it leaves all that are durable now.
+        ensures crash_now { self.old.broken ≡ false → Leaves
+            (OpensToBeginning (length self.new.blocks) (self.old.blocks ++ lists_of blocks.now))
+            (D.moment self.new.disk) }
+        // The same, as `open` asks for it.
+        ensures kept { self.old.broken ≡ false → LeavesSince (D.past self.old.disk) (D.past self.new.disk)
+            (D.moment self.new.disk) (IsLogOf (length self.old.blocks) (self.old.blocks ++ lists_of blocks.now)) }
+        ensures kept_now { self.old.broken ≡ false → Leaves
+            (IsLogOf (length self.new.blocks) (self.old.blocks ++ lists_of blocks.now)) (D.moment self.new.disk) }
+
+        // An empty list is put onto every log that isn't broken.
+        ensures empty { blocks.now ≡ [] → self.old.broken ≡ false → IsOk result }
+        ensures broken { IsErrOf result AppendFault.Broken ↔ (self.old.broken ≡ true) }
+        ensures untouched { IsErrOf result AppendFault.Broken → self.new ≡ self.old }
+        ensures memory { IsErrOf result AppendFault.OutOfMemory → self.new ≡ self.old }
+        ensures failed { IsErrOf result AppendFault.DiskFault →
+            D.failures self.new.disk ≡ one_more (D.failures self.old.disk) }
+        ensures breaks { IsErrOf result AppendFault.DiskFault → self.new.broken ≡ true }
+    {
+        if self.broken {
+            return Err(AppendFault::Broken);
+        }
+        if copy_all(self.alloc, &mut self.kept, blocks).is_err() {
+            return Err(AppendFault::OutOfMemory);
+        }
+        // Until all is sure, nothing is known of the disk but what a crash may leave of it.
+        self.broken = true;
+        if put_all(
+            &mut self.disk,
+            &mut self.gate,
+            &self.kept,
+            &mut self.durable,
+        )
+        .is_err()
+        {
+            return Err(AppendFault::DiskFault);
+        }
+        self.broken = false;
+        Ok(())
+    }
+
+    /// How many blocks are durable: a crash leaves them all. In constant time.
+    pub fn durable(&self) -> usize
+        ensures count { result ≡ length self.now.blocks }
+        // Of a log that isn't broken it leaves just these.
+        ensures left { self.now.broken ≡ false →
+            Leaves (IsLogOf (length self.now.blocks) self.now.blocks) (D.moment self.now.disk) }
+    {
+        self.durable
+    }
+
+    /// The bytes of the durable blocks, the oldest first. Copies nothing.
+    pub fn blocks(&self) -> &[Vec<u8>]
+        ensures { lists_of result.now ≡ self.now.blocks }
+    {
+        &self.kept[..self.durable]
+    }
+
+    /// The disk as it stands, also of a broken log. Touches nothing.
+    pub fn into_disk(self) -> D
+        ensures { result ≡ self.disk }
+    {
+        let Log {
+            alloc: _,
+            disk,
+            kept: _,
+            durable: _,
+            gate: _,
+            broken: _,
+        } = self;
+        disk
+    }
+}

@@ -1,0 +1,156 @@
+//! One block after the other is put on the disk, each behind a closed gate that is opened only when it is sure.
+
+ghost use Rattle.std.specs.Prelude.{◌≡◌, ℕ, ◌+◌, ◌<◌, ◌≤◌, List, [], ◌∷◌, ◌++◌, length, take, map, IfOk, OnOk, OnErr};
+ghost use Rattle.std.specs.Int.{w32, to_be_bytes};
+ghost use Rattle.std.specs.Prelude.{IsOk};
+ghost use Rattle.std.specs.List.{AllByRecursion};
+ghost use Rattle.sha2.specs.Sha256.{sha256};
+ghost use Rattle.model.specs.Disk.{settled, Leaves, HoldsSince, LeavesSince, IsCounted};
+ghost use Rattle.model.specs.Log.{IsLogBlock, body_of, at_rest, IsLogOf};
+ghost use Rattle.immlog.specs.Steps.{IsFixed, KeepsFixed, IsGateMoment, gate_written};
+ghost use Rattle.immlog.specs.Views.{lists_of};
+
+use crate::disk::{Disk, DiskFailed};
+use sha2::{Digest, Sha256};
+
+/// The gate of a record.
+const OPEN: u8 = 1;
+
+/// Leaves a closed gate on the disk, and nothing else.
+pub fn wipe<D: Disk>(disk: &mut D) -> Result<(), DiskFailed>
+    ensures text { OnOk result (D.reads disk.new ≡ at_rest []) }
+    ensures settled { OnOk result (D.moment disk.new ≡ settled (D.reads disk.new)) }
+    ensures failures { IsCounted (D.failures disk.old) (D.failures disk.new) result }
+{
+    disk.cut(0)?;
+    disk.write_at(0, &[0])?;
+    disk.sync()?;
+    Ok(())
+}
+
+/// Writes these bytes at the end of the disk, and answers where they end.
+fn write_end<D: Disk>(disk: &mut D, place: usize, bytes: &[u8]) -> Result<usize, DiskFailed>
+    requires { place ≡ length (D.reads disk.old) }
+    ensures text { OnOk result (D.reads disk.new ≡ D.reads disk.old ++ bytes.now) }
+    ensures place { IfOk result (λ next. next ≡ length (D.reads disk.new)) }
+    ensures further { IfOk result (λ next. place ≤ next) }
+    ensures fixed { KeepsFixed place (D.moment disk.old) (D.past disk.old) (D.moment disk.new) (D.past disk.new) }
+    ensures failures { IsCounted (D.failures disk.old) (D.failures disk.new) result }
+{
+    disk.write_at(place, bytes)?;
+    Ok(place + bytes.len())
+}
+
+/// Writes the length of the block and its digest.
+fn write_head<D: Disk>(disk: &mut D, place: usize, block: &[u8]) -> Result<usize, DiskFailed>
+    requires place { place ≡ length (D.reads disk.old) }
+    requires size { IsLogBlock block.now }
+    ensures text { OnOk result (D.reads disk.new ≡
+        D.reads disk.old ++ (to_be_bytes w32 (length block.now) ++ sha256 block.now)) }
+    ensures place { IfOk result (λ next. next ≡ length (D.reads disk.new)) }
+    ensures further { IfOk result (λ next. place ≤ next) }
+    ensures fixed { KeepsFixed place (D.moment disk.old) (D.past disk.old) (D.moment disk.new) (D.past disk.new) }
+    ensures failures { IsCounted (D.failures disk.old) (D.failures disk.new) result }
+{
+    let len = (block.len() as u32).to_be_bytes();
+    let digest = Sha256::digest(block);
+    let next = write_end(disk, place, &len)?;
+    write_end(disk, next, &digest)
+}
+
+/// Writes the block and a closed gate behind it, and answers the place of that gate.
+fn write_tail<D: Disk>(disk: &mut D, place: usize, block: &[u8]) -> Result<usize, DiskFailed>
+    requires { place ≡ length (D.reads disk.old) }
+    ensures text { OnOk result (D.reads disk.new ≡ D.reads disk.old ++ (block.now ++ 0 ∷ [])) }
+    ensures place { IfOk result (λ next. next + 1 ≡ length (D.reads disk.new)) }
+    ensures fixed { KeepsFixed place (D.moment disk.old) (D.past disk.old) (D.moment disk.new) (D.past disk.new) }
+    ensures failures { IsCounted (D.failures disk.old) (D.failures disk.new) result }
+{
+    let gate = write_end(disk, place, block)?;
+    write_end(disk, gate, &[0])?;
+    Ok(gate)
+}
+
+/// Writes the record of the block behind the closed gate at this place, and a closed gate behind it, all of it sure;
+/// and answers the place of that gate. The closed gate at this place stays.
+fn stage<D: Disk>(disk: &mut D, gate: usize, block: &[u8]) -> Result<usize, DiskFailed>
+    requires place { gate + 1 ≡ length (D.reads disk.old) }
+    requires settled { D.moment disk.old ≡ settled (D.reads disk.old) }
+    requires size { IsLogBlock block.now }
+    ensures text { OnOk result (D.reads disk.new ≡ D.reads disk.old ++ (body_of block.now ++ 0 ∷ [])) }
+    ensures place { IfOk result (λ next. next + 1 ≡ length (D.reads disk.new)) }
+    ensures settled { OnOk result (D.moment disk.new ≡ settled (D.reads disk.new)) }
+    ensures fixed { HoldsSince (D.past disk.old) (D.past disk.new) (D.moment disk.new) (IsFixed (D.reads disk.old)) }
+    ensures failures { IsCounted (D.failures disk.old) (D.failures disk.new) result }
+{
+    let place = write_head(disk, gate + 1, block)?;
+    let next = write_tail(disk, place, block)?;
+    disk.sync()?;
+    Ok(next)
+}
+
+/// Writes a gate over the one at this place, and makes it sure.
+pub fn write_gate<D: Disk>(disk: &mut D, place: usize, gate: u8) -> Result<(), DiskFailed>
+    requires place { place ≤ length (D.reads disk.old) }
+    requires settled { D.moment disk.old ≡ settled (D.reads disk.old) }
+    ensures text { OnOk result (D.reads disk.new ≡ gate_written place gate (D.reads disk.old)) }
+    ensures settled { OnOk result (D.moment disk.new ≡ settled (D.reads disk.new)) }
+    ensures moments { HoldsSince (D.past disk.old) (D.past disk.new) (D.moment disk.new)
+        (IsGateMoment place gate (D.reads disk.old)) }
+    ensures failures { IsCounted (D.failures disk.old) (D.failures disk.new) result }
+{
+    disk.write_at(place, &[gate])?;
+    disk.sync()?;
+    Ok(())
+}
+
+/// Puts one block behind the closed gate at this place, and answers the place of the gate behind it.
+fn put<D: Disk>(disk: &mut D, gate: usize, block: &[u8]) -> Result<usize, DiskFailed>
+    requires place { gate + 1 ≡ length (D.reads disk.old) }
+    requires settled { D.moment disk.old ≡ settled (D.reads disk.old) }
+    requires size { IsLogBlock block.now }
+    ensures text { OnOk result ((done : List (List ℕ)) → D.reads disk.old ≡ at_rest done →
+        D.reads disk.new ≡ at_rest (done ++ block.now ∷ [])) }
+    ensures place { IfOk result (λ next. next + 1 ≡ length (D.reads disk.new)) }
+    ensures settled { OnOk result (D.moment disk.new ≡ settled (D.reads disk.new)) }
+    ensures crash { (done later : List (List ℕ)) → AllByRecursion IsLogBlock (done ++ block.now ∷ later) →
+        D.reads disk.old ≡ at_rest done → LeavesSince (D.past disk.old) (D.past disk.new) (D.moment disk.new)
+        (IsLogOf (length done) (done ++ block.now ∷ later)) }
+    ensures failures { IsCounted (D.failures disk.old) (D.failures disk.new) result }
+{
+    let next = stage(disk, gate, block)?;
+    write_gate(disk, gate, OPEN)?;
+    Ok(next)
+}
+
+/// Puts the blocks past the first so many, which are on the disk, one after the other behind the closed gate at this
+/// place, and counts each once it is sure.
+pub fn put_all<D: Disk>(
+    disk: &mut D,
+    gate: &mut usize,
+    blocks: &[Vec<u8>],
+    durable: &mut usize,
+) -> Result<(), DiskFailed>
+    requires count { durable.old ≤ length blocks.now }
+    requires sizes { AllByRecursion IsLogBlock (lists_of blocks.now) }
+    requires rest { D.reads disk.old ≡ at_rest (take durable.old (lists_of blocks.now)) }
+    requires settled { D.moment disk.old ≡ settled (D.reads disk.old) }
+    requires place { gate.old + 1 ≡ length (D.reads disk.old) }
+    ensures counted { durable.old ≤ durable.new }
+    ensures within { durable.new ≤ length blocks.now }
+    ensures all { OnOk result (durable.new ≡ length blocks.now) }
+    ensures none { durable.old ≡ length blocks.now → IsOk result }
+    ensures rest { OnOk result (D.reads disk.new ≡ at_rest (lists_of blocks.now)) }
+    ensures settled { OnOk result (D.moment disk.new ≡ settled (D.reads disk.new)) }
+    ensures place { OnOk result (gate.new + 1 ≡ length (D.reads disk.new)) }
+    ensures crash { LeavesSince (D.past disk.old) (D.past disk.new) (D.moment disk.new)
+        (IsLogOf durable.old (lists_of blocks.now)) }
+    ensures sure { Leaves (IsLogOf durable.new (lists_of blocks.now)) (D.moment disk.new) }
+    ensures failures { IsCounted (D.failures disk.old) (D.failures disk.new) result }
+{
+    for block in &blocks[*durable..] {
+        *gate = put(disk, *gate, block)?;
+        *durable += 1;
+    }
+    Ok(())
+}
