@@ -1,17 +1,18 @@
 -- Transactions that are handed in make a block that has a text, or one of them nests too deep for any.
 use Rattle.std.proofs.Common.{◌≡◌, ℕ, zero, suc, ◌+◌, ◌≤◌, ◌<◌, ◌^◌, List, [], ◌∷◌, length, map, get_or, take, Option, Some, None, option_map, Result, Ok, Err, slice_get, ◌++◌, refl, sym, ap, subst, ◌∙◌, arith}
 use Rattle.std.proofs.lemmas.Option.{slice_get_read}
-use Rattle.std.proofs.lemmas.List.{append-nil, take_all}
+use Rattle.std.proofs.lemmas.List.{append-nil, take_all, length-append}
 use Rattle.std.specs.Prelude.{IfErr}
 use Rattle.std.specs.Result.{IsErrAnd}
 use Rattle.sha2.specs.Sha256.{sha256}
 use Rattle.sha2.proofs.Facts256.{length-sha256}
 use Rattle.ident.specs.Kinds.{BlockHash}
 use Rattle.std.specs.List.{AllByRecursion}
-use Rattle.model.specs.Cbor.{head, text_of, items_of, items_count, nesting, items_nesting, HasText, IsInRange, ItemsAreInRange, ItemsHaveRisingKeys}
+use Rattle.model.specs.Cbor.{head, text_of, items_of, items_text, items_count, nesting, items_nesting, HasText, IsInRange, ItemsAreInRange, ItemsHaveRisingKeys}
 use Rattle.model.specs.Transaction.{Transaction, item_of_transaction, IsTransaction}
 use Rattle.model.specs.Block.{Header, Block, item_of_header, item_of_transactions, item_of_block, IsHeader, SpellsBlock, body_hash_of, block_hash_of}
-use Rattle.cbor.proofs.ForCallers.{items_counted}
+use Rattle.model.proofs.TextLengths.{length_of_text}
+use Rattle.cbor.proofs.ForCallers.{head-length, items_counted}
 use Rattle.tx.proofs.ForCallers.{NestsWithin}
 use Rattle.block.specs.declared.header.Header as code
 use Rattle.block.specs.View.{bytes_of, header_of}
@@ -60,6 +61,22 @@ full_is_written h ts body bytes n m few all spelled hash is =
     let hashed : h.body_hash.bytes ≡ sha256 (text_of (item_of_transactions ts)) = hash ∙ ap sha256 spelled in
     subst (λ (b : List ℕ). SpellsBlock (record { header = record { number = h.number; slot = h.slot; previous = option_map bytes_of h.previous; body_hash = b }; transactions = ts }) bytes) hashed
     (full_spells (header_of h) ts bytes (is_header h n m) (header_in_range h n m) few all text)
+
+-- a transaction has a byte
+transaction_some : (t : Transaction) → 0 < length (text_of (item_of_transaction t))
+transaction_some t = omega (arith, length_of_text (item_of_transaction t), (head-length 4 3).0)
+
+-- a body has no more transactions than bytes
+as_many_bytes : (ts : List Transaction) → length ts ≤ length (items_text (items_of (map item_of_transaction ts)))
+as_many_bytes [] = omega arith
+as_many_bytes (t ∷ ts) =
+    let rest = as_many_bytes ts in
+    omega (arith, rest, length-append (text_of (item_of_transaction t)) (items_text (items_of (map item_of_transaction ts))), transaction_some t)
+
+-- so they can be counted
+pub few_in_body : (ts : List Transaction) (body : List ℕ) → length body < 2 ^ 64 → body ≡ text_of (item_of_transactions ts) → length ts < 2 ^ 64
+few_in_body ts body few is =
+    omega (arith, ap length is, as_many_bytes ts, length-append (head 4 (items_count (items_of (map item_of_transaction ts)))) (items_text (items_of (map item_of_transaction ts))))
 
 -- the hash of the text of a header that names the hash of the body
 pub full_is_hashed : (h : code.Header) (ts : List Transaction) (body hash : List ℕ) → body ≡ text_of (item_of_transactions ts) → h.body_hash.bytes ≡ sha256 body → hash ≡ sha256 (text_of (item_of_header (header_of h)))

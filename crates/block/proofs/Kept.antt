@@ -1,5 +1,5 @@
 -- What reading and the block that was read promise, from what was read.
-use Rattle.std.proofs.Common.{◌≡◌, ℕ, suc, ◌≤◌, Bool, true, false, cond, nat_eq, List, [], ◌∷◌, ◌++◌, length, map, Some, None, refl, sym, ap, subst, ◌∙◌, arith}
+use Rattle.std.proofs.Common.{◌≡◌, ℕ, suc, ◌≤◌, nat_eq, List, [], ◌∷◌, ◌++◌, length, map, Some, None, refl, sym, ap, subst, ◌∙◌, arith}
 use Rattle.std.specs.Prelude.{◌≢◌, ◌↔◌, IsTrue}
 use Rattle.std.proofs.lemmas.Bool.{eqb-true, eq-eqb}
 use Rattle.std.proofs.lemmas.List.{length-append}
@@ -9,7 +9,7 @@ use Rattle.model.specs.Transaction.{Transaction, item_of_transaction}
 use Rattle.model.specs.Limits.{block_size_limit}
 use Rattle.model.specs.Block.{Block, item_of_header, item_of_transactions, block_text, block_hash_of, body_hash_of, body_size_of}
 use Rattle.model.proofs.BlockTexts.{one_block, block_text_is}
-use Rattle.cbor.proofs.ForCallers.{IsBytes}
+use Rattle.cbor.proofs.ForCallers.{IsBytes, head-length}
 use Rattle.block.specs.View.{header_of}
 use Rattle.block.specs.Reading.{block_at}
 use Rattle.block.specs.Read.{IsRead, IsMalformed, IsMismatched, IsUnread, IsReadable}
@@ -61,19 +61,6 @@ read_text b bytes read = subst (IsRead b) (sym (block_text_is b bytes read.read)
 
 -- ---- the size of an empty body
 
--- each form of a head has a byte
-some_byte : (p q r s : Bool) (a b c d e : ℕ) (u v w x : List ℕ) → 1 ≤ length (cond p (a ∷ []) (cond q (b ∷ u) (cond r (c ∷ v) (cond s (d ∷ w) (e ∷ x)))))
-some_byte true q r s a b c d e u v w x = omega arith
-some_byte false true r s a b c d e u v w x = omega arith
-some_byte false false true s a b c d e u v w x = omega arith
-some_byte false false false true a b c d e u v w x = omega arith
-some_byte false false false false a b c d e u v w x = omega arith
-
--- a head has a byte
-head_some : (major n : ℕ) → 1 ≤ length (head major n)
-unfolding head
-head_some major n = search some_byte
-
 -- two texts, of which each has a byte, have two
 two_bytes : (a b c d : List ℕ) → 1 ≤ length a → 1 ≤ length b → length (a ++ ((b ++ c) ++ d)) ≡ 1 → ⊥
 two_bytes a b c d p q e = omega (arith, length-append a ((b ++ c) ++ d), length-append (b ++ c) d, length-append b c)
@@ -81,7 +68,7 @@ two_bytes a b c d p q e = omega (arith, length-append a ((b ++ c) ++ d), length-
 -- only the body that holds no transaction has one byte
 one_byte : (ts : List Transaction) → length (text_of (item_of_transactions ts)) ≡ 1 → ts ≡ []
 one_byte [] e = refl
-one_byte (t ∷ ts) e = absurd (two_bytes _ _ _ _ (head_some 4 (suc (items_count (items_of (map item_of_transaction ts))))) (head_some 4 3) e)
+one_byte (t ∷ ts) e = absurd (two_bytes _ _ _ _ (head-length 4 (suc (items_count (items_of (map item_of_transaction ts))))).0 (head-length 4 3).0 e)
 
 -- whether a body has one byte says whether it holds no transaction
 pub empty_by_size : (size : ℕ) (b : Block) → size ≡ body_size_of b → IsTrue (nat_eq size 1) ↔ (b.transactions ≡ [])

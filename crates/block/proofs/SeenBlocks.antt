@@ -10,7 +10,7 @@ use Rattle.block.specs.Reading.{block_with}
 use Rattle.block.specs.View.{header_of}
 use Rattle.block.specs.Read.{IsRead, IsReadable}
 use Rattle.block.specs.PartsOf.{block_of_parts, ArePartsOf}
-use Rattle.block.proofs.Kept.{is_readable, read_text}
+use Rattle.block.proofs.Kept.{is_readable}
 
 -- what was computed of the bytes, where something was
 pub parts_found : (found : Result BlockParts BadBytes) (p : BlockParts) (bytes : List ℕ) → found ≡ Ok p → IfOk found (λ q. ArePartsOf q bytes) → ArePartsOf p bytes

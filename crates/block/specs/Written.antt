@@ -1,9 +1,10 @@
 -- Why a header or a block of transactions has no text.
 use Rattle.std.specs.Prelude.{◌≡◌, ℕ, ◌<◌, ◌≤◌, List, take, Option, Some, slice_get}
 use Rattle.std.specs.List.{AllByRecursion}
+use Rattle.sha2.specs.Sha256.{sha256}
 use Rattle.model.specs.Cbor.{nesting, text_of}
 use Rattle.model.specs.Transaction.{Transaction, item_of_transaction, SpellsTransaction}
-use Rattle.model.specs.Block.{Header, Block, IsHeader, SpellsBlock, body_hash_of}
+use Rattle.model.specs.Block.{Header, Block, IsHeader, SpellsBlock, body_hash_of, item_of_transactions}
 use Rattle.block.specs.declared.fault.WriteFault.{WriteFault}
 use Rattle.block.specs.declared.fault.WriteFault.TheVariants.{OutOfRange, OutOfMemory}
 use Rattle.block.specs.declared.fault.NoText.{NoText}
@@ -26,6 +27,16 @@ full_block number slot previous transactions =
 pub record FitsBlock (t : Transaction) : Type 0 where
   pub spelled : SpellsTransaction t (text_of (item_of_transaction t))
   pub nests : nesting (item_of_transaction t) ≤ 62
+
+-- the bytes are the text of a body of these transactions, which all fit
+pub record IsBodyText (txs : List Transaction) (text : List ℕ) : Type 0 where
+  pub spelled : text ≡ text_of (item_of_transactions txs)
+  pub fit : AllByRecursion FitsBlock txs
+
+-- the header at this place that names the digest of these bytes
+abbrev pub header_over : ℕ → ℕ → Option (List ℕ) → List ℕ → Header
+header_over number slot previous body =
+    record { number = number; slot = slot; previous = previous; body_hash = sha256 body }
 
 -- the first transaction that does not fit stands there, and nests too deep
 pub record IsFirstTooDeep (index : ℕ) (transactions : List Transaction) : Type 0 where

@@ -1,13 +1,16 @@
 //! The text of a block of transactions that are handed in (RFC 8949, section 4.2.1).
 
-ghost use Rattle.std.specs.Prelude.{◌≡◌, ◌<◌, ◌^◌, ◌++◌, length, None, option_map, IfOk, IfErr, IfSome};
+ghost use Rattle.std.specs.Prelude.{◌≡◌, ◌<◌, ◌^◌, ◌++◌, List, length, None, option_map, IfOk, IfErr, IfSome};
 ghost use Rattle.std.specs.List.{AllByRecursion};
+ghost use Rattle.sha2.specs.Sha256.{sha256};
 ghost use Rattle.model.specs.Cbor.{head, text_of};
+ghost use Rattle.model.specs.Transaction.{Transaction};
 ghost use Rattle.model.specs.Block.{SpellsBlock, block_hash_of, item_of_header, item_of_transactions};
 ghost use Rattle.block.specs.View.{bytes_of, header_of};
-ghost use Rattle.block.specs.Written.{full_block, FitsBlock, IsFirstTooDeep, IsNoText, IsUnspelled};
+ghost use Rattle.block.specs.Written.{full_block, header_over, FitsBlock, IsBodyText, IsFirstTooDeep, IsNoText};
+ghost use Rattle.block.specs.Written.{IsUnspelled, IsWriteFault};
 
-use crate::fault::NoText;
+use crate::fault::{NoText, WriteFault};
 use crate::header::{Header, NUMBER_LIMIT};
 use crate::reading::NESTING;
 use crate::writing::write_header;
@@ -63,6 +66,17 @@ fn text_with(alloc: Global, header: &[u8], body: &[u8]) -> Result<Vec<u8>, Alloc
     Ok(out)
 }
 
+/// The text of the block of this header whose body has this text, and the hash of the header's text.
+fn join(alloc: Global, header: &Header, body: &[u8]) -> Result<(Vec<u8>, BlockHash), AllocError>
+    ensures text { IfOk result (λ x.
+        x.0.items ≡ head 4 2 ++ (text_of (item_of_header (header_of header.now)) ++ body.now)) }
+    ensures hash { IfOk result (λ x. x.1.bytes ≡ sha256 (text_of (item_of_header (header_of header.now)))) }
+{
+    let header = header_text(alloc, header)?;
+    let text = text_with(alloc, &header, body)?;
+    Ok((text, BlockHash::of_header(&header)))
+}
+
 /// What [`write`] writes, with the hash of the block: the SHA-256 digest (FIPS 180-4) of its header's text, which is
 /// hashed once. Faults and cost are those of [`write`].
 pub fn write_with_hash(
@@ -92,9 +106,35 @@ pub fn write_with_hash(
         previous,
         body_hash: BodyHash::of_body(&body),
     };
-    let header = header_text(alloc, &header)?;
-    let text = text_with(alloc, &header, &body)?;
-    Ok((text, BlockHash::of_header(&header)))
+    Ok(join(alloc, &header, &body)?)
+}
+
+/// The text of the block whose body has this text, with its hash: what [`write_with_hash`] writes of the transactions
+/// that the body holds. OutOfRange where the number or the slot is 2^63 or more, else OutOfMemory where memory runs
+/// out. Linear in the body, which is hashed once and copied once. Whether the bytes are a body's is not looked at.
+pub fn write_with_body(
+    alloc: Global,
+    number: u64,
+    slot: u64,
+    previous: Option<BlockHash>,
+    body: &[u8],
+) -> Result<(Vec<u8>, BlockHash), WriteFault>
+    ensures ok { IfOk result (λ x. (txs : List Transaction) → IsBodyText txs body.now →
+        SpellsBlock (full_block number slot (option_map bytes_of previous) txs) x.0.items) }
+    ensures hash { IfOk result (λ x. (txs : List Transaction) → IsBodyText txs body.now →
+        x.1.bytes ≡ block_hash_of (full_block number slot (option_map bytes_of previous) txs)) }
+    ensures fault { IfErr result (IsWriteFault (header_over number slot (option_map bytes_of previous) body.now)) }
+{
+    if number >= NUMBER_LIMIT || slot >= NUMBER_LIMIT {
+        return Err(WriteFault::OutOfRange);
+    }
+    let header = Header {
+        number,
+        slot,
+        previous,
+        body_hash: BodyHash::of_body(body),
+    };
+    Ok(join(alloc, &header, body)?)
 }
 
 /// The text of the block of these transactions, in this order, with this number and slot, after the block with this

@@ -1,9 +1,9 @@
 -- Members of lists that were mapped or filtered, and distinct hashes in what is left of a list.
-use Rattle.std.proofs.Common.{◌≡◌, ◌≢◌, ◌≤◌, Bool, true, false, cond, List, [], ◌∷◌, ◌++◌, length, map, Contains, refl, sym, ap, subst, ◌∙◌, arith, inl, inr}
+use Rattle.std.proofs.Common.{◌≡◌, ◌≢◌, ◌≤◌, Bool, true, false, cond, List, [], ◌∷◌, ◌++◌, length, map, refl, sym, ap, arith}
 use Rattle.std.specs.List.{AllByRecursion, filter}
 use Rattle.model.specs.Block.{Block, block_hash_of}
 use Rattle.model.specs.Chain.{HaveDistinctHashes}
-use Rattle.model.proofs.Lists.{all_push, contains_first, contains_later, contains_cases, nothing_contained}
+use Rattle.model.proofs.Lists.{all_push}
 
 -- a test of what each element is mapped to
 pub map_filter : {X Y : Type 0} (f : X → Y) (q : Y → Bool) (xs : List X) → map f (filter (λ x. q (f x)) xs) ≡ filter q (map f xs)

@@ -1,6 +1,7 @@
 //! The store of live blocks.
 
 ghost use Rattle.std.specs.Prelude.{◌≡◌, ◌↔◌, [], length, map, option_map, IsTrue, MatchOption, OnOk, IfOk, IfErr};
+ghost use Rattle.std.specs.List.{AllByRecursion};
 ghost use Rattle.model.specs.Block.{Block, block_text};
 ghost use Rattle.block.specs.Read.{IsRead};
 ghost use Rattle.block.specs.View.{bytes_of};
@@ -60,6 +61,8 @@ impl<S: SigScheme> BlockStore<S> {
         ensures count { result ≡ length self.now.blocks }
         // No two have one hash, and there are at most as many as may be.
         ensures set { IsSet self.now }
+        // Each was read from its text.
+        ensures read { AllByRecursion (λ stored. IsRead stored.block (block_text stored.block)) self.now.blocks }
     {
         self.blocks.len()
     }

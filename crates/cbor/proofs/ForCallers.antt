@@ -3,7 +3,7 @@
 -- Steps of readings: what a `do` block gave, and what was taken from the front.
 pub use Rattle.cbor.proofs.Steps.{IsBytes, AllByRecursion-bytes, bind_some, guard-true, guard_none, guard_some, some_is, Takes, Takes-then, Takes-length}
 -- The two laws of each part: what is read is spelled so, and what is spelled so is read, whatever follows it.
-pub use Rattle.cbor.proofs.Reading.{head_takes, head_again, bytes_takes, bytes_again, fixed_takes, fixed_again, null_takes, null_again}
+pub use Rattle.cbor.proofs.Reading.{head-length, head_takes, head_again, bytes_takes, bytes_again, fixed_takes, fixed_again, null_takes, null_again}
 -- The same two laws of each shape, in one record. A reading that is made of shapes has them by naming the shapes' laws.
 pub use Rattle.cbor.proofs.ShapeLaws.{Fits, AllFit, TakesItem, TakesItems, ReadsItem, ReadsItems, unsigned_reads, negative_reads, string_reads, fixed_reads, such_reads, as_reads, made_reads, deeper_reads, same_reads, bounded_reads, short_reads, nonempty_reads}
 pub use Rattle.cbor.proofs.ShapeLaws.{other_head, major_of, other_major, either_reads, optional_reads, no_items, next_item, array_item, nothing_reads, last_reads, both_reads, as_members_read, members_takes, members_again, array_reads}

@@ -28,5 +28,6 @@ pub use shapes::{
 pub use tree_reader::{decode, read};
 pub use tree_writer::encode;
 pub use writer::{
-    write_array, write_byte_string, write_map, write_negative, write_null, write_unsigned,
+    head_size, write_array, write_byte_string, write_map, write_negative, write_null,
+    write_unsigned,
 };

@@ -2,7 +2,7 @@
 //! out the bytes stay as they were, and no writer fails where the vector has room. The cost is that of
 //! appending: constant for a head, and the length of a byte string.
 
-ghost use Rattle.std.specs.Prelude.{◌≡◌, ◌<◌, ◌≤◌, ◌+◌, ◌++◌, length, OnOk, OnErr, vec_len, vec_capacity};
+ghost use Rattle.std.specs.Prelude.{◌≡◌, ◌<◌, ◌≤◌, ◌+◌, ◌++◌, ℕ, length, OnOk, OnErr, vec_len, vec_capacity};
 ghost use Rattle.model.specs.Cbor as cbor;
 ghost use Rattle.cbor.specs.Major.{major_number};
 
@@ -31,6 +31,25 @@ fn write_head(out: &mut Vec<u8>, major: Major, n: u64) -> Result<(), AllocError>
     } else {
         let [b7, b6, b5, b4, b3, b2, b1, b0] = n.to_be_bytes();
         out.extend_from_slice(&[first + 27, b7, b6, b5, b4, b3, b2, b1, b0])
+    }
+}
+
+/// How many bytes the head of an item has whose argument is `n` (RFC 8949, sections 3 and 4.2.1): 1, 2, 3, 5 or 9,
+/// whatever its major type. Takes no memory.
+#[tactic(auto, unfolding(model::specs::Cbor::head))]
+pub fn head_size(n: u64) -> u64
+    ensures { (major : ℕ) → length (cbor.head major n) ≡ result }
+{
+    if n < 24 {
+        1
+    } else if n < 1 << 8 {
+        2
+    } else if n < 1 << 16 {
+        3
+    } else if n < 1 << 32 {
+        5
+    } else {
+        9
     }
 }
 

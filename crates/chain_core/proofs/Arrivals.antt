@@ -52,7 +52,7 @@ is_ready network a b bytes whole read judged =
 
 -- ---- steps of each state that the core stands for
 
-state_of : {S : Type 0} (genesis : Genesis) (a : ChainDb S) (followers : Followers) (s : State) → Stands (held_of genesis (blocks_of a.store) a.chain.items a.mempool.waiting.txs followers) s → HasState genesis a s
+pub state_of : {S : Type 0} (genesis : Genesis) (a : ChainDb S) (followers : Followers) (s : State) → Stands (held_of genesis (blocks_of a.store) a.chain.items a.mempool.waiting.txs followers) s → HasState genesis a s
 state_of genesis a followers s stands = record {
   chain = stands.chain;
   live = record { members = stands.members; count = sym (length-map a.store.blocks (λ (x : Stored). x.block)) ∙ stands.count };

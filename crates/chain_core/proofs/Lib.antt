@@ -5,6 +5,7 @@ pub mod Tips
 pub mod Refusals
 pub mod Arrivals
 pub mod Runs
+pub mod ForgedTexts
 pub mod ToldChains
 pub mod FollowerCalls
 pub mod Crossing

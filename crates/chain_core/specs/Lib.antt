@@ -4,5 +4,6 @@ pub mod ChainDbs
 pub mod Views
 pub mod Texts
 pub mod Judgements
+pub mod ForgedBlocks
 pub mod Inside
 pub mod FollowerCalls

@@ -6,10 +6,12 @@ mod arrival;
 mod chain_db;
 mod event;
 mod follower;
+mod forging;
 mod node_core;
 mod refusal;
 
 pub use arrival::{ArriveReply, Refusal};
 pub use event::{RawEvent, Reply};
 pub use follower::{FollowerId, Instruction, NextFault, OpenFault};
+pub use forging::{ForgeFault, Forged};
 pub use node_core::Core;

@@ -6,6 +6,7 @@ use crate::event::{RawEvent, Reply};
 use crate::follower::{
     FollowerId, Instruction, NextFault, OpenFault, open_follower, tell_follower,
 };
+use crate::forging::{ForgeFault, Forged, forge};
 use crate::refusal::first_refusal;
 use block::{BadBytes, CheckedBlock, NoBlock, Seen};
 use genesis::Genesis;
@@ -64,7 +65,9 @@ impl<S: SigScheme> Core<S> {
     ghost use Rattle.ident.specs.PointView.{point_of};
     ghost use Rattle.chain_core.specs.Views.{event_of, reply_of, arrive_reply_of, submit_reply_of, open_reply_of};
     ghost use Rattle.chain_core.specs.Views.{next_reply_of, instruction_of, history_of, IsReplyTo, AreRepliesTo};
+    ghost use Rattle.model.specs.Forging.{ArrivesNext};
     ghost use Rattle.chain_core.specs.FollowerCalls.{HasDue, IsNextFor};
+    ghost use Rattle.chain_core.specs.ForgedBlocks.{IsForgedAs, IsForgeFault};
     ghost use Rattle.chain_core.specs.Held.{opening_held, Stands};
 
     /// A core before anything arrived: the selected chain is empty, and the unspent outputs are those of the genesis.
@@ -193,6 +196,34 @@ impl<S: SigScheme> Core<S> {
         ensures { result.now.waiting.txs ≡ self.now.mempool }
     {
         &self.chain_db.mempool
+    }
+
+    /// Forges the block that comes next on the selected chain in this slot: its number is the next one, and it has, in
+    /// their order, the mempool's transactions against which there is no reason at this slot on what those taken before
+    /// leave, and for which its body has room; the others are skipped. Nothing changes. Where its bytes arrive next
+    /// they are kept and the block is put on, if there are memory and room for it and no other block has its hash.
+    ///
+    /// Judges each transaction of the mempool once; verifies, hashes and copies none. Writes each text once, and copies
+    /// the body once. A fault other than `OutOfMemory` takes no memory.
+    ///
+    /// ```text
+    /// let forged = core.forge(slot)?;
+    /// core.arrive(&forged.bytes)?; // ArriveReply::Kept { back: 0, added: 1 }, where no live block goes on from it
+    /// ```
+    pub fn forge(&self, slot: u64) -> Result<Forged, ForgeFault>
+        // It is the block that the definitions say, with its text and its place.
+        ensures forged { IfOk result (λ f. IsForgedAs (network_of self.now.genesis S.verifies) self.now.chain
+            self.now.mempool slot f.bytes.items f.point) }
+        // Else it is the first fault that applies, or memory ran out and none does.
+        ensures fault { IfErr result (IsForgeFault (network_of self.now.genesis S.verifies) self.now.chain slot) }
+        // Beside every state of the definitions that the core stands for: where the bytes arrive next the block is put
+        // on.
+        ensures arrives { IfOk result (λ f. (s : State) → Stands self.now s → (b : Plain) →
+            SpellsBlock b f.bytes.items → ArrivesNext (network_of self.now.genesis S.verifies) s b f.bytes.items) }
+    {
+        // What says that an empty body fits, and that live blocks have texts, are clauses of these two.
+        let (_supply, _live) = (self.genesis.supply(), self.chain_db.store.len());
+        forge(self.alloc, &self.chain_db, slot)
     }
 
     /// Opens a follower of the least number that is free, 0 to 1,023. It was told nothing, and stands at genesis. Where

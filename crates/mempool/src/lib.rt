@@ -14,6 +14,7 @@
 #![tactic(auto)]
 
 mod mempool;
+mod picking;
 mod reply;
 mod waiting;
 

@@ -1,12 +1,15 @@
 //! The mempool.
 
-ghost use Rattle.std.specs.Prelude.{◌≡◌, ◌↔◌, [], length, map, IsTrue, IfOk, OnErr};
+ghost use Rattle.std.specs.Prelude.{◌≡◌, ◌↔◌, [], length, map, IsTrue, IfOk, OnOk, OnErr};
+ghost use Rattle.std.specs.List.{AllByRecursion};
 ghost use Rattle.std.specs.Arc.{arc_value};
 ghost use Rattle.model.specs.Cbor.{text_of};
 ghost use Rattle.model.specs.Transaction.{SpellsTransaction, item_of_transaction};
-ghost use Rattle.model.specs.Mempool.{IsInPool};
+ghost use Rattle.model.specs.Block.{item_of_transactions};
+ghost use Rattle.model.specs.Mempool.{IsInPool, picked};
 ghost use Rattle.utxo_rules.specs.View.{params_of};
 ghost use Rattle.mempool.specs.Calls.{passed_on, IsSubmission, IsSubmissionOf};
+ghost use Rattle.mempool.specs.Picking.{IsSpelled};
 ghost use Rattle.mempool.specs.View.{reply_of};
 
 use crate::reply::SubmitReply;
@@ -108,6 +111,25 @@ impl<S: SigScheme> Mempool<S> {
         Ok(Resynced {
             waiting: self.waiting.pass(params, unspent, slot)?,
         })
+    }
+
+    /// The text of the body that a block forged at this slot has on these unspent outputs (RFC 8949, section 4.2.1): in
+    /// their order, each transaction against which there is no reason on what those taken before it leave, and for
+    /// which the body has room; the others are skipped. Err where memory runs out. Judges each transaction once, and
+    /// verifies, hashes and copies none; writes each text once.
+    pub fn forged_body(
+        &self,
+        params: &Params,
+        unspent: &Utxo,
+        slot: u64,
+    ) -> Result<Vec<u8>, AllocError>
+        ensures text { IfOk result (λ text. text.items ≡ text_of (item_of_transactions
+            (picked S.verifies (params_of params.now) slot unspent.now [] self.now.waiting.txs))) }
+        // Each transaction of the body has a text.
+        ensures spelled { OnOk result (AllByRecursion IsSpelled
+            (picked S.verifies (params_of params.now) slot unspent.now [] self.now.waiting.txs)) }
+    {
+        self.waiting.pick(params, unspent, slot)?.body_text()
     }
 
     /// Takes what stays in place of what waits. Takes no memory.

@@ -3,12 +3,13 @@
 ghost use Rattle.std.specs.Prelude.{◌≡◌, ◌↔◌, [], length, map, Contains, IsTrue, IfOk, OnOk, OnErr, IfErr, None};
 ghost use Rattle.std.specs.Arc.{arc_value};
 ghost use Rattle.model.specs.Transaction.{transaction_id_of};
-ghost use Rattle.model.specs.Mempool.{IsInPool};
+ghost use Rattle.model.specs.Mempool.{IsInPool, picked};
 ghost use Rattle.model.specs.Rules.{reason_against};
 ghost use Rattle.utxo_rules.specs.View.{params_of};
 ghost use Rattle.utxo_rules.specs.Check.{IsCheckFault};
 ghost use Rattle.mempool.specs.Calls.{with_tx, kept_with, passed_on};
 
+use crate::picking::Picked;
 use ident::TxId;
 use indexmap::IndexMap;
 use indexmap::map::Values;
@@ -137,5 +138,18 @@ impl<S: SigScheme> Waiting<S> {
             kept.keep(params, slot, tx)?;
         }
         Ok(kept)
+    }
+
+    /// What a block forged at this slot takes of the transactions, on other unspent outputs. Err where memory runs out.
+    /// Judges each once; nothing is verified or hashed again, and no transaction is copied.
+    pub fn pick(&self, params: &Params, unspent: &Utxo, slot: u64) -> Result<Picked<S>, AllocError>
+        ensures { IfOk result (λ taken.
+            taken.txs ≡ picked S.verifies (params_of params.now) slot unspent.now [] self.now.txs) }
+    {
+        let mut taken = Picked::new(self.alloc, unspent.try_clone()?);
+        for tx in self.txs.values() {
+            taken.offer(params, slot, tx)?;
+        }
+        Ok(taken)
     }
 }

@@ -23,29 +23,22 @@ returns-in_err-body-clause-fault c =
     let header = full_header c.args.number c.args.slot c.args.previous c.args.transactions.now c.if-number-ge-NUMBER_LIMIT.false c.if-slot-ge-NUMBER_LIMIT.false in
     if_err c.from_residual.result OutOfMemory (IsNoText block) c.from_residual.ensures.1 (record { header = header; transactions = c.in_default.ensures.none refl })
 
-pub returns-in_err-header-clause-fault : goal.returns-in_err-header-clause-fault
-returns-in_err-header-clause-fault c =
+pub returns-in_err-join-clause-fault : goal.returns-in_err-join-clause-fault
+returns-in_err-join-clause-fault c =
     let block = full_block c.args.number c.args.slot (option_map bytes_of c.args.previous) c.args.transactions.now in
     let header = full_header c.args.number c.args.slot c.args.previous c.args.transactions.now c.if-number-ge-NUMBER_LIMIT.false c.if-slot-ge-NUMBER_LIMIT.false in
-    if_err c.from_residual-in_err-header.result OutOfMemory (IsNoText block) c.from_residual-in_err-header.ensures.1 (record { header = header; transactions = c.in_default.ensures.none refl })
-
-pub returns-in_err-text-clause-fault : goal.returns-in_err-text-clause-fault
-returns-in_err-text-clause-fault c =
-    let block = full_block c.args.number c.args.slot (option_map bytes_of c.args.previous) c.args.transactions.now in
-    let header = full_header c.args.number c.args.slot c.args.previous c.args.transactions.now c.if-number-ge-NUMBER_LIMIT.false c.if-slot-ge-NUMBER_LIMIT.false in
-    if_err c.from_residual-in_err-text.result OutOfMemory (IsNoText block) c.from_residual-in_err-text.ensures.1 (record { header = header; transactions = c.in_default.ensures.none refl })
+    if_err c.from_residual-in_err-join.result OutOfMemory (IsNoText block) c.from_residual-in_err-join.ensures.1 (record { header = header; transactions = c.in_default.ensures.none refl })
 
 pub returns-clause-ok : goal.returns-clause-ok
 returns-clause-ok c =
     let body = c.in_ok-body.body.items in
     let header : code.Header = record { number = c.args.number; slot = c.args.slot; previous = c.args.previous; body_hash = c.of_body.result } in
     let hash : c.of_body.result.bytes ≡ sha256 body = search (rules, c.of_body.ensures, c.deref.ensures.value) in
-    let text : c.in_ok-text.text.items ≡ head 4 2 ++ (text_of (item_of_header (header_of header)) ++ body) = search (rules, c.in_ok-text.ensures, c.in_ok-header.ensures, c.deref-2.ensures.value, c.deref-3.ensures.value) in
-    full_is_written header c.args.transactions.now body c.in_ok-text.text.items c.if-number-ge-NUMBER_LIMIT.false c.if-slot-ge-NUMBER_LIMIT.false (c.in_default.ensures.counted refl) (c.in_default.ensures.none refl) c.in_ok-body.ensures hash text
+    let text : c.in_ok-join.field-0.0.items ≡ head 4 2 ++ (text_of (item_of_header (header_of header)) ++ body) = search (rules, c.in_ok-join.ensures.text, c.deref-2.ensures.value) in
+    full_is_written header c.args.transactions.now body c.in_ok-join.field-0.0.items c.if-number-ge-NUMBER_LIMIT.false c.if-slot-ge-NUMBER_LIMIT.false (c.in_default.ensures.counted refl) (c.in_default.ensures.none refl) c.in_ok-body.ensures hash text
 
 pub returns-clause-hash : goal.returns-clause-hash
 returns-clause-hash c =
     let header : code.Header = record { number = c.args.number; slot = c.args.slot; previous = c.args.previous; body_hash = c.of_body.result } in
     let hash : c.of_body.result.bytes ≡ sha256 c.in_ok-body.body.items = search (rules, c.of_body.ensures, c.deref.ensures.value) in
-    let text : c.of_header.result.bytes ≡ sha256 (text_of (item_of_header (header_of header))) = search (rules, c.of_header.ensures, c.in_ok-header.ensures, c.deref-4.ensures.value) in
-    full_is_hashed header c.args.transactions.now c.in_ok-body.body.items c.of_header.result.bytes c.in_ok-body.ensures hash text
+    full_is_hashed header c.args.transactions.now c.in_ok-body.body.items c.in_ok-join.field-0.1.bytes c.in_ok-body.ensures hash c.in_ok-join.ensures.hash

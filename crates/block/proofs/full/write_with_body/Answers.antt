@@ -1,0 +1,14 @@
+use Rattle.std.proofs.Common.{arith}
+use Rattle.block.specs.declared.header.Header as code
+use Rattle.block.proofs.FullBlocks.{full_is_written, full_is_hashed, few_in_body}
+use Rattle.block.proofs.full.write_with_body.Goals as goal
+
+pub returns-clause-ok : goal.returns-clause-ok
+returns-clause-ok c = λ txs is.
+    let header : code.Header = record { number = c.args.number; slot = c.args.slot; previous = c.args.previous; body_hash = c.of_body.result } in
+    full_is_written header txs c.args.body.now c.in_ok-join.field-0.0.items c.if-number-ge-NUMBER_LIMIT.false c.if-slot-ge-NUMBER_LIMIT.false (few_in_body txs c.args.body.now (omega arith) is.spelled) is.fit is.spelled c.of_body.ensures c.in_ok-join.ensures.text
+
+pub returns-clause-hash : goal.returns-clause-hash
+returns-clause-hash c = λ txs is.
+    let header : code.Header = record { number = c.args.number; slot = c.args.slot; previous = c.args.previous; body_hash = c.of_body.result } in
+    full_is_hashed header txs c.args.body.now c.in_ok-join.field-0.1.bytes is.spelled c.of_body.ensures c.in_ok-join.ensures.hash

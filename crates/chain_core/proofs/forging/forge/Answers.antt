@@ -1,0 +1,66 @@
+use Rattle.std.proofs.Common.{◌≡◌, ◌+◌, ◌≤◌, ◌^◌, List, [], length, option_map, ◌⊎◌, inl, inr, ap, subst, ◌∙◌, arith}
+use Rattle.std.specs.List.{AllByRecursion}
+use Rattle.utxo_rules.specs.View.{params_of}
+use Rattle.model.specs.Cbor.{text_of}
+use Rattle.model.specs.Transaction.{Transaction}
+use Rattle.model.specs.Block.{item_of_transactions, block_hash_of, SpellsBlock}
+use Rattle.model.specs.Genesis.{Genesis}
+use Rattle.model.specs.Ledger.{network_of}
+use Rattle.model.specs.Chain.{genesis_tip, tip_after}
+use Rattle.model.specs.Mempool.{picked}
+use Rattle.mempool.specs.Picking.{IsSpelled}
+use Rattle.block.specs.View.{bytes_of}
+use Rattle.block.specs.Written.{full_block}
+use Rattle.chain_core.proofs.ToldChains.{if_err}
+use Rattle.chain_core.specs.ChainDbs.{IsWhole}
+use Rattle.chain_core.specs.ForgedBlocks.{IsForgeFault}
+use Rattle.chain_core.specs.declared.forging.ForgeFault.TheVariants as fault
+use Rattle.chain_core.proofs.ForgedTexts.{not_after, out_of_range, no_fault, body_text, taken, forged_as}
+use Rattle.chain_core.proofs.forging.forge.Goals as goal
+use Rattle.chain_core.proofs.forging.forge.Goals.{then-slot-ge-NUMBER_LIMIT-via-then-slot-ge-NUMBER_LIMIT, then-slot-ge-NUMBER_LIMIT-via-else-slot-ge-NUMBER_LIMIT+then-number-ge-NUMBER_LIMIT}
+
+pub returns-then-slot-clause-fault : goal.returns-then-slot-clause-fault
+returns-then-slot-clause-fault g c = λ genesis whole.
+    let network = network_of genesis g.S.SigScheme.verifies in
+    not_after network c.args.chain_db.now.chain.items c.state-state.result.now (c.state-state.ensures network whole) c.args.chain_db.now.mempool.waiting.txs c.args.slot (omega arith)
+
+pub returns-then-slot-ge-NUMBER_LIMIT-clause-fault : goal.returns-then-slot-ge-NUMBER_LIMIT-clause-fault
+returns-then-slot-ge-NUMBER_LIMIT-clause-fault g c = λ genesis whole.
+    let network = network_of genesis g.S.SigScheme.verifies in
+    let which : (2 ^ 63 ≤ c.args.slot) ⊎ (2 ^ 63 ≤ length c.args.chain_db.now.chain.items + 1) = elim c.then-slot-ge-NUMBER_LIMIT.branch [
+      | then-slot-ge-NUMBER_LIMIT-via-then-slot-ge-NUMBER_LIMIT w ↦ inl (omega arith)
+      | then-slot-ge-NUMBER_LIMIT-via-else-slot-ge-NUMBER_LIMIT+then-number-ge-NUMBER_LIMIT w ↦ inr (omega arith)
+    ] in
+    out_of_range network c.args.chain_db.now.chain.items c.state-state.result.now (c.state-state.ensures network whole) c.args.chain_db.now.mempool.waiting.txs c.args.slot (omega arith) which
+
+pub returns-in_err-body-clause-fault : goal.returns-in_err-body-clause-fault
+returns-in_err-body-clause-fault g c =
+    if_err c.from_residual.result fault.OutOfMemory (λ e. (genesis : Genesis) → IsWhole (network_of genesis g.S.SigScheme.verifies) c.args.chain_db.now → IsForgeFault (network_of genesis g.S.SigScheme.verifies) c.args.chain_db.now.chain.items c.args.slot e) c.from_residual.ensures.1
+    (λ genesis whole.
+    let network = network_of genesis g.S.SigScheme.verifies in
+    no_fault network c.args.chain_db.now.chain.items c.state-state.result.now (c.state-state.ensures network whole) c.args.chain_db.now.mempool.waiting.txs c.args.slot (omega arith) (omega arith) (omega arith))
+
+pub returns-in_default-clause-fault : goal.returns-in_default-clause-fault
+returns-in_default-clause-fault g c = λ genesis whole.
+    let network = network_of genesis g.S.SigScheme.verifies in
+    no_fault network c.args.chain_db.now.chain.items c.state-state.result.now (c.state-state.ensures network whole) c.args.chain_db.now.mempool.waiting.txs c.args.slot (omega arith) (omega arith) (omega arith)
+
+pub returns-clause-forged : goal.returns-clause-forged
+returns-clause-forged g c = λ genesis is_genesis whole.
+    let v = g.S.SigScheme.verifies in
+    let network = network_of genesis v in
+    let a = c.args.chain_db.now in
+    let state = c.state-state.result.now in
+    let is = c.state-state.ensures network whole in
+    let waiting = a.mempool.waiting.txs in
+    let txs = taken network a.chain.items state is waiting c.args.slot in
+    let same : picked v (params_of c.params.result.now) c.args.slot c.utxo.result.now [] waiting ≡ txs = λ i. picked v (c.params.ensures i) c.args.slot (c.utxo.ensures i) [] waiting in
+    let text = c.deref-2.ensures.value ∙ (c.in_ok-body.ensures.text ∙ ap (λ (ts : List Transaction). text_of (item_of_transactions ts)) same) in
+    let spelled = subst (AllByRecursion IsSpelled) same c.in_ok-body.ensures.spelled in
+    let body = body_text network a.chain.items state is waiting c.args.slot is_genesis c.deref-2.result.now text spelled in
+    let previous = c.last_hash-previous.ensures ∙ ap (λ bs. (tip_after genesis_tip bs).hash) c.deref.ensures.value in
+    let count : c.len.result + 1 ≡ length a.chain.items + 1 = omega arith in
+    forged_as network a.chain.items state is waiting c.args.slot c.in-Ok.bytes.items (record { number = c.len.result + 1; hash = c.in-Ok.hash }) (option_map bytes_of c.last_hash-previous.result) (omega arith) (omega arith) (omega arith) previous
+    (subst (λ n. SpellsBlock (full_block n c.args.slot (option_map bytes_of c.last_hash-previous.result) txs) c.in-Ok.bytes.items) count (c.in-Ok.ensures.ok txs body))
+    count
+    (c.in-Ok.ensures.hash txs body ∙ ap (λ n. block_hash_of (full_block n c.args.slot (option_map bytes_of c.last_hash-previous.result) txs)) count)
