@@ -3,7 +3,7 @@ use Rattle.std.proofs.Common.{◌≡◌, ℕ, ◌+◌, List, [], ◌∷◌, ◌+
 use Rattle.model.specs.Ledger.{Network}
 use Rattle.model.specs.History.{State, Event, Reply, Entry, Step, IsRun}
 use Rattle.model.proofs.ToldChains.{theorem_of_legal}
-use Rattle.script.specs.Meaning.{Meaning, Defines, Arrives, OpensFollower, TellsFollower, PrintsTip, PrintsUtxo}
+use Rattle.script.specs.Meaning.{Meaning, Defines, Arrives, SubmitsTx, ForgesBlock, OpensFollower, TellsFollower, PrintsTip, PrintsMempool, PrintsUtxo}
 use Rattle.scenario.specs.Run.{Scene, opening_scene, Acts, Prints, AreObeyed, entry}
 
 -- a run, and another from where it ended
@@ -22,9 +22,12 @@ once network s t event reply entries step is = subst (λ (es : List Entry). IsRu
 pub acts_run : (network : Network) (s : Scene) (meaning : Meaning) (out : List ℕ) (entries : List Entry) (t : Scene) → Acts network s meaning out entries t → IsRun network s.state entries t.state
 acts_run network s (Defines what) out entries t (printed, none, same, named) = still network s.state t.state entries none same
 acts_run network s (Arrives form name bytes) out entries t (reply, arrived, printed, is) = once network s.state t.state _ reply entries arrived.step is
+acts_run network s (SubmitsTx name tx) out entries t (reply, submitted, printed, is) = once network s.state t.state _ reply entries submitted.step is
+acts_run network s (ForgesBlock name slot) out entries t (answer, forged, printed, none) = still network s.state t.state entries none forged.state
 acts_run network s (OpensFollower name) out entries t (reply, opened, printed, is) = once network s.state t.state _ reply entries opened.step is
 acts_run network s (TellsFollower name id) out entries t (reply, told, printed, is) = once network s.state t.state _ reply entries told.step is
 acts_run network s PrintsTip out entries t (printed, none, same) = still network s.state t.state entries none (ap (λ (x : Scene). x.state) same)
+acts_run network s PrintsMempool out entries t (printed, none, same) = still network s.state t.state entries none (ap (λ (x : Scene). x.state) same)
 acts_run network s PrintsUtxo out entries t (ledger, folded, printed, none, same) = still network s.state t.state entries none (ap (λ (x : Scene). x.state) same)
 
 pub prints_run : (network : Network) (number before : ℕ) (s : Scene) (lines : List (List ℕ)) (out : List ℕ) (history : List Entry) (t : Scene) → Prints network number before s lines out history t → IsRun network s.state history t.state

@@ -8,3 +8,4 @@ pub mod Lines
 pub mod Histories
 pub mod Runs
 pub mod ForCallers
+pub mod SubmissionLines

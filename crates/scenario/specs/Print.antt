@@ -1,21 +1,61 @@
 -- The lines that a script prints, and what of them a writer that fails has written.
-use Rattle.std.specs.Prelude.{◌≡◌, ◌≢◌, ℕ, List, [], ◌∷◌, ◌++◌, Option, decimal, codes, ◌==◌, if◌then◌else◌}
+use Rattle.std.specs.Prelude.{◌≡◌, ◌≢◌, ℕ, List, [], ◌∷◌, ◌++◌, length, Option, decimal, codes, ◌==◌, if◌then◌else◌}
 use Rattle.std.specs.Io.KnownBytes.{Appends}
-use Rattle.model.specs.Block.{Block, SpellsBlock, block_hash_of}
+use Rattle.model.specs.Transaction.{Transaction, transaction_id_of}
+use Rattle.model.specs.Block.{Block, SpellsBlock, block_text, block_hash_of}
 use Rattle.std.specs.FinMap as finite
 use Rattle.model.specs.Utxo.{outputs_of, coin_of}
 use Rattle.model.specs.Ledger.{Ledger}
 use Rattle.model.specs.Chain.{Point}
 use Rattle.model.specs.Follower.{Instruction, Stay, AddBlock, RollBack}
-use Rattle.model.specs.History.{Reply, Opened, TooManyFollowers, Instructed, UnknownFollower, OutOfMemory}
+use Rattle.model.specs.Forging.{ForgeFault, SlotNotAfterTip, OutOfRange}
+use Rattle.model.specs.History.{Reply, Submitted, Opened, TooManyFollowers, Instructed, UnknownFollower, OutOfMemory}
+use Rattle.mempool.specs.Texts.{submit_reply_text}
 use Rattle.chain_core.specs.Texts.{arrive_reply_text}
 use Rattle.script.specs.declared.line.Form.{Form}
 use Rattle.script.specs.Line.{word_of}
-use Rattle.script.specs.Names.{Binding, printed_name}
+use Rattle.script.specs.Names.{Named, Binding, printed_name, printed_tx}
 
 -- what an arrival prints: the line's first word, the name and the reply
 abbrev pub arrival_text : Form → List ℕ → Reply → List ℕ
 arrival_text form name reply = word_of form ++ codes " " ++ name ++ codes ": " ++ arrive_reply_text reply ++ 10 ∷ []
+
+-- what a submission is answered
+abbrev pub submission_reply_text : Reply → List ℕ
+submission_reply_text (Submitted reply) = submit_reply_text reply
+submission_reply_text OutOfMemory = codes "out of memory"
+-- no submission is answered otherwise
+submission_reply_text reply = []
+
+-- what the line `submit` prints
+abbrev pub submission_text : List ℕ → Reply → List ℕ
+submission_text name reply = codes "submit " ++ name ++ codes ": " ++ submission_reply_text reply ++ 10 ∷ []
+
+-- what the line `forge` is answered: a block, why there is none, or that memory ran out
+pub data ForgeAnswer : Type 0 where
+  ForgedBlock : Block → ForgeAnswer
+  NoBlock : ForgeFault → ForgeAnswer
+  NoMemory : ForgeAnswer
+
+-- how many bytes the block has, or the number and the name of the fault
+abbrev pub forge_answer_text : ForgeAnswer → List ℕ
+forge_answer_text (ForgedBlock b) = decimal (length (block_text b)) ++ codes " bytes"
+forge_answer_text (NoBlock SlotNotAfterTip) = codes "refused 1 SlotNotAfterTip"
+forge_answer_text (NoBlock OutOfRange) = codes "refused 2 OutOfRange"
+forge_answer_text NoMemory = codes "out of memory"
+
+-- what the line `forge` prints, where it is answered so
+abbrev pub forging_text : (name answer : List ℕ) → List ℕ
+forging_text name answer = codes "forge " ++ name ++ codes ": " ++ answer ++ 10 ∷ []
+
+-- the names of transactions, each after a space
+abbrev pub tx_names_text : List (Named Transaction) → List Transaction → List ℕ
+tx_names_text names [] = []
+tx_names_text names (t ∷ ts) = codes " " ++ (printed_tx (transaction_id_of t) names ++ tx_names_text names ts)
+
+-- what the question `mempool` prints: how many transactions wait, and their names in order
+abbrev pub mempool_text : List (Named Transaction) → List Transaction → List ℕ
+mempool_text names txs = codes "mempool: " ++ decimal (length txs) ++ tx_names_text names txs ++ 10 ∷ []
 
 -- what the opening of a follower is answered
 abbrev pub opening_reply_text : Reply → List ℕ

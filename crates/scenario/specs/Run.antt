@@ -2,13 +2,17 @@
 use Rattle.std.specs.Prelude.{◌≡◌, ◌≢◌, ◌⊎◌, ℕ, ◌+◌, List, [], ◌∷◌, ◌++◌, length, Option, Some, None, Ok, Err}
 use Rattle.std.specs.List.{concat}
 use Rattle.std.specs.Io.KnownBytes.{Appends}
+use Rattle.model.specs.Cbor.{text_of}
+use Rattle.model.specs.Transaction.{Transaction, item_of_transaction}
 use Rattle.model.specs.Block.{Block}
 use Rattle.model.specs.Signature.{test_verifies}
 use Rattle.model.specs.Genesis.{Genesis}
 use Rattle.model.specs.Ledger.{Network, Ledger, network_of, ledger_of}
 use Rattle.model.specs.Chain.{tip_point}
 use Rattle.model.specs.Follower.{told_by, IsDue, IsNextInstruction, Instruction}
-use Rattle.model.specs.History.{State, opening, Event, Arrive, Open, Next, Reply, Opened, Instructed, OutOfMemory, Step}
+use Rattle.model.specs.Forging.{ForgeFault, ForgeApplies, IsNotForged, IsForged}
+use Rattle.model.specs.History.{State, opening, Event, Arrive, Submit, Open, Next, Step}
+use Rattle.model.specs.History.{Reply, Opened, Instructed, OutOfMemory}
 use Rattle.model.specs.History.{Entry, ChainTheorem}
 use Rattle.script.specs.declared.fault.LineFault.{LineFault}
 use Rattle.script.specs.declared.fault.LineFault.TheVariants.{BadLine}
@@ -17,10 +21,13 @@ use Rattle.script.specs.declared.stop.Stop.TheVariants as stop
 use Rattle.scenario.specs.declared.fault.ScenarioFault.{ScenarioFault}
 use Rattle.scenario.specs.declared.fault.ScenarioFault.TheVariants as fault
 use Rattle.script.specs.Text.{lines_of}
-use Rattle.script.specs.Names.{Named, OpenTx, AllNames, no_names}
-use Rattle.script.specs.Meaning.{Meaning, Defines, Arrives, OpensFollower, TellsFollower, PrintsTip, PrintsUtxo}
+use Rattle.script.specs.Names.{Named, Binding, OpenTx, AllNames, no_names}
+use Rattle.script.specs.Meaning.{Meaning, Defines, Arrives, SubmitsTx, ForgesBlock, OpensFollower, TellsFollower}
+use Rattle.script.specs.Meaning.{PrintsTip, PrintsMempool, PrintsUtxo, bound_block}
 use Rattle.script.specs.Meaning.{AreNamesAfter, HasNoFault, Means, formed}
-use Rattle.scenario.specs.Print.{arrival_text, opening_text, tip_text, utxo_text, IsNextText}
+use Rattle.scenario.specs.Print.{arrival_text, submission_text, ForgeAnswer, ForgedBlock, NoBlock, NoMemory}
+use Rattle.scenario.specs.Print.{forge_answer_text, forging_text, mempool_text, opening_text, tip_text, utxo_text}
+use Rattle.scenario.specs.Print.{IsNextText}
 
 -- the node's state with the names that are bound
 pub record Scene : Type 0 where
@@ -39,6 +46,29 @@ script_network genesis = network_of genesis test_verifies
 pub record Arrived (network : Network) (s : Scene) (bytes : List ℕ) (reply : Reply) (t : Scene) : Type 0 where
   pub step : Step network s.state (Arrive bytes) reply t.state
   pub names : t.names ≡ s.names
+
+-- the transaction was submitted and answered so, by a step of the definitions
+pub record WasSubmitted (network : Network) (s : Scene) (tx : Transaction) (reply : Reply) (t : Scene) : Type 0 where
+  pub step : Step network s.state (Submit (text_of (item_of_transaction tx))) reply t.state
+  pub names : t.names ≡ s.names
+
+-- a block is forged in this slot, or why there is none. Memory runs out only where there is no other reason
+abbrev pub IsForgeAnswer : Network → State → (slot : ℕ) → ForgeAnswer → Type 0
+IsForgeAnswer network s slot (ForgedBlock b) = IsForged network s.chain s.mempool slot b
+IsForgeAnswer network s slot (NoBlock fault) = IsNotForged network s.chain slot fault
+IsForgeAnswer network s slot NoMemory = (fault : ForgeFault) → ForgeApplies network s.chain slot fault → ⊥
+
+-- the block that was forged has the name. Where there is none, no name is bound
+abbrev pub names_forged : List Binding → List ℕ → ForgeAnswer → List Binding
+names_forged names name (ForgedBlock b) = names ++ record { name = name; bound = bound_block b } ∷ []
+names_forged names name answer = names
+
+-- forging is answered so, and changes nothing but the names
+pub record WasForged (network : Network) (s : Scene) (name : List ℕ) (slot : ℕ) (answer : ForgeAnswer) (t : Scene)
+    : Type 0 where
+  pub is_answer : IsForgeAnswer network s.state slot answer
+  pub state : t.state ≡ s.state
+  pub names : t.names ≡ record s.names { of_bytes = names_forged s.names.of_bytes name answer }
 
 -- once an opening was answered, the new follower has the name. Where none was opened, no name is bound
 abbrev pub names_opened : List (Named ℕ) → List ℕ → Reply → List (Named ℕ)
@@ -78,11 +108,17 @@ Acts network s (Defines definition) out entries t =
     (out ≡ []) × (entries ≡ []) × (t.state ≡ s.state) × AreNamesAfter s.names definition t.names
 Acts network s (Arrives form name bytes) out entries t = (reply : Reply) × Arrived network s (formed form bytes) reply t
     × (out ≡ arrival_text form name reply) × (entries ≡ entry (Arrive (formed form bytes)) reply)
+Acts network s (SubmitsTx name tx) out entries t = (reply : Reply) × WasSubmitted network s tx reply t
+    × (out ≡ submission_text name reply) × (entries ≡ entry (Submit (text_of (item_of_transaction tx))) reply)
+Acts network s (ForgesBlock name slot) out entries t = (answer : ForgeAnswer) × WasForged network s name slot answer t
+    × (out ≡ forging_text name (forge_answer_text answer)) × (entries ≡ [])
 Acts network s (OpensFollower name) out entries t = (reply : Reply) × WasOpened network s name reply t
     × (out ≡ opening_text name reply) × (entries ≡ entry Open reply)
 Acts network s (TellsFollower name id) out entries t = (reply : Reply) × WasTold network s id reply t
     × IsNextText s.names.of_bytes name reply out × (entries ≡ entry (Next id) reply)
 Acts network s PrintsTip out entries t = (out ≡ tip_text s.names.of_bytes (tip_point s.state.chain)) × (entries ≡ [])
+    × (t ≡ s)
+Acts network s PrintsMempool out entries t = (out ≡ mempool_text s.names.of_txs s.state.mempool) × (entries ≡ [])
     × (t ≡ s)
 Acts network s PrintsUtxo out entries t = (ledger : Ledger) × (ledger_of network s.state.chain ≡ Some ledger)
     × (out ≡ utxo_text ledger) × (entries ≡ []) × (t ≡ s)

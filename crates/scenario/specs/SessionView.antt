@@ -1,5 +1,5 @@
 -- Which scenes of the definitions a session stands for, and what it answers to a line.
-use Rattle.std.specs.Prelude.{ℕ, Bool, List, Result, Ok, Err}
+use Rattle.std.specs.Prelude.{◌≡◌, ℕ, Bool, List, Result, Ok, Err}
 use Rattle.std.specs.Global.{Vec}
 use Rattle.model.specs.Ledger.{Network}
 use Rattle.model.specs.History.{Entry}
@@ -9,13 +9,25 @@ use Rattle.script.specs.declared.stop.Stop.{Stop}
 use Rattle.script.specs.declared.stop.Stop.TheVariants.{Fault, OutOfMemory}
 use Rattle.scenario.specs.declared.session.Session.{Session}
 use Rattle.script.specs.RequestView.{AreNamed, Lacks}
+use Rattle.script.specs.declared.names.Names.{Names}
 use Rattle.script.specs.Meaning.{Meaning}
-use Rattle.scenario.specs.Run.{Scene, Acts}
+use Rattle.chain_core.specs.declared.forging.ForgeFault.{ForgeFault}
+use Rattle.scenario.specs.Print.{ForgeAnswer, forge_answer_text}
+use Rattle.scenario.specs.ForgeView.{code_answer_text}
+use Rattle.scenario.specs.Run.{Scene, IsForgeAnswer, names_forged, Acts}
 
 -- the core stands for the state, and the names for the names
 pub record Holds (session : Session) (s : Scene) : Type 0 where
   pub stands : Stands session.core s.state
   pub names : AreNamed session.names s.names
+
+-- forging is answered so by the code, and the block has its name
+pub record Forges (network : Network) (s : Scene) (name : List ℕ) (slot : ℕ) (answer : Result ℕ ForgeFault)
+    (names : Names) : Type 0 where
+  pub is : ForgeAnswer
+  pub is_answer : IsForgeAnswer network s.state slot is
+  pub text : code_answer_text answer ≡ forge_answer_text is
+  pub named : AreNamed names (record s.names { of_bytes = names_forged s.names.of_bytes name is })
 
 -- what is meant was done, and printed so
 pub record Done (network : Network) (s : Scene) (meaning : Meaning) (out : List ℕ) (new : Session) : Type 0 where

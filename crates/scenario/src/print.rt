@@ -3,15 +3,20 @@
 ghost use Rattle.std.specs.Prelude.{◌≡◌, ◌++◌, ℕ, List, OnOk, Some};
 ghost use Rattle.model.specs.Block.{SpellsBlock, block_text, block_hash_of};
 ghost use Rattle.ident.specs.PointView.{point_of};
-ghost use Rattle.chain_core.specs.Views.{instruction_of, arrive_reply_of, open_reply_of, next_reply_of};
+ghost use Rattle.chain_core.specs.Views.{instruction_of, arrive_reply_of, submit_reply_of, open_reply_of};
+ghost use Rattle.chain_core.specs.Views.{next_reply_of};
 ghost use Rattle.script.specs.Names.{AllNames, printed_name};
 ghost use Rattle.script.specs.RequestView.{AreNamed};
 ghost use Rattle.scenario.specs.Print.{arrival_text, opening_reply_text, opening_text, point_name, IsInstructionText};
 ghost use Rattle.scenario.specs.Print.{IsNextReplyText, IsNextText, tip_text, unspent_text};
+ghost use Rattle.scenario.specs.Print.{submission_reply_text, submission_text, forging_text};
+ghost use Rattle.scenario.specs.Print.{tx_names_text, mempool_text};
+ghost use Rattle.scenario.specs.ForgeView.{code_answer_text};
 
 use block::CheckedBlock;
-use chain_core::{ArriveReply, FollowerId, Instruction, NextFault, OpenFault};
+use chain_core::{ArriveReply, FollowerId, ForgeFault, Instruction, NextFault, OpenFault};
 use ident::Point;
+use mempool::{Mempool, SubmitReply};
 use script::{Form, Names};
 use std::alloc::AllocError;
 use std::io::Write;
@@ -36,6 +41,106 @@ pub fn print_arrival(
         },
         Err(AllocError) => line.extend_from_slice(b": out of memory\n"),
     }
+}
+
+/// Appends what a submission is answered.
+fn print_submit_reply(
+    line: &mut Vec<u8>,
+    reply: Result<SubmitReply, AllocError>,
+) -> Result<(), AllocError>
+    ensures { OnOk result (line.new.items ≡ line.old.items ++ submission_reply_text (submit_reply_of reply)) }
+{
+    match reply {
+        Ok(reply) => match write!(line, "{reply}") {
+            Ok(()) => Ok(()),
+            Err(_) => Err(AllocError),
+        },
+        Err(AllocError) => line.extend_from_slice(b"out of memory"),
+    }
+}
+
+/// Appends what a submission prints.
+pub fn print_submission(
+    line: &mut Vec<u8>,
+    name: &[u8],
+    reply: Result<SubmitReply, AllocError>,
+) -> Result<(), AllocError>
+    ensures { OnOk result (line.new.items ≡ line.old.items ++ submission_text name.now (submit_reply_of reply)) }
+{
+    line.extend_from_slice(b"submit ")?;
+    line.extend_from_slice(name)?;
+    line.extend_from_slice(b": ")?;
+    print_submit_reply(line, reply)?;
+    line.push(b'\n')?;
+    Ok(())
+}
+
+/// Appends what the line `forge` is answered: the size of the block, or why there is none.
+fn print_forge_answer(
+    line: &mut Vec<u8>,
+    answer: Result<usize, ForgeFault>,
+) -> Result<(), AllocError>
+    ensures { OnOk result (line.new.items ≡ line.old.items ++ code_answer_text answer) }
+{
+    match answer {
+        Ok(size) => match write!(line, "{size} bytes") {
+            Ok(()) => Ok(()),
+            Err(_) => Err(AllocError),
+        },
+        Err(ForgeFault::SlotNotAfterTip) => line.extend_from_slice(b"refused 1 SlotNotAfterTip"),
+        Err(ForgeFault::OutOfRange) => line.extend_from_slice(b"refused 2 OutOfRange"),
+        Err(ForgeFault::OutOfMemory) => line.extend_from_slice(b"out of memory"),
+    }
+}
+
+/// Appends what the line `forge` prints.
+pub fn print_forging(
+    line: &mut Vec<u8>,
+    name: &[u8],
+    answer: Result<usize, ForgeFault>,
+) -> Result<(), AllocError>
+    ensures { OnOk result (line.new.items ≡ line.old.items ++ forging_text name.now (code_answer_text answer)) }
+{
+    line.extend_from_slice(b"forge ")?;
+    line.extend_from_slice(name)?;
+    line.extend_from_slice(b": ")?;
+    print_forge_answer(line, answer)?;
+    line.push(b'\n')?;
+    Ok(())
+}
+
+/// Appends the names of the transactions that wait, each after a space.
+fn print_waiting(
+    line: &mut Vec<u8>,
+    names: &Names,
+    mempool: &Mempool<TestScheme>,
+) -> Result<(), AllocError>
+    ensures { OnOk result ((all : AllNames) → AreNamed names.now all
+        → line.new.items ≡ line.old.items ++ tx_names_text all.of_txs mempool.now.waiting.txs) }
+{
+    for tx in mempool.iter() {
+        line.push(b' ')?;
+        line.extend_from_slice(names.printed_tx(&tx.tx().id()))?;
+    }
+    Ok(())
+}
+
+/// Appends what the question `mempool` prints.
+pub fn print_mempool(
+    line: &mut Vec<u8>,
+    names: &Names,
+    mempool: &Mempool<TestScheme>,
+) -> Result<(), AllocError>
+    ensures { OnOk result ((all : AllNames) → AreNamed names.now all
+        → line.new.items ≡ line.old.items ++ mempool_text all.of_txs mempool.now.waiting.txs) }
+{
+    let count = mempool.len();
+    let Ok(()) = write!(line, "mempool: {count}") else {
+        return Err(AllocError);
+    };
+    print_waiting(line, names, mempool)?;
+    line.push(b'\n')?;
+    Ok(())
 }
 
 /// What the opening of a follower is answered.

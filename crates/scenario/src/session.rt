@@ -1,20 +1,27 @@
 //! The node with the names of a script.
 
 ghost use Rattle.std.specs.Prelude.{◌≡◌, ◌+◌, ◌≤◌, [], None, Some, IfOk, IfErr, OnOk, length, option_map};
-ghost use Rattle.model.specs.History.{State, Arrive, Step};
+ghost use Rattle.model.specs.Cbor.{text_of};
+ghost use Rattle.model.specs.Transaction.{Transaction, item_of_transaction};
+ghost use Rattle.model.specs.History.{State, Arrive, Submit, Step};
 ghost use Rattle.chain_core.specs.Held.{Stands};
-ghost use Rattle.chain_core.specs.Views.{arrive_reply_of};
+ghost use Rattle.chain_core.specs.Views.{arrive_reply_of, submit_reply_of};
 ghost use Rattle.script.specs.Names.{AllNames, Bound, bound_to};
-ghost use Rattle.script.specs.Meaning.{Arrives, OpensFollower, PrintsTip, PrintsUtxo, TellsFollower};
+ghost use Rattle.script.specs.Meaning.{Arrives, ForgesBlock, OpensFollower, PrintsMempool, PrintsTip, PrintsUtxo};
+ghost use Rattle.script.specs.Meaning.{SubmitsTx, TellsFollower};
 ghost use Rattle.script.specs.Meaning.{formed, is_late_line, Means, parse_within};
 ghost use Rattle.script.specs.RequestView.{AreNamed, HasFollowerRoom};
 ghost use Rattle.script.specs.Text.{script_size_limit};
 ghost use Rattle.scenario.specs.Run.{Scene, opening_scene, script_network};
-ghost use Rattle.scenario.specs.SessionView.{Holds, IsDone, IsObeyed};
+ghost use Rattle.scenario.specs.SessionView.{Forges, Holds, IsDone, IsObeyed};
 
-use crate::print::{print_arrival, print_next, print_opening, print_tip, print_utxo};
-use chain_core::{ArriveReply, Core, FollowerId};
+use crate::print::{
+    print_arrival, print_forging, print_mempool, print_next, print_opening, print_submission,
+    print_tip, print_utxo,
+};
+use chain_core::{ArriveReply, Core, FollowerId, ForgeFault};
 use genesis::Genesis;
+use mempool::SubmitReply;
 use script::{Form, LinePlace, Name, Names, Request, Stop};
 use std::alloc::{AllocError, Global};
 use witness_pool::TestScheme;
@@ -85,6 +92,47 @@ fn arrive(
     core.arrive(&bytes)
 }
 
+/// The transaction of a name is submitted to the core.
+fn submit(
+    core: &mut Core<TestScheme>,
+    names: &Names,
+    name: &[u8],
+) -> Result<SubmitReply, AllocError>
+    ensures step { (all : AllNames) → AreNamed names.now all → (tx : Transaction)
+        → bound_to name.now all.of_txs ≡ Some tx → (s : State) → Stands core.old s → (t : State)
+        × Step (script_network core.old.genesis) s (Submit (text_of (item_of_transaction tx)))
+        (submit_reply_of result) t × Stands core.new t }
+    ensures genesis { core.new.genesis ≡ core.old.genesis }
+{
+    let Some(tx) = names.tx_of(name) else {
+        return Err(AllocError);
+    };
+    let bytes = tx.encode()?;
+    core.submit(&bytes)
+}
+
+/// A block is forged, and gets a name that is free: how many bytes it has, or why there is none. Err where there is no
+/// memory for the name.
+fn forge(
+    core: &Core<TestScheme>,
+    names: &mut Names,
+    name: &[u8],
+    slot: u64,
+) -> Result<Result<usize, ForgeFault>, AllocError>
+    ensures { IfOk result (λ answer. (s : Scene) → Stands core.now s.state → AreNamed names.old s.names
+        → bound_to name.now s.names.of_bytes ≡ None
+        → Forges (script_network core.now.genesis) s name.now slot answer names.new) }
+{
+    match core.forge(slot) {
+        Ok(forged) => {
+            let size = forged.bytes.len();
+            names.bind_block(name, forged.bytes, forged.point)?;
+            Ok(Ok(size))
+        }
+        Err(fault) => Ok(Err(fault)),
+    }
+}
+
 impl Session {
     /// A session before the first line. Err where there is no memory for the outputs of the genesis.
     pub fn new(alloc: Global, genesis: Genesis) -> Result<Session, AllocError>
@@ -111,6 +159,37 @@ impl Session {
         let bytes = bytes_named(&self.names, name.text);
         let reply = arrive(self.alloc, &mut self.core, form, bytes);
         match print_arrival(&mut line, form, name.text, reply) {
+            Ok(()) => Ok(line),
+            Err(AllocError) => Err(Stop::OutOfMemory),
+        }
+    }
+
+    /// The transaction of a name is submitted. The room for what it prints is taken first.
+    fn submit(&mut self, name: Name<'_>) -> Result<Vec<u8>, Stop>
+        ensures obeyed { (s : Scene) → Holds self.old s → (tx : Transaction)
+            → bound_to name.entry.text.now s.names.of_txs ≡ Some tx
+            → IsDone (script_network self.old.core.genesis) s (SubmitsTx name.entry.text.now tx) result self.new }
+        ensures genesis { self.new.core.genesis ≡ self.old.core.genesis }
+    {
+        let mut line = line_room(self.alloc, name)?;
+        let reply = submit(&mut self.core, &self.names, name.text);
+        match print_submission(&mut line, name.text, reply) {
+            Ok(()) => Ok(line),
+            Err(AllocError) => Err(Stop::OutOfMemory),
+        }
+    }
+
+    /// A block is forged in a slot, and gets its name. The room for what it prints is taken first.
+    fn forge(&mut self, name: Name<'_>, slot: u64) -> Result<Vec<u8>, Stop>
+        ensures obeyed { (s : Scene) → Holds self.old s → bound_to name.entry.text.now s.names.of_bytes ≡ None
+            → IsDone (script_network self.old.core.genesis) s (ForgesBlock name.entry.text.now slot) result self.new }
+        ensures genesis { self.new.core.genesis ≡ self.old.core.genesis }
+    {
+        let mut line = line_room(self.alloc, name)?;
+        let Ok(answer) = forge(&self.core, &mut self.names, name.text, slot) else {
+            return Err(Stop::OutOfMemory);
+        };
+        match print_forging(&mut line, name.text, answer) {
             Ok(()) => Ok(line),
             Err(AllocError) => Err(Stop::OutOfMemory),
         }
@@ -163,6 +242,18 @@ impl Session {
         }
     }
 
+    /// The question what waits in the mempool.
+    fn mempool(&self) -> Result<Vec<u8>, Stop>
+        ensures { (s : Scene) → Holds self.now s
+            → IsDone (script_network self.now.core.genesis) s PrintsMempool result self.now }
+    {
+        let mut line = Vec::new(self.alloc);
+        match print_mempool(&mut line, &self.names, self.core.mempool()) {
+            Ok(()) => Ok(line),
+            Err(AllocError) => Err(Stop::OutOfMemory),
+        }
+    }
+
     /// The question what is unspent on the selected chain.
     fn utxo(&self) -> Result<Vec<u8>, Stop>
         ensures { (s : Scene) → Holds self.now s
@@ -197,9 +288,12 @@ impl Session {
         match self.names.obey(at, line) {
             Ok(Request::Nothing) => Ok(Vec::new(self.alloc)),
             Ok(Request::Arrive { form, name }) => self.arrive(form, name),
+            Ok(Request::Submit { name }) => self.submit(name),
+            Ok(Request::Forge { name, slot }) => self.forge(name, slot),
             Ok(Request::Open { name }) => self.open(name),
             Ok(Request::Next { name, id }) => self.next(name, id),
             Ok(Request::Tip) => self.tip(),
+            Ok(Request::Mempool) => self.mempool(),
             Ok(Request::Utxo) => self.utxo(),
             Err(stop) => Err(stop),
         }

@@ -1,5 +1,5 @@
 -- One more name.
-use Rattle.std.proofs.Common.{◌≡◌, ℕ, Bool, true, false, cond, List, [], ◌∷◌, ◌++◌, Option, Some, None, option_map, refl, sym, ◌∙◌, ap, subst}
+use Rattle.std.proofs.Common.{◌≡◌, ℕ, Bool, true, false, cond, List, [], ◌∷◌, ◌++◌, Option, Some, None, is_some, option_map, refl, sym, ◌∙◌, ap, subst}
 use Rattle.std.specs.Prelude.{bytes_eq}
 use Rattle.std.specs.Option.{option_or}
 use Rattle.std.specs.List.{find}
@@ -9,7 +9,12 @@ use Rattle.std.specs.BTreeMap.{insert_entry}
 use Rattle.byte_keys.specs.ByteKeys.{at_bytes}
 use Rattle.byte_keys.proofs.ForCallers.{has_bytes, by_bytes, same_from, lookup_insert}
 use Rattle.script.specs.declared.bound_names.BoundNames.{BoundNames}
-use Rattle.script.specs.Names.{Named, Bound, Binding, bound_to, first_name, has_hash}
+use Rattle.ident.specs.Kinds.{TxId}
+use Rattle.model.specs.Transaction.{Transaction, transaction_id_of}
+use Rattle.std.proofs.lemmas.Slice.Eq.{bytes_eq-Decides}
+use Rattle.script.specs.declared.tx_names.TxNames.{TxNames}
+use Rattle.script.specs.TxNamesView.{AreTxsNamed}
+use Rattle.script.specs.Names.{Named, Bound, Binding, bound_to, first_name, first_tx_name, has_hash}
 use Rattle.script.specs.NamesView.{AreBound, bound_of}
 use Rattle.script.specs.KnownView.{IsTable}
 use Rattle.script.specs.declared.name_table.NameTable.{NameTable}
@@ -58,6 +63,38 @@ bound_more {A} q names b = ap (option_map (λ (b : Named A). b.bound)) (find_mor
 first_more : (q : List ℕ) (names : List Binding) (b : Binding) → first_name q (names ++ b ∷ []) ≡ option_or (first_name q names) (cond (has_hash q b.bound.place) (Some b.name) None)
 first_more q names b = ap (option_map (λ (b : Binding). b.name)) (find_more (λ (b : Binding). has_hash q b.bound.place) names b)
     ∙ more_bit (λ (b : Binding). b.name) (find (λ (b : Binding). has_hash q b.bound.place) names) (has_hash q b.bound.place) b
+
+-- the first name of a transaction where one more is bound
+pub first_tx_more : (q : List ℕ) (names : List (Named Transaction)) (b : Named Transaction) → first_tx_name q (names ++ b ∷ []) ≡ option_or (first_tx_name q names) (cond (bytes_eq q (transaction_id_of b.bound)) (Some b.name) None)
+first_tx_more q names b = ap (option_map (λ (b : Named Transaction). b.name)) (find_more (λ (b : Named Transaction). bytes_eq q (transaction_id_of b.bound)) names b)
+    ∙ more_bit (λ (b : Named Transaction). b.name) (find (λ (b : Named Transaction). bytes_eq q (transaction_id_of b.bound)) names) (bytes_eq q (transaction_id_of b.bound)) b
+
+-- what has its first name keeps it
+or_there : {X : Type 0} (m : Option X) (b : Bool) (x : X) → (b ≡ true → is_some m ≡ true) → m ≡ option_or m (cond b (Some x) None)
+or_there None true x there = absurd (let e : false ≡ true = there refl in cc)
+or_there None false x there = refl
+or_there (Some y) b x there = refl
+
+some_map : {X Y : Type 0} (f : X → Y) (m : Option X) (n : Option Y) → is_some m ≡ true → option_map f m ≡ n → is_some n ≡ true
+some_map f None n some is = absurd (let e : false ≡ true = some in cc)
+some_map f (Some x) n some is = ap (λ o. is_some o) (sym is)
+
+module _ (old : TxNames) (names : List (Named Transaction)) (tx : Transaction) (id : TxId) (name : List ℕ) (named : AreTxsNamed old names) (is : id.bytes ≡ transaction_id_of tx) where
+  -- the transaction had its name
+  pub tx_named_before : is_some (at_bytes (λ (k : TxId). k.bytes) id.bytes old.by_id) ≡ true → AreTxsNamed old (names ++ record { name = name; bound = tx } ∷ [])
+  tx_named_before some = λ q.
+      let there : bytes_eq q (transaction_id_of tx) ≡ true → is_some (first_tx_name q names) ≡ true = λ t.
+      let same : id.bytes ≡ q = is ∙ sym ((bytes_eq-Decides q (transaction_id_of tx)).0 t) in
+      subst (λ (bs : List ℕ). is_some (first_tx_name bs names) ≡ true) same (some_map (λ (n : Vec ℕ). n.items) (at_bytes (λ (k : TxId). k.bytes) id.bytes old.by_id) (first_tx_name id.bytes names) some (named id.bytes)) in
+      named q ∙ (or_there (first_tx_name q names) (bytes_eq q (transaction_id_of tx)) name there ∙ sym (first_tx_more q names (record { name = name; bound = tx })))
+
+  -- or gets it
+  pub tx_named_now : (new : TxNames) → ((q : List ℕ) → option_map (λ (n : Vec ℕ). n.items) (at_bytes (λ (k : TxId). k.bytes) q new.by_id)
+      ≡ option_or (option_map (λ (n : Vec ℕ). n.items) (at_bytes (λ (k : TxId). k.bytes) q old.by_id)) (cond (bytes_eq q id.bytes) (Some name) None))
+      → AreTxsNamed new (names ++ record { name = name; bound = tx } ∷ [])
+  tx_named_now new put = λ q.
+      put q ∙ (ap (λ (m : Option (List ℕ)). option_or m (cond (bytes_eq q id.bytes) (Some name) None)) (named q)
+      ∙ (ap (λ (bs : List ℕ). option_or (first_tx_name q names) (cond (bytes_eq q bs) (Some name) None)) is ∙ sym (first_tx_more q names (record { name = name; bound = tx }))))
 
 pub map_none : {X Y : Type 0} (g : X → Y) (m : Option X) → option_map g m ≡ None → m ≡ None
 map_none g None h = refl

@@ -89,6 +89,7 @@ part_asked names c made o draft said late named is making (with_part, is_with, s
         known = record { network = named.known.network; of_keys = named.known.of_keys; of_scripts = named.known.of_scripts; of_txs = named.known.of_txs };
         of_bytes = named.of_bytes;
         of_followers = named.of_followers;
+        printed = named.printed;
         making = (record made { draft = with_part }, refl, record { name = making.name; line = making.line; stands = stands });
         free = free_name names made with_part (named.free made is);
       };
@@ -105,6 +106,7 @@ part_refused names c made o draft said late (Fault fault) named is making (is_fa
     known = named.known;
     of_bytes = named.of_bytes;
     of_followers = named.of_followers;
+    printed = named.printed;
     making = (made, is, record { name = making.name; line = making.line; stands = stands });
     free = named.free;
   },

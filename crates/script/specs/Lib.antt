@@ -7,6 +7,7 @@ pub mod Answer
 pub mod WordsView
 pub mod Names
 pub mod NamesView
+pub mod TxNamesView
 pub mod FollowerNamesView
 pub mod Meaning
 pub mod KnownView

@@ -39,8 +39,9 @@ pub data Part : Type 0 where
   Supply : (script : List ℕ) → Part
 
 -- a line: nothing, a key or a script of a name, a transaction of a name that begins, a part of it, its end, a block of
--- a name, on a parent, in a slot, with transactions, bytes of a name, an arrival, a follower to open, the question what
--- a follower is told next, where the selected chain ends, or what is unspent on it
+-- a name, on a parent, in a slot, with transactions, bytes of a name, an arrival, a submission, a block of a name to
+-- forge in a slot, a follower to open, the question what a follower is told next, where the selected chain ends, what
+-- waits in the mempool, or what is unspent on the chain
 pub data Line : Type 0 where
   Nothing : Line
   DefineKey : (name bytes : List ℕ) → Line
@@ -51,9 +52,12 @@ pub data Line : Type 0 where
   DefineBlock : (name : List ℕ) → Parent → (slot : ℕ) → (txs : List (List ℕ)) → Line
   DefineRaw : (name bytes : List ℕ) → Line
   Arrive : Form → (name : List ℕ) → Line
+  SubmitTx : (name : List ℕ) → Line
+  ForgeBlock : (name : List ℕ) → (slot : ℕ) → Line
   OpenFollower : (name : List ℕ) → Line
   AskNext : (name : List ℕ) → Line
   AskTip : Line
+  AskMempool : Line
   AskUtxo : Line
 
 -- how the bytes of an `arrive` line arrive, by its first word
@@ -154,6 +158,7 @@ abbrev pub word_line : List ℕ → Option Line
 word_line word =
     if bytes_eq word (codes "tip") then Some AskTip
     else if bytes_eq word (codes "utxo") then Some AskUtxo
+    else if bytes_eq word (codes "mempool") then Some AskMempool
     else if bytes_eq word (codes "end") then Some EndTx
     else None
 
@@ -170,6 +175,7 @@ abbrev pub named_line : (word name : List ℕ) → Option Line
 named_line word name =
     if bytes_eq word (codes "open") then where_name name (Some (OpenFollower name))
     else if bytes_eq word (codes "next") then where_name name (Some (AskNext name))
+    else if bytes_eq word (codes "submit") then where_name name (Some (SubmitTx name))
     else if bytes_eq word (codes "tx") then where_name name (Some (BeginTx name))
     else if bytes_eq word (codes "fee") then number_part SetFee name
     else if bytes_eq word (codes "from") then number_part SetStart name
@@ -189,6 +195,10 @@ spend_line from index =
     if bytes_eq from (codes "genesis") then number_part SpendGrant index
     else where_name from (number_part (Spend from) index)
 
+-- a block of a name that is forged in a slot
+abbrev pub forge_line : (name slot : List ℕ) → Option Line
+forge_line name slot = where_name name (option_map (ForgeBlock name) (parse_number slot))
+
 -- a line of three words
 abbrev pub pair_line : (word first second : List ℕ) → Option Line
 pair_line word first second =
@@ -196,6 +206,7 @@ pair_line word first second =
     else if bytes_eq word (codes "key") then bytes_line DefineKey first second
     else if bytes_eq word (codes "script") then bytes_line DefineScript first second
     else if bytes_eq word (codes "in") then spend_line first second
+    else if bytes_eq word (codes "forge") then forge_line first second
     else None
 
 -- a block of these parts, where each of them is there

@@ -22,7 +22,10 @@ line_of (line.Block name parent slot transactions) =
     spec.DefineBlock name.text.now (parent_of parent) slot (words_left transactions.words)
 line_of (line.Raw name digits) = spec.DefineRaw name.text.now (spec.said_bytes digits.text.now)
 line_of (line.Arrive form name) = spec.Arrive form name.text.now
+line_of (line.Submit name) = spec.SubmitTx name.text.now
+line_of (line.Forge name slot) = spec.ForgeBlock name.text.now slot
 line_of (line.Open name) = spec.OpenFollower name.text.now
 line_of (line.Next name) = spec.AskNext name.text.now
 line_of line.Tip = spec.AskTip
+line_of line.Mempool = spec.AskMempool
 line_of line.Utxo = spec.AskUtxo

@@ -24,7 +24,8 @@ use Rattle.script.specs.Line.{Parent, Genesis, After, Owner, OwnedByKey, OwnedBy
 use Rattle.script.specs.Line.{Spend, Pay}
 use Rattle.script.specs.Line.{SetFee, SetStart, SetEnd, MintAsset, SignBy, Supply, Line, Nothing, DefineKey}
 use Rattle.script.specs.Line.{DefineScript, BeginTx}
-use Rattle.script.specs.Line.{AddPart, EndTx, DefineBlock, DefineRaw, Arrive, OpenFollower, AskNext, AskTip, AskUtxo}
+use Rattle.script.specs.Line.{AddPart, EndTx, DefineBlock, DefineRaw, Arrive, SubmitTx, ForgeBlock, OpenFollower}
+use Rattle.script.specs.Line.{AskNext, AskTip, AskMempool, AskUtxo}
 use Rattle.script.specs.Line.{parse_line, is_quantity}
 use Rattle.script.specs.Names.{Named, Bound, Binding, OpenTx, AllNames, bound_to}
 
@@ -38,14 +39,18 @@ pub data Definition : Type 0 where
   Continues : OpenTx → Definition
   Finishes : OpenTx → Definition
 
--- what a line does: it defines something, bytes arrive, a follower is opened, the follower of a number is told what
--- comes next, the tip is printed, or what is unspent
+-- what a line does: it defines something, bytes arrive, a transaction is submitted, a block of a name is forged in a
+-- slot, a follower is opened, the follower of a number is told what comes next, the tip is printed, what waits in the
+-- mempool, or what is unspent
 pub data Meaning : Type 0 where
   Defines : Definition → Meaning
   Arrives : Form → (name bytes : List ℕ) → Meaning
+  SubmitsTx : (name : List ℕ) → Transaction → Meaning
+  ForgesBlock : (name : List ℕ) → (slot : ℕ) → Meaning
   OpensFollower : (name : List ℕ) → Meaning
   TellsFollower : (name : List ℕ) → (id : ℕ) → Meaning
   PrintsTip : Meaning
+  PrintsMempool : Meaning
   PrintsUtxo : Meaning
 
 -- the bytes that arrive: all, all but the last, or all and a zero
@@ -237,11 +242,15 @@ meaning_outside number names (DefineBlock name parent slot txs) = block_meaning 
 meaning_outside number names (DefineRaw name bytes) =
     where_free (bound_to name names.of_bytes) (Ok (binds_bytes name (bound_raw bytes)))
 meaning_outside number names (Arrive form name) = arrival_meaning form name (bound_to name names.of_bytes)
+meaning_outside number names (SubmitTx name) = where_known (bound_to name names.of_txs) (λ tx. Ok (SubmitsTx name tx))
+meaning_outside number names (ForgeBlock name slot) =
+    where_free (bound_to name names.of_bytes) (Ok (ForgesBlock name slot))
 meaning_outside number names (OpenFollower name) =
     where_free (bound_to name names.of_followers) (Ok (OpensFollower name))
 meaning_outside number names (AskNext name) =
     where_known (bound_to name names.of_followers) (λ id. Ok (TellsFollower name id))
 meaning_outside number names AskTip = Ok PrintsTip
+meaning_outside number names AskMempool = Ok PrintsMempool
 meaning_outside number names AskUtxo = Ok PrintsUtxo
 -- a part or an end of no transaction
 meaning_outside number names line = Err BadLine

@@ -4,7 +4,7 @@ use Rattle.std.specs.Prelude.{codes}
 use Rattle.std.specs.List.{find}
 use Rattle.model.specs.Chain.{Point}
 use Rattle.model.specs.Script.{Script}
-use Rattle.model.specs.Transaction.{Transaction}
+use Rattle.model.specs.Transaction.{Transaction, transaction_id_of}
 use Rattle.draft.specs.Draft.{Draft}
 
 -- a name with what it is bound to
@@ -37,6 +37,14 @@ first_name hash names = option_map (λ b. b.name) (find (λ b. has_hash hash b.b
 -- a block is printed by this name, or by a question mark where it has none
 abbrev pub printed_name : List ℕ → List Binding → List ℕ
 printed_name hash names = unwrap_or (first_name hash names) (codes "?")
+
+-- the first name that was bound to a transaction of this identifier
+abbrev pub first_tx_name : List ℕ → List (Named Transaction) → Option (List ℕ)
+first_tx_name id names = option_map (λ b. b.name) (find (λ b. bytes_eq id (transaction_id_of b.bound)) names)
+
+-- a transaction is printed by this name, or by a question mark where it has none
+abbrev pub printed_tx : List ℕ → List (Named Transaction) → List ℕ
+printed_tx id names = unwrap_or (first_tx_name id names) (codes "?")
 
 -- a transaction between its line `tx`, of this number, and its line `end`
 pub record OpenTx : Type 0 where
@@ -71,3 +79,7 @@ no_names network =
 -- the names with one more of a follower
 abbrev pub with_follower : AllNames → Named ℕ → AllNames
 with_follower names follower = record names { of_followers = names.of_followers ++ follower ∷ [] }
+
+-- the names with one more of bytes
+abbrev pub with_bytes : AllNames → Binding → AllNames
+with_bytes names binding = record names { of_bytes = names.of_bytes ++ binding ∷ [] }

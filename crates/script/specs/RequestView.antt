@@ -1,5 +1,6 @@
 -- What all names of the code stand for, and what a line asks for where they are bound.
 use Rattle.std.specs.Prelude.{◌≡◌, ℕ, Bool, IsTrue, List, Option, Some, None, Result, Ok, Err}
+use Rattle.model.specs.Transaction.{Transaction}
 use Rattle.draft.specs.View.{Stands}
 use Rattle.script.specs.declared.fault.LineFault.{LineFault}
 use Rattle.script.specs.declared.fault.LineFault.TheVariants.{NotBuilt}
@@ -11,11 +12,13 @@ use Rattle.script.specs.declared.names.Names.{Names}
 use Rattle.script.specs.declared.open_tx.OpenTx as code
 use Rattle.script.specs.Names.{Bound, OpenTx, AllNames, bound_to}
 use Rattle.script.specs.NamesView.{AreBound}
+use Rattle.script.specs.TxNamesView.{AreTxsNamed}
 use Rattle.script.specs.FollowerNamesView.{AreFollowersNamed, HasRoom}
 use Rattle.script.specs.KnownView.{AreKnown}
 use Rattle.script.specs.Line.{Line}
-use Rattle.script.specs.Meaning.{Meaning, Defines, Definition, Arrives, OpensFollower, TellsFollower, PrintsTip}
-use Rattle.script.specs.Meaning.{PrintsUtxo, AreNamesAfter, MeansOutside, MeansLine, is_late}
+use Rattle.script.specs.Meaning.{Meaning, Defines, Definition, Arrives, SubmitsTx, ForgesBlock, OpensFollower}
+use Rattle.script.specs.Meaning.{TellsFollower, PrintsTip, PrintsMempool, PrintsUtxo}
+use Rattle.script.specs.Meaning.{AreNamesAfter, MeansOutside, MeansLine, is_late}
 
 -- the code holds this transaction in the making
 pub record IsMaking (code : code.OpenTx) (making : OpenTx) : Type 0 where
@@ -31,6 +34,7 @@ IsOpen (Some code) making = (made : OpenTx) × (making ≡ Some made) × IsMakin
 -- the names of the code stand for these, of each kind, and that of a transaction in the making is free
 pub record AreNamed (code : Names) (names : AllNames) : Type 0 where
   pub known : AreKnown code.known names
+  pub printed : AreTxsNamed code.printed names.of_txs
   pub of_bytes : AreBound code.bytes names.of_bytes
   pub of_followers : AreFollowersNamed code.followers names.of_followers
   pub making : IsOpen code.making names.making
@@ -54,10 +58,15 @@ IsRequest names code request.Nothing meaning = (definition : Definition) × (mea
 IsRequest names code (request.Arrive form name) meaning = (bound : Bound)
     × (bound_to name.text.now names.of_bytes ≡ Some bound) × (meaning ≡ Arrives form name.text.now bound.bytes)
     × AreNamed code names
+IsRequest names code (request.Submit name) meaning = (tx : Transaction)
+    × (bound_to name.text.now names.of_txs ≡ Some tx) × (meaning ≡ SubmitsTx name.text.now tx) × AreNamed code names
+IsRequest names code (request.Forge name slot) meaning = (meaning ≡ ForgesBlock name.text.now slot)
+    × (bound_to name.text.now names.of_bytes ≡ None) × AreNamed code names
 IsRequest names code (request.Open name) meaning = (meaning ≡ OpensFollower name.text.now)
     × (bound_to name.text.now names.of_followers ≡ None) × HasFollowerRoom code name.text.now × AreNamed code names
 IsRequest names code (request.Next name id) meaning = (meaning ≡ TellsFollower name.text.now id) × AreNamed code names
 IsRequest names code request.Tip meaning = (meaning ≡ PrintsTip) × AreNamed code names
+IsRequest names code request.Mempool meaning = (meaning ≡ PrintsMempool) × AreNamed code names
 IsRequest names code request.Utxo meaning = (meaning ≡ PrintsUtxo) × AreNamed code names
 
 -- a line that has a meaning asks for this

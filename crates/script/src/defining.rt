@@ -159,6 +159,7 @@ impl Names {
             return Err(Stop::Fault(LineFault::BadLine));
         };
         let tx = open.draft.finish()?;
+        self.printed.name_tx(tx.id(), &open.name)?;
         self.known.txs.bind(open.name, tx)?;
         Ok(Request::Nothing)
     }

@@ -23,6 +23,7 @@ mod open_tx;
 mod part;
 mod request;
 mod stop;
+mod tx_names;
 mod words;
 
 pub use fault::LineFault;

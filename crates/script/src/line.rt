@@ -4,7 +4,7 @@ ghost use Rattle.std.specs.Prelude.{◌≡◌, Some, option_map};
 ghost use Rattle.draft.specs.SignerView.{is_good};
 ghost use Rattle.script.specs.Line.{parse_line, said_by, form_of, word_of, where_name, parse_parent};
 ghost use Rattle.script.specs.Line.{word_line, arrive_line, named_line, spend_line, pair_line, mint_line, long_line};
-ghost use Rattle.script.specs.Line.{OpenFollower, AskNext, BeginTx, AddPart, SignBy, Supply};
+ghost use Rattle.script.specs.Line.{OpenFollower, AskNext, SubmitTx, BeginTx, AddPart, SignBy, Supply, forge_line};
 ghost use Rattle.script.specs.Line.{block_of_parts, pay_of_parts, parse_owner, parse_assets};
 ghost use Rattle.script.specs.Text.{parse_number};
 ghost use Rattle.script.specs.WordsView.{words_left};
@@ -118,6 +118,15 @@ pub enum Line<'a> {
         form: Form,
         name: Name<'a>,
     },
+    /// The transaction of a name is submitted.
+    Submit {
+        name: Name<'a>,
+    },
+    /// A block is forged in a slot, and gets a name.
+    Forge {
+        name: Name<'a>,
+        slot: u64,
+    },
     /// A follower is opened, and gets a name.
     Open {
         name: Name<'a>,
@@ -128,6 +137,8 @@ pub enum Line<'a> {
     },
     /// Where does the selected chain end?
     Tip,
+    /// What waits in the mempool?
+    Mempool,
     /// What is unspent on the selected chain?
     Utxo,
 }
@@ -140,6 +151,8 @@ fn word_line<'a>(word: &[u8]) -> Option<Line<'a>>
         Some(Line::Tip)
     } else if word == b"utxo".as_slice() {
         Some(Line::Utxo)
+    } else if word == b"mempool".as_slice() {
+        Some(Line::Mempool)
     } else if word == b"end".as_slice() {
         Some(Line::End)
     } else {
@@ -170,6 +183,14 @@ fn next_line<'a>(name: &'a [u8]) -> Option<Line<'a>>
 {
     let name = Name::of_word(name)?;
     Some(Line::Next { name })
+}
+
+/// The line in which a transaction is submitted.
+fn submit_line<'a>(name: &'a [u8]) -> Option<Line<'a>>
+    ensures { option_map line_of result ≡ where_name name.entry.now (Some (SubmitTx name.entry.now)) }
+{
+    let name = Name::of_word(name)?;
+    Some(Line::Submit { name })
 }
 
 /// The line in which a transaction begins.
@@ -205,6 +226,8 @@ fn named_line<'a>(word: &[u8], name: &'a [u8]) -> Option<Line<'a>>
         open_line(name)
     } else if word == b"next".as_slice() {
         next_line(name)
+    } else if word == b"submit".as_slice() {
+        submit_line(name)
     } else if word == b"tx".as_slice() {
         tx_line(name)
     } else if word == b"fee".as_slice() {
@@ -237,12 +260,24 @@ fn spend_line<'a>(from: &'a [u8], index: &[u8]) -> Option<Line<'a>>
     Some(Line::Part(Part::Spend { tx, index }))
 }
 
+/// The line in which a block is forged.
+fn forge_line<'a>(name: &'a [u8], slot: &[u8]) -> Option<Line<'a>>
+    ensures { option_map line_of result ≡ forge_line name.entry.now slot.now }
+{
+    let name = Name::of_word(name)?;
+    let slot = parse_number(slot)?;
+    Some(Line::Forge { name, slot })
+}
+
 /// The line of three words.
 fn pair_line<'a>(word: &[u8], first: &'a [u8], second: &'a [u8]) -> Option<Line<'a>>
     ensures { option_map line_of result ≡ pair_line word.now first.entry.now second.entry.now }
 {
     if word == b"in".as_slice() {
         return spend_line(first, second);
+    }
+    if word == b"forge".as_slice() {
+        return forge_line(first, second);
     }
     // `raw`, `key` and `script` have a name and digits.
     let name = Name::of_word(first)?;

@@ -1,13 +1,15 @@
 //! All names of a script, and what a line means where they are bound.
 
-ghost use Rattle.std.specs.Prelude.{◌≡◌, ◌+◌, ◌≤◌, length, OnOk, option_map};
+ghost use Rattle.std.specs.Prelude.{◌≡◌, ◌+◌, ◌≤◌, length, OnOk, Some, None, option_map};
+ghost use Rattle.ident.specs.PointView.{point_of};
 ghost use Rattle.script.specs.Text.{script_size_limit};
 ghost use Rattle.script.specs.LineView.{line_of};
-ghost use Rattle.script.specs.Names.{AllNames, no_names, bound_to, printed_name, with_follower};
+ghost use Rattle.script.specs.Names.{AllNames, no_names, bound_to, printed_name, printed_tx};
+ghost use Rattle.script.specs.Names.{with_bytes, with_follower};
 ghost use Rattle.script.specs.Meaning.{Means, is_late_line, parse_within};
 ghost use Rattle.script.specs.RequestView.{AreNamed, Asks, AsksLine, HasFollowerRoom};
 
-use crate::bound_names::BoundNames;
+use crate::bound_names::{Bound, BoundNames};
 use crate::fault::LineFault;
 use crate::follower_names::FollowerNames;
 use crate::known::Known;
@@ -15,9 +17,11 @@ use crate::line::{Line, parse_line};
 use crate::open_tx::OpenTx;
 use crate::request::Request;
 use crate::stop::Stop;
+use crate::tx_names::TxNames;
 use genesis::Genesis;
-use ident::BlockHash;
-use std::alloc::Global;
+use ident::{BlockHash, Point, TxId};
+use std::alloc::{AllocError, Global};
+use tx::Tx;
 
 /// The most bytes that a script may have. The line of the first byte past them is a [`LineFault::BadLine`].
 pub const MAX_SCRIPT_SIZE: u64 = 4_194_304;
@@ -37,6 +41,7 @@ pub struct LinePlace {
 pub struct Names {
     pub(crate) alloc: Global,
     pub(crate) known: Known,
+    pub(crate) printed: TxNames,
     pub(crate) bytes: BoundNames,
     pub(crate) followers: FollowerNames,
     pub(crate) making: Option<OpenTx>,
@@ -50,6 +55,7 @@ impl Names {
         Names {
             alloc,
             known: Known::new(alloc, genesis),
+            printed: TxNames::new(alloc),
             bytes: BoundNames::new(alloc),
             followers: FollowerNames::new(alloc),
             making: None,
@@ -71,6 +77,41 @@ impl Names {
             → result.now ≡ printed_name hash.now.bytes names.of_bytes }
     {
         self.bytes.printed_name(hash)
+    }
+
+    /// The transaction of a name, or None where it has none. Logarithmic in the names.
+    pub fn tx_of(&self, name: &[u8]) -> Option<&Tx>
+        ensures { (names : AllNames) → AreNamed self.now names
+            → option_map (λ tx. tx.now) result ≡ bound_to name.now names.of_txs }
+    {
+        self.known.txs.get(name)
+    }
+
+    /// The first name that was bound to a transaction of this identifier, or a question mark.
+    pub fn printed_tx(&self, id: &TxId) -> &[u8]
+        ensures { (names : AllNames) → AreNamed self.now names
+            → result.now ≡ printed_tx id.now.bytes names.of_txs }
+    {
+        self.printed.printed_name(id)
+    }
+
+    /// Gives a name of bytes that is free to a block with this text at this place. Err where memory runs out: the names
+    /// are then of no more use.
+    pub fn bind_block(&mut self, name: &[u8], text: Vec<u8>, place: Point) -> Result<(), AllocError>
+        ensures { OnOk result ((names : AllNames) → AreNamed self.old names → bound_to name.now names.of_bytes ≡ None
+            → AreNamed self.new (with_bytes names (record {
+              name = name.now;
+              bound = record {
+                bytes = text.items;
+                place = Some (point_of place);
+              };
+            }))) }
+    {
+        let bound = Bound {
+            bytes: text,
+            place: Some(place),
+        };
+        self.bytes.bind(name, bound)
     }
 
     /// Gives a name that is free to the follower of this number, once it is opened. A name without its room, which it

@@ -2,7 +2,8 @@
 
 ghost use Rattle.std.specs.Prelude.{◌≡◌, None, Some, false};
 ghost use Rattle.script.specs.LineView.{line_of};
-ghost use Rattle.script.specs.Meaning.{OpensFollower, TellsFollower, arrival_meaning, is_late, meaning_inside};
+ghost use Rattle.script.specs.Meaning.{ForgesBlock, OpensFollower, SubmitsTx, TellsFollower, arrival_meaning};
+ghost use Rattle.script.specs.Meaning.{is_late, meaning_inside};
 ghost use Rattle.script.specs.Meaning.{where_free, where_known};
 ghost use Rattle.script.specs.Names.{AllNames, OpenTx, bound_to};
 ghost use Rattle.script.specs.PartView.{part_of};
@@ -28,6 +29,32 @@ impl Names {
             Ok(Request::Arrive { form, name })
         } else {
             Err(Stop::Fault(LineFault::UnknownName))
+        }
+    }
+
+    /// A line in which the transaction of a name is submitted.
+    fn ask_submission<'a>(&self, name: Name<'a>) -> Result<Request<'a>, Stop>
+        ensures { (names : AllNames) → AreNamed self.now names → AsksFor names
+            (where_known (bound_to name.entry.text.now names.of_txs)
+            (λ tx. Ok (SubmitsTx name.entry.text.now tx))) false result self.now }
+    {
+        if self.known.txs.get(name.text).is_some() {
+            Ok(Request::Submit { name })
+        } else {
+            Err(Stop::Fault(LineFault::UnknownName))
+        }
+    }
+
+    /// A line in which a block is forged, whose name is to be free.
+    fn ask_forging<'a>(&self, name: Name<'a>, slot: u64) -> Result<Request<'a>, Stop>
+        ensures { (names : AllNames) → AreNamed self.now names → AsksFor names
+            (where_free (bound_to name.entry.text.now names.of_bytes) (Ok (ForgesBlock name.entry.text.now slot)))
+            false result self.now }
+    {
+        if self.has_bytes(name) {
+            Err(Stop::Fault(LineFault::NameTaken))
+        } else {
+            Ok(Request::Forge { name, slot })
         }
     }
 
@@ -107,9 +134,12 @@ impl Names {
             } => self.define_block(name, parent, slot, transactions),
             Line::Raw { name, digits } => self.define_raw(name, digits),
             Line::Arrive { form, name } => self.ask_arrival(form, name),
+            Line::Submit { name } => self.ask_submission(name),
+            Line::Forge { name, slot } => self.ask_forging(name, slot),
             Line::Open { name } => self.ask_opening(name),
             Line::Next { name } => self.ask_next(name),
             Line::Tip => Ok(Request::Tip),
+            Line::Mempool => Ok(Request::Mempool),
             Line::Utxo => Ok(Request::Utxo),
             Line::Part(_) | Line::End => Err(Stop::Fault(LineFault::BadLine)),
         }

@@ -10,12 +10,18 @@ pub enum Request<'a> {
     Nothing,
     /// The bytes of a name arrive.
     Arrive { form: Form, name: Name<'a> },
+    /// The transaction of a name is submitted.
+    Submit { name: Name<'a> },
+    /// A block is forged in a slot. Its name is free.
+    Forge { name: Name<'a>, slot: u64 },
     /// A follower is opened. Its name is free, and has its room.
     Open { name: Name<'a> },
     /// What is the follower of this name and number told next?
     Next { name: Name<'a>, id: u64 },
     /// Where does the selected chain end?
     Tip,
+    /// What waits in the mempool?
+    Mempool,
     /// What is unspent on the selected chain?
     Utxo,
 }

@@ -1,4 +1,4 @@
-use Rattle.std.proofs.Common.{◌≡◌, Bool, true, false, cond, Option, Some, None, refl}
+use Rattle.std.proofs.Common.{◌≡◌, Bool, true, false, cond, Option, None, refl}
 use Rattle.std.specs.Prelude.{bytes_eq, codes}
 use Rattle.script.specs.Text.{is_name}
 use Rattle.script.specs.Line.{Line}
@@ -15,10 +15,12 @@ pub returns-in_err-name : goal.returns-in_err-name
 returns-in_err-name c =
     let unnamed = not_named (is_name c.args.first.now) c.args.first.now c.in_err-name.ensures in
     let not_in : bytes_eq c.args.word.now (codes "in") ≡ false = cc in
-    rw (c.from_residual.ensures, not_in, unnamed) (none_said (bytes_eq c.args.word.now (codes "raw")) (bytes_eq c.args.word.now (codes "key")) (bytes_eq c.args.word.now (codes "script")))
+    let not_forge : bytes_eq c.args.word.now (codes "forge") ≡ false = cc in
+    rw (c.from_residual.ensures, not_in, not_forge, unnamed) (none_said (bytes_eq c.args.word.now (codes "raw")) (bytes_eq c.args.word.now (codes "key")) (bytes_eq c.args.word.now (codes "script")))
 
 pub returns-in_err-digits : goal.returns-in_err-digits
 returns-in_err-digits c =
     let named = is_named (is_name c.args.first.now) c.args.first.now c.in_ok-name.name.text.now c.in_ok-name.ensures in
     let not_in : bytes_eq c.args.word.now (codes "in") ≡ false = cc in
-    rw (c.from_residual-in_err-digits.ensures, not_in, named.0, ← c.in_err-digits.ensures) (none_said (bytes_eq c.args.word.now (codes "raw")) (bytes_eq c.args.word.now (codes "key")) (bytes_eq c.args.word.now (codes "script")))
+    let not_forge : bytes_eq c.args.word.now (codes "forge") ≡ false = cc in
+    rw (c.from_residual-in_err-digits.ensures, not_in, not_forge, named.0, ← c.in_err-digits.ensures) (none_said (bytes_eq c.args.word.now (codes "raw")) (bytes_eq c.args.word.now (codes "key")) (bytes_eq c.args.word.now (codes "script")))

@@ -28,6 +28,7 @@ returns c = λ names named.
             known = record { network = named.known.network; of_keys = named.known.of_keys; of_scripts = named.known.of_scripts; of_txs = named.known.of_txs };
             of_bytes = named.of_bytes;
             of_followers = named.of_followers;
+            printed = named.printed;
             making = (made, refl, record { name = sym c.in_ok-from_slice.ensures.items; line = refl; stands = c.new.ensures });
             free = free_name names made empty_draft free;
           };

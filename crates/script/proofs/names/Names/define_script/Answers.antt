@@ -51,6 +51,7 @@ returns c = λ names named.
             };
             of_bytes = named.of_bytes;
             of_followers = named.of_followers;
+            printed = named.printed;
             making = named.making;
             free = named.free;
           };

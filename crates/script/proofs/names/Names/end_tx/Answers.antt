@@ -2,6 +2,7 @@ use Rattle.std.proofs.Common.{◌≡◌, ◌∙◌, ◌∷◌, [], ◌++◌, ℕ
 use Rattle.model.specs.Cbor.{text_of}
 use Rattle.model.specs.Transaction.{item_of_transaction}
 use Rattle.script.specs.KnownView.{IsTable}
+use Rattle.script.specs.TxNamesView.{AreTxsNamed}
 use Rattle.script.specs.Meaning.{Defines, Finishes}
 use Rattle.script.specs.Names.{bound_to}
 use Rattle.script.proofs.Definitions.{opened}
@@ -13,6 +14,7 @@ returns c = λ names named made is.
     let tx = c.in_ok-tx.tx in
     let free : bound_to c.in-Some.open.name.items names.of_txs ≡ None = subst (λ (n : List ℕ). bound_to n names.of_txs ≡ None) making.name (named.free made is) in
     let table = c.in_ok-bind.ensures names.of_txs named.known.of_txs free in
+    let printed = c.in_ok-name_tx.ensures names.of_txs tx named.printed c.id.ensures.is in
     record {
       meaning = Defines (Finishes made);
       is_meant = refl;
@@ -31,6 +33,7 @@ returns c = λ names named made is.
             };
             of_bytes = named.of_bytes;
             of_followers = named.of_followers;
+            printed = subst (λ (n : List ℕ). AreTxsNamed c.name_tx.new.self (names.of_txs ++ record { name = n; bound = tx } ∷ [])) (c.deref.ensures.value ∙ sym making.name) printed;
             making = rw c.take.ensures.after refl;
             free = λ other none. cc;
           };

@@ -1,4 +1,4 @@
-use Rattle.std.proofs.Common.{◌≡◌, true, false, refl}
+use Rattle.std.proofs.Common.{◌≡◌, true, refl}
 use Rattle.std.specs.Prelude.{bytes_eq, codes}
 use Rattle.script.specs.Text.{is_name}
 use Rattle.script.proofs.WordLists.{is_named, not_named}
