@@ -1,0 +1,11 @@
+use Rattle.inbox.proofs.Moves.{tells, hears, compares}
+use Rattle.inbox.proofs.telling.compare.Goals as goal
+
+pub another-note-requires-clause-rule : goal.another-note-requires-clause-rule
+another-note-requires-clause-rule g c = tells _ _
+
+pub absorb-requires-clause-rule : goal.absorb-requires-clause-rule
+absorb-requires-clause-rule g c = hears _ _ _ _
+
+pub learn_as-requires-clause-rule : goal.learn_as-requires-clause-rule
+learn_as-requires-clause-rule g c = compares _ _
