@@ -54,7 +54,7 @@ struct Arrivals {
 }
 
 /// Puts the text of a block without transactions behind the others, and answers its hash.
-fn put_block(
+pub fn put_block(
     alloc: Global,
     texts: &mut Vec<Vec<u8>>,
     number: u64,
@@ -67,7 +67,7 @@ fn put_block(
 }
 
 /// Puts a chain of so many blocks behind the others, its first block first.
-fn put_chain(alloc: Global, texts: &mut Vec<Vec<u8>>, blocks: u64) -> Option<()> {
+pub fn put_chain(alloc: Global, texts: &mut Vec<Vec<u8>>, blocks: u64) -> Option<()> {
     let mut previous = None;
     for index in 0..blocks {
         let number = index.saturating_add(1);
@@ -158,13 +158,13 @@ impl Case {
 }
 
 /// A core that nothing has come to.
-fn open(alloc: Global) -> Option<Core<TestScheme>> {
+pub fn open(alloc: Global) -> Option<Core<TestScheme>> {
     let genesis = Genesis::from_toml(alloc, NETWORK).ok()?;
     Core::new(alloc, genesis).ok()
 }
 
 /// Has blocks arrive, and answers whether all were kept.
-fn are_kept(core: &mut Core<TestScheme>, texts: &[Vec<u8>]) -> bool {
+pub fn are_kept(core: &mut Core<TestScheme>, texts: &[Vec<u8>]) -> bool {
     for text in texts {
         match core.arrive(text) {
             Ok(ArriveReply::Kept { .. }) => {}

@@ -4,6 +4,7 @@
 
 mod arrivals;
 mod blocks;
+mod following;
 mod heights;
 mod keys;
 mod ledger_states;
@@ -24,6 +25,7 @@ fn main(rt: HostRuntime) -> io::Result<()> {
             "ledger" => return ledger_states::measure(&rt),
             "scripts" => return scripts::measure(&rt),
             "arrivals" => return arrivals::measure(&rt),
+            "followers" => return following::measure(&rt),
             "pools" => {
                 let measured = pools::measure(&rt, rt.alloc(), Telling::Times)?;
                 return pools::print(&rt, Telling::Times, measured);
@@ -41,6 +43,6 @@ fn main(rt: HostRuntime) -> io::Result<()> {
     heights::print(&rt, Telling::Names, heights::measure(&rt, rt.alloc())?)?;
     println!(rt;
         "to measure: bench persistent_map, bench blocks, bench ledger, bench scripts, bench pools, \
-bench heights, bench arrivals"
+bench heights, bench arrivals, bench followers"
     )
 }

@@ -1,5 +1,5 @@
 -- An arrival, from what its parts promise.
-use Rattle.std.proofs.Common.{◌≡◌, ◌≢◌, ℕ, List, [], ◌∷◌, Contains, Option, Some, None, Result, Ok, Err, refl, sym, ap, subst, ◌∙◌, inl, inr}
+use Rattle.std.proofs.Common.{◌≡◌, ◌≢◌, ℕ, ◌-◌, length, arith, List, [], ◌∷◌, Contains, Option, Some, None, Result, Ok, Err, refl, sym, ap, subst, ◌∙◌, inl, inr}
 use Rattle.std.specs.List.{AllByRecursion}
 use Rattle.std.proofs.lemmas.Bool.{cases_lt}
 use Rattle.std.proofs.lemmas.List.{length-map}
@@ -10,7 +10,9 @@ use Rattle.model.specs.Ledger.{Network, network_of}
 use Rattle.model.specs.Chain.{IsSelection, Stays, Changes, immutable_length}
 use Rattle.model.specs.Transaction.{Transaction}
 use Rattle.model.specs.Mempool.{Submits, revalidated}
-use Rattle.model.specs.Follower.{Followers}
+use Rattle.followers.specs.Places.{Places, moved_places}
+use Rattle.followers.specs.Standing.{ArePlacesOf}
+use Rattle.followers.proofs.ForCallers.{the_lengths}
 use Rattle.model.specs.History.{State, Refusal, TooOld, Known, Clash, Applies, Arrive, Submit, Kept, Refused, IsChange, Keeps, Step}
 use Rattle.model.proofs.Lists.{all_from_members, all_weaker, contains_later}
 use Rattle.std.specs.Prelude.{IfOk, OnErr}
@@ -52,7 +54,7 @@ is_ready network a b bytes whole read judged =
 
 -- ---- steps of each state that the core stands for
 
-pub state_of : {S : Type 0} (genesis : Genesis) (a : ChainDb S) (followers : Followers) (s : State) → Stands (held_of genesis (blocks_of a.store) a.chain.items a.mempool.waiting.txs followers) s → HasState genesis a s
+pub state_of : {S : Type 0} (genesis : Genesis) (a : ChainDb S) (followers : Places) (s : State) → Stands (held_of genesis (blocks_of a.store) a.chain.items a.mempool.waiting.txs followers) s → HasState genesis a s
 state_of genesis a followers s stands = record {
   chain = stands.chain;
   live = record { members = stands.members; count = sym (length-map a.store.blocks (λ (x : Stored). x.block)) ∙ stands.count };
@@ -63,14 +65,14 @@ abbrev pub IsJudgedAt : {S : Type 0} → Genesis → ChainDb S → Block → Opt
 IsJudgedAt genesis a b answer = (s : State) → HasState genesis a s → IsJudged genesis s b answer
 
 -- a refusal
-pub refused_arrival : {S : Type 0} (network : Network) (a : ChainDb S) (followers : Followers) (now : Held) (bytes : List ℕ) (b : Block) (r : Refusal) → held_of network.genesis (blocks_of a.store) a.chain.items a.mempool.waiting.txs followers ≡ now → IsRead b bytes
+pub refused_arrival : {S : Type 0} (network : Network) (a : ChainDb S) (followers : Places) (now : Held) (bytes : List ℕ) (b : Block) (r : Refusal) → held_of network.genesis (blocks_of a.store) a.chain.items a.mempool.waiting.txs followers ≡ now → IsRead b bytes
     → IsJudgedAt network.genesis a b (Some r) → (s : State) → Stands now s → (t : State) × Step (network_of now.genesis network.verifies) s (Arrive bytes) (Refused r) t × Stands now t
 refused_arrival network a followers now bytes b r view read judged =
     subst (λ (h : Held). (s : State) → Stands h s → (t : State) × Step (network_of h.genesis network.verifies) s (Arrive bytes) (Refused r) t × Stands h t) view
     (λ s stands. (s, (judged s (state_of network.genesis a followers s stands) bytes read, refl), stands))
 
 -- where none is told, none applies
-pub none_applies : {S : Type 0} (genesis : Genesis) (a : ChainDb S) (followers : Followers) (now : Held) (bytes : List ℕ) (b : Block) → held_of genesis (blocks_of a.store) a.chain.items a.mempool.waiting.txs followers ≡ now → IsRead b bytes → IsJudgedAt genesis a b None
+pub none_applies : {S : Type 0} (genesis : Genesis) (a : ChainDb S) (followers : Places) (now : Held) (bytes : List ℕ) (b : Block) → held_of genesis (blocks_of a.store) a.chain.items a.mempool.waiting.txs followers ≡ now → IsRead b bytes → IsJudgedAt genesis a b None
     → (s : State) → Stands now s → (r : Refusal) → Applies now.genesis s bytes r → ⊥
 none_applies genesis a followers now bytes b view read judged =
     subst (λ (h : Held). (s : State) → Stands h s → (r : Refusal) → Applies h.genesis s bytes r → ⊥) view (λ s stands. judged s (state_of genesis a followers s stands) bytes read)
@@ -80,28 +82,32 @@ selection_members network kept old new members (Stays none) = members
 selection_members network kept old new members (Changes c chosen) = chosen.candidate.members
 
 -- a block that is kept
-pub kept_arrival : {S : Type 0} (network : Network) (old new : ChainDb S) (followers : Followers) (now : Held) (bytes : List ℕ) (b : Block) (told : Change) → held_of network.genesis (blocks_of old.store) old.chain.items old.mempool.waiting.txs followers ≡ now → IsRead b bytes
-    → IsJudgedAt network.genesis old b None → IsAdded network old b new told
-    → (s : State) → Stands now s → (t : State) × Step (network_of now.genesis network.verifies) s (Arrive bytes) (Kept told.back told.added) t × Stands (held_of network.genesis (blocks_of new.store) new.chain.items new.mempool.waiting.txs followers) t
-kept_arrival {S} network old new followers now bytes b told view read judged added =
-    subst (λ (h : Held). (s : State) → Stands h s → (t : State) × Step (network_of h.genesis network.verifies) s (Arrive bytes) (Kept told.back told.added) t × Stands (held_of network.genesis (blocks_of new.store) new.chain.items new.mempool.waiting.txs followers) t) view each
+pub kept_arrival : {S : Type 0} (network : Network) (old new : ChainDb S) (followers moved : Places) (now : Held) (bytes : List ℕ) (b : Block) (told : Change) → held_of network.genesis (blocks_of old.store) old.chain.items old.mempool.waiting.txs followers ≡ now → IsRead b bytes
+    → IsJudgedAt network.genesis old b None → IsAdded network old b new told → moved ≡ moved_places (length new.chain.items - told.added) followers
+    → (s : State) → Stands now s → (t : State) × Step (network_of now.genesis network.verifies) s (Arrive bytes) (Kept told.back told.added) t × Stands (held_of network.genesis (blocks_of new.store) new.chain.items new.mempool.waiting.txs moved) t
+kept_arrival {S} network old new followers moved now bytes b told view read judged added moves =
+    subst (λ (h : Held). (s : State) → Stands h s → (t : State) × Step (network_of h.genesis network.verifies) s (Arrive bytes) (Kept told.back told.added) t × Stands (held_of network.genesis (blocks_of new.store) new.chain.items new.mempool.waiting.txs moved) t) view each
   where
     each : (s : State) → Stands (held_of network.genesis (blocks_of old.store) old.chain.items old.mempool.waiting.txs followers) s
-        → (t : State) × Keeps network s bytes told.back told.added t × Stands (held_of network.genesis (blocks_of new.store) new.chain.items new.mempool.waiting.txs followers) t
+        → (t : State) × Keeps network s bytes told.back told.added t × Stands (held_of network.genesis (blocks_of new.store) new.chain.items new.mempool.waiting.txs moved) t
     each s stands =
         let has = state_of network.genesis old followers s stands in
         let live : HoldsLive network.genesis s.kept old.chain.items old.store = subst (λ (c : List Block). HoldsLive network.genesis s.kept c old.store) (sym has.chain) has.live in
         let after = added.live s.kept live in
         let in_old : AllByRecursion (Contains s.kept) old.chain.items = subst (AllByRecursion (Contains s.kept)) (sym stands.chain) stands.chain_kept in
         let in_both = all_weaker (Contains s.kept) (Contains (b ∷ s.kept)) old.chain.items (λ c member. contains_later b s.kept c member) in_old in
-        let selection : IsSelection network (b ∷ s.kept) old.chain.items new.chain.items = added.selected s.kept live in_old in (
-          record { kept = b ∷ s.kept; chain = new.chain.items; mempool = new.mempool.waiting.txs; followers = s.followers },
+        let selection : IsSelection network (b ∷ s.kept) old.chain.items new.chain.items = added.selected s.kept live in_old in
+        let change = added.change in
+        let common : change.common ≡ length new.chain.items - told.added = let put_on = change.put_on in omega arith in
+        let gs = the_lengths.moved old.chain.items new.chain.items change.common followers s.followers change.is_common stands.followers in
+        let places : moved_places change.common followers ≡ moved = ap (λ n. moved_places n followers) common ∙ sym moves in (
+          record { kept = b ∷ s.kept; chain = new.chain.items; mempool = new.mempool.waiting.txs; followers = gs.0 },
           record {
             block = b;
             read = read.read;
             not_refused = judged s has bytes read;
             kept = refl;
-            followers = refl;
+            followers = gs.1;
             mempool = added.mempool ∙ ap (revalidated network new.chain.items) stands.mempool;
             selection = subst (λ (c : List Block). IsSelection network (b ∷ s.kept) c new.chain.items) stands.chain selection;
             change = subst (λ (c : List Block). IsChange c new.chain.items told.back told.added) stands.chain added.change;
@@ -109,7 +115,7 @@ kept_arrival {S} network old new followers now bytes b told view read judged add
           record {
             chain = refl;
             mempool = refl;
-            followers = stands.followers;
+            followers = subst (λ (p : Places). ArePlacesOf new.chain.items p gs.0) places gs.2;
             members = after.members;
             count = length-map new.store.blocks (λ (x : Stored). x.block) ∙ after.count;
             chain_kept = selection_members network (b ∷ s.kept) old.chain.items new.chain.items in_both selection;
@@ -119,12 +125,12 @@ kept_arrival {S} network old new followers now bytes b told view read judged add
 -- ---- a submission
 
 -- bytes that are submitted, and what they leave
-abbrev pub SubmitSteps : {S : Type 0} → Network → ChainDb S → Followers → List ℕ → Held → Result SubmitReply AllocError → Type 0
+abbrev pub SubmitSteps : {S : Type 0} → Network → ChainDb S → Places → List ℕ → Held → Result SubmitReply AllocError → Type 0
 SubmitSteps network new followers bytes now result = (s : State) → Stands now s
     → (t : State) × Step (network_of now.genesis network.verifies) s (Submit bytes) (submit_reply_of result) t
     × Stands (held_of network.genesis (blocks_of new.store) new.chain.items new.mempool.waiting.txs followers) t
 
-pub submitted : {S : Type 0} (network : Network) (old new : ChainDb S) (followers : Followers) (now : Held) (bytes : List ℕ) (result : Result SubmitReply AllocError) → held_of network.genesis (blocks_of old.store) old.chain.items old.mempool.waiting.txs followers ≡ now → IsWhole network old
+pub submitted : {S : Type 0} (network : Network) (old new : ChainDb S) (followers : Places) (now : Held) (bytes : List ℕ) (result : Result SubmitReply AllocError) → held_of network.genesis (blocks_of old.store) old.chain.items old.mempool.waiting.txs followers ≡ now → IsWhole network old
     → IfOk result (λ reply. (genesis : Genesis) → IsWhole (network_of genesis network.verifies) old → IsTaken (network_of genesis network.verifies) old bytes (answer_of reply) new) → new.chain ≡ old.chain → new.store ≡ old.store → OnErr result (new.mempool ≡ old.mempool)
     → SubmitSteps network new followers bytes now result
 submitted {S} network old new followers now bytes (Err e) view whole ok chain store err =

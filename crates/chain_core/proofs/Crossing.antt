@@ -9,6 +9,7 @@ use Rattle.mempool.proofs.ForCallers.{Mempool-send}
 use Rattle.mempool.proofs.reply.SubmitReply.TheSendSync as submitted
 use Rattle.utxo_rules.proofs.params.Params.TheSendSync as params
 use Rattle.genesis.proofs.genesis.Genesis.TheSendSync as genesis
+use Rattle.followers.proofs.followers.Followers.TheSendSync as followers
 use Rattle.ledger.proofs.tip.Tip.TheSendSync as tip
 use Rattle.ledger.specs.contracts.ledger_state.LedgerState as LedgerState
 use Rattle.ledgerdb.specs.contracts.ledger_db.LedgerDb as LedgerDb
@@ -51,6 +52,7 @@ module _ (S : RattleType) (scheme : Ghosts S.Denot) where
       let b = CheckedBlock-send S scheme in
       let d = chain_db_send in
       let g = genesis.the_send in
+      let f = followers.the_send in
       search (crosses, sendable) depth 20
 
   instruction_send : IsSend (Instruction.the_field S scheme).row

@@ -1,109 +1,218 @@
 -- The calls of followers are steps of every state that the core stands for.
-use Rattle.std.proofs.Common.{◌≡◌, ℕ, ◌<◌, ◌≤◌, List, [], ◌∷◌, ◌++◌, length, Option, Some, Result, Ok, Err, refl, sym, ap, subst, ◌∙◌}
-use Rattle.std.specs.Prelude.{IfOk, IfErr, OnErr, slice_set}
-use Rattle.std.specs.Global.{Vec}
+use Rattle.std.proofs.Common.{◌≡◌, ℕ, zero, suc, ◌<◌, ◌≤◌, Bool, true, false, List, [], ◌∷◌, length, take, map, Option, Some, None, Result, Ok, Err, refl, sym, ap, subst, ◌∙◌, inl, inr, ◌⊎◌, arith}
+use Rattle.std.specs.Prelude.{IfOk, IfErr, OnErr, OnOk, IsErrAnd, IsTrue, ◌↔◌, slice_set, slice_get, option_map, nat_lt, if◌then◌else◌}
+use Rattle.std.proofs.lemmas.Bool.{cases_lt, ltb-true, ltb-false}
+use Rattle.std.proofs.lemmas.List.{take_all, length-take-le}
 use Rattle.model.specs.Signature.{Verifies}
 use Rattle.model.specs.Genesis.{Genesis}
 use Rattle.model.specs.Ledger.{network_of}
 use Rattle.model.specs.Block.{Block}
+use Rattle.model.specs.Chain.{Point as Place', genesis_tip, tip_after, tip_point, IsLinked}
 use Rattle.model.specs.Transaction.{Transaction}
 use Rattle.model.specs.Limits.{follower_limit}
-use Rattle.model.specs.Follower.{Followers, told_by, free_id, with_opened, MayBeTold}
-use Rattle.model.specs.History.{State, Open, Next, Step, Opens, Instructs}
-use Rattle.chain_core.specs.declared.follower.FollowerId.{FollowerId}
+use Rattle.model.specs.Follower.{Followers, follower_of, free_id, with_first_free, with_opened, standing_at, IsFirstOn, IsOn}
+use Rattle.model.specs.History.{State, Open, Next, Forward, Close, Step, HasDue}
+use Rattle.model.proofs.Chains.{tip_number}
+use Rattle.ident.specs.PointView.{point_of}
+use Rattle.ident.specs.declared.point.Point.{Point}
+use Rattle.followers.specs.declared.follower_id.FollowerId.{FollowerId}
+use Rattle.followers.specs.declared.fault.OpenFault.{OpenFault}
+use Rattle.followers.specs.declared.fault.OpenFault.TheVariants as open'
+use Rattle.followers.specs.declared.fault.UnknownFollower.{UnknownFollower}
+use Rattle.followers.specs.declared.place.Place.{Place}
+use Rattle.followers.specs.declared.place.Step as code
+use Rattle.followers.specs.declared.place.Step.TheVariants.{Add, RollBack}
+use Rattle.followers.specs.Places.{Places, standing, step_of, stepped_place}
+use Rattle.followers.specs.Calls.{IsOpened, IsOpenFault, IsStepped, IsForwarded, IsClosed}
+use Rattle.followers.specs.Standing.{ArePlacesOf, IsStepOf}
+use Rattle.followers.proofs.ForCallers.{the_lengths}
 use Rattle.chain_core.specs.declared.follower.Instruction.{Instruction}
-use Rattle.chain_core.specs.declared.follower.OpenFault.{OpenFault}
-use Rattle.chain_core.specs.declared.follower.OpenFault.TheVariants as open'
 use Rattle.chain_core.specs.declared.follower.NextFault.{NextFault}
 use Rattle.chain_core.specs.declared.follower.NextFault.TheVariants as next
-use Rattle.chain_core.specs.Views.{open_reply_of, next_reply_of}
-use Rattle.chain_core.specs.Views.{instruction_of, followers_of}
-use Rattle.chain_core.specs.FollowerCalls.{IsOpenFault, IsNextFault, IsTold, HasDue, IsNextFor}
+use Rattle.chain_core.specs.Views.{open_reply_of, next_reply_of, forward_reply_of, close_reply_of, instruction_of}
+use Rattle.chain_core.specs.FollowerCalls.{IsWantAtOpening, IsWantAtNext}
 use Rattle.chain_core.specs.Held.{Held, Stands, held_of}
-use Rattle.chain_core.proofs.ToldChains.{free_at, opened_at, nobody_at}
 
--- the state with other followers
-abbrev pub following : State → Followers → State
-following s followers = record { kept = s.kept; chain = s.chain; mempool = s.mempool; followers = followers }
+some_same : {X : Type 0} (x y : X) → Some x ≡ Some y → x ≡ y
+some_same x y e = cc
 
--- what stands for a state stands for it with other followers, once it has these
-stands_following : (genesis : Genesis) (live chain : List Block) (txs : List Transaction) (old new : Followers) (s : State) → Stands (held_of genesis live chain txs old) s → Stands (held_of genesis live chain txs new) (following s new)
-stands_following genesis live chain txs old new s stands = record { chain = stands.chain; mempool = stands.mempool; followers = refl; members = stands.members; count = stands.count; chain_kept = stands.chain_kept }
+there_is : {X : Type 0} (xs : List X) (i : ℕ) → i < length xs → (x : X) × (slice_get xs i ≡ Some x)
+there_is [] i below = absurd (omega arith)
+there_is (x ∷ xs) zero below = (x, refl)
+there_is (x ∷ xs) (suc i) below = there_is xs i (omega arith)
 
--- the followers stay
-stands_still : (genesis : Genesis) (live chain : List Block) (txs : List Transaction) (old new : Followers) (s : State) → new ≡ old → Stands (held_of genesis live chain txs old) s → Stands (held_of genesis live chain txs new) s
-stands_still genesis live chain txs old new s same stands = subst (λ (fs : Followers). Stands (held_of genesis live chain txs fs) s) (sym same) stands
+-- what the test says of a follower that is open, and of one that isn't
+pub one_open : (places : Places) (id : ℕ) (answer : Bool) → IsTrue answer ↔ ((place : Place) × (follower_of places id ≡ Some place)) → answer ≡ true → (place : Place) × (follower_of places id ≡ Some place)
+one_open places id answer says is = says.0 is
 
--- what is answered to an opening, and what it leaves
-abbrev pub OpenSteps : Verifies → Genesis → List Block → List Block → List Transaction → List (Vec Block) → Held → Result FollowerId OpenFault → Type 0
-OpenSteps verifies genesis live chain txs new now result = (s : State) → Stands now s → (t : State) × Step (network_of now.genesis verifies) s Open (open_reply_of result) t × Stands (held_of genesis live chain txs (followers_of new)) t
+pub none_open : (places : Places) (id : ℕ) (answer : Bool) → IsTrue answer ↔ ((place : Place) × (follower_of places id ≡ Some place)) → answer ≡ false → follower_of places id ≡ None
+none_open places id true says is = absurd (let e : true ≡ false = is in cc)
+none_open places id false says is = by_place (follower_of places id) refl
+  where
+    by_place : (o : Option Place) → follower_of places id ≡ o → follower_of places id ≡ None
+    by_place None none = none
+    by_place (Some place) some = absurd (let e : false ≡ true = says.1 (place, some) in cc)
 
-opens : (genesis : Genesis) (live chain : List Block) (txs : List Transaction) (old new : List (Vec Block)) (id : FollowerId) → id.number ≡ length old → id.number < follower_limit → followers_of new ≡ followers_of old ++ Some [] ∷ []
-    → (s : State) → Stands (held_of genesis live chain txs (followers_of old)) s → (t : State) × Opens s id.number t × Stands (held_of genesis live chain txs (followers_of new)) t
-opens genesis live chain txs old new id is room pushed s stands =
-    let becomes : followers_of new ≡ with_opened s.followers = pushed ∙ (sym (opened_at old) ∙ ap with_opened stands.followers) in (
-      following s (with_opened s.followers),
-      record { is_free = is ∙ (sym (free_at old) ∙ ap free_id stands.followers); room = room; after = refl },
-      subst (λ (fs : Followers). Stands (held_of genesis live chain txs (followers_of new)) (following s fs)) becomes (stands_following genesis live chain txs (followers_of old) (followers_of new) s stands),
-    )
+module _ (verifies : Verifies) (genesis : Genesis) (live chain : List Block) (txs : List Transaction) where
+  -- what stands for a state stands for it with other followers, once these stand there
+  followed : (old new : Places) (s : State) (gs : Followers) → Stands (held_of genesis live chain txs old) s → ArePlacesOf s.chain new gs → Stands (held_of genesis live chain txs new) (record s { followers = gs })
+  followed old new s gs stands are = record {
+    chain = stands.chain;
+    mempool = stands.mempool;
+    followers = subst (λ (c : List Block). ArePlacesOf c new gs) (sym stands.chain) are;
+    members = stands.members;
+    count = stands.count;
+    chain_kept = stands.chain_kept;
+  }
 
-pub opened : (verifies : Verifies) (genesis : Genesis) (live chain : List Block) (txs : List Transaction) (old new : List (Vec Block)) (now : Held) (result : Result FollowerId OpenFault) → held_of genesis live chain txs (followers_of old) ≡ now
-    → IfOk result (λ id. (id.number ≡ length old) × (id.number < follower_limit) × (followers_of new ≡ followers_of old ++ Some [] ∷ [])) → IfErr result (IsOpenFault old) → OnErr result (new ≡ old)
-    → OpenSteps verifies genesis live chain txs new now result
-opened verifies genesis live chain txs old new now (Ok id) view ok fault err = subst (λ (h : Held). OpenSteps verifies genesis live chain txs new h (Ok id)) view (opens genesis live chain txs old new id ok.0 ok.1 ok.2)
-opened verifies genesis live chain txs old new now (Err open'.TooManyFollowers) view ok fault err = subst (λ (h : Held). OpenSteps verifies genesis live chain txs new h (Err open'.TooManyFollowers)) view
-    (λ s stands. (s, (subst (λ (n : ℕ). follower_limit ≤ n) (sym (free_at old) ∙ ap free_id stands.followers) fault, refl), stands_still genesis live chain txs (followers_of old) (followers_of new) s (ap followers_of err) stands))
-opened verifies genesis live chain txs old new now (Err open'.OutOfMemory) view ok fault err = subst (λ (h : Held). OpenSteps verifies genesis live chain txs new h (Err open'.OutOfMemory)) view
-    (λ s stands. (s, refl, stands_still genesis live chain txs (followers_of old) (followers_of new) s (ap followers_of err) stands))
+  -- beside the chain of the state
+  beside : (places : Places) (s : State) → Stands (held_of genesis live chain txs places) s → ArePlacesOf s.chain places s.followers
+  beside places s stands = subst (λ (c : List Block). ArePlacesOf c places s.followers) stands.chain stands.followers
 
--- what a follower is answered, and what it leaves
-abbrev pub NextSteps : {S : Type 0} → Verifies → Genesis → List Block → List Block → List Transaction → List (Vec Block) → ℕ → Held → Result (Option (Instruction S)) NextFault → Type 0
-NextSteps verifies genesis live chain txs new id now result = (s : State) → Stands now s → (t : State) × Step (network_of now.genesis verifies) s (Next id) (next_reply_of result) t × Stands (held_of genesis live chain txs (followers_of new)) t
+  still : (old new : Places) (s : State) → new ≡ old → Stands (held_of genesis live chain txs old) s → Stands (held_of genesis live chain txs new) s
+  still old new s same stands = subst (λ (p : Places). Stands (held_of genesis live chain txs p) s) (sym same) stands
 
-instructs : {S : Type 0} (genesis : Genesis) (live chain : List Block) (txs : List Transaction) (old new : List (Vec Block)) (id : ℕ) (instruction : Option (Instruction S)) → IsTold chain old id (instruction_of instruction) new
-    → (s : State) → Stands (held_of genesis live chain txs (followers_of old)) s → (t : State) × Instructs s id (instruction_of instruction) t × Stands (held_of genesis live chain txs (followers_of new)) t
-instructs genesis live chain txs old new id instruction told s stands =
-    let becomes : followers_of new ≡ slice_set s.followers id (Some told.1) = told.4 ∙ ap (λ (fs : Followers). slice_set fs id (Some told.1)) stands.followers in (
-      following s (slice_set s.followers id (Some told.1)),
-      record {
-        before = told.0;
-        now = told.1;
-        open_before = ap (λ (fs : Followers). told_by fs id) (sym stands.followers) ∙ told.2;
-        told = subst (λ (c : List Block). MayBeTold c told.0 (instruction_of instruction) told.1) stands.chain told.3;
-        after = refl;
-      },
-      subst (λ (fs : Followers). Stands (held_of genesis live chain txs (followers_of new)) (following s fs)) becomes (stands_following genesis live chain txs (followers_of old) (followers_of new) s stands),
-    )
+  -- ---- a follower is opened
 
-pub told_on : {S : Type 0} (verifies : Verifies) (genesis : Genesis) (live chain shown : List Block) (txs : List Transaction) (old new : List (Vec Block)) (id : ℕ) (now : Held) (result : Result (Option (Instruction S)) NextFault) → held_of genesis live chain txs (followers_of old) ≡ now → shown ≡ chain
-    → IfOk result (λ instruction. IsTold shown old id (instruction_of instruction) new) → IfErr result (IsNextFault shown old id) → OnErr result (followers_of new ≡ followers_of old)
-    → NextSteps verifies genesis live chain txs new id now result
-told_on verifies genesis live chain shown txs old new id now (Ok instruction) view same ok fault err = subst (λ (h : Held). NextSteps verifies genesis live chain txs new id h (Ok instruction)) view
-    (instructs genesis live chain txs old new id instruction (subst (λ (c : List Block). IsTold c old id (instruction_of instruction) new) same ok))
-told_on {S} verifies genesis live chain shown txs old new id now (Err next.UnknownFollower) view same ok fault err = subst (λ (h : Held). NextSteps {S = S} verifies genesis live chain txs new id h (Err next.UnknownFollower)) view
-    (λ s stands. (s, (ap (λ (fs : Followers). told_by fs id) (sym stands.followers) ∙ nobody_at old id fault, refl), stands_still genesis live chain txs (followers_of old) (followers_of new) s err stands))
-told_on {S} verifies genesis live chain shown txs old new id now (Err next.OutOfMemory) view same ok fault err = subst (λ (h : Held). NextSteps {S = S} verifies genesis live chain txs new id h (Err next.OutOfMemory)) view
-    (λ s stands. (s, refl, stands_still genesis live chain txs (followers_of old) (followers_of new) s err stands))
+  abbrev pub OpenSteps : Places → Held → Result FollowerId OpenFault → Type 0
+  OpenSteps new now result = (s : State) → Stands now s → (t : State) × Step (network_of now.genesis verifies) s Open (open_reply_of result) t × Stands (held_of genesis live chain txs new) t
 
--- memory is asked for only where there is a free number
-pub free_at_want : (live chain : List Block) (txs : List Transaction) (genesis : Genesis) (followers : List (Vec Block)) (now : Held) (result : Result FollowerId OpenFault) → held_of genesis live chain txs (followers_of followers) ≡ now → IfErr result (IsOpenFault followers)
-    → IfErr result (λ e. e ≡ open'.OutOfMemory → free_id now.followers < follower_limit)
-free_at_want live chain txs genesis followers now (Ok id) view fault = tt
-free_at_want live chain txs genesis followers now (Err open'.TooManyFollowers) view fault = λ is. absurd cc
-free_at_want live chain txs genesis followers now (Err open'.OutOfMemory) view fault =
-    λ is. subst (λ (n : ℕ). n < follower_limit) (sym (free_at followers) ∙ ap (λ (h : Held). free_id h.followers) view) fault
+  pub opened : (old new : Places) (now : Held) (result : Result FollowerId OpenFault) → held_of genesis live chain txs old ≡ now → IfOk result (λ id. IsOpened old id.number new) → IfErr result (IsOpenFault old) → OnErr result (new ≡ old) → OpenSteps new now result
+  opened old new now (Ok id) view ok fault err = subst (λ (h : Held). OpenSteps new h (Ok id)) view (λ s stands.
+      let are = beside old s stands in (
+        record s { followers = with_opened s.followers },
+        record { is_free = ok.is_free ∙ sym (the_lengths.free s.chain old s.followers are); room = ok.room; after = refl },
+        followed old new s (with_opened s.followers) stands (subst (λ (p : Places). ArePlacesOf s.chain p (with_opened s.followers)) (sym ok.after) (the_lengths.opened s.chain old s.followers are)),
+      ))
+  opened old new now (Err open'.TooManyFollowers) view ok fault err = subst (λ (h : Held). OpenSteps new h (Err open'.TooManyFollowers)) view
+      (λ s stands. (s, (subst (λ n. follower_limit ≤ n) (sym (the_lengths.free s.chain old s.followers (beside old s stands))) fault, refl), still old new s err stands))
+  opened old new now (Err open'.OutOfMemory) view ok fault err = subst (λ (h : Held). OpenSteps new h (Err open'.OutOfMemory)) view (λ s stands. (s, refl, still old new s err stands))
 
--- nor is it where no block is due
-pub due_at_want : {S : Type 0} (live chain shown : List Block) (txs : List Transaction) (genesis : Genesis) (followers : List (Vec Block)) (id : ℕ) (now : Held) (result : Result (Option (Instruction S)) NextFault) → held_of genesis live chain txs (followers_of followers) ≡ now → shown ≡ chain
-    → IfErr result (IsNextFault shown followers id) → IfErr result (λ e. e ≡ next.OutOfMemory → HasDue now.chain now.followers id)
-due_at_want live chain shown txs genesis followers id now (Ok instruction) view same fault = tt
-due_at_want live chain shown txs genesis followers id now (Err next.UnknownFollower) view same fault = λ is. absurd cc
-due_at_want live chain shown txs genesis followers id now (Err next.OutOfMemory) view same fault =
-    λ is. subst (λ (h : Held). HasDue h.chain h.followers id) view (subst (λ (c : List Block). HasDue c (followers_of followers) id) same fault)
+  pub want_at_opening : (old : Places) (now : Held) (result : Result FollowerId OpenFault) → held_of genesis live chain txs old ≡ now → IfErr result (IsOpenFault old) → IfErr result (IsWantAtOpening now)
+  want_at_opening old now (Ok id) view fault = tt
+  want_at_opening old now (Err open'.TooManyFollowers) view fault = λ is. absurd cc
+  want_at_opening old now (Err open'.OutOfMemory) view fault = λ is. subst (λ (h : Held). free_id h.followers < follower_limit) view fault
 
--- the instruction is due for the follower of the core
-pub instructed : {S : Type 0} (live chain shown : List Block) (txs : List Transaction) (genesis : Genesis) (followers : List (Vec Block)) (id : ℕ) (now : Held) (result : Result (Option (Instruction S)) NextFault) → held_of genesis live chain txs (followers_of followers) ≡ now → shown ≡ chain
-    → IfOk result (λ instruction. IsNextFor shown (followers_of followers) id (instruction_of instruction)) → IfOk result (λ instruction. IsNextFor now.chain now.followers id (instruction_of instruction))
-instructed live chain shown txs genesis followers id now (Err e) view same is = tt
-instructed live chain shown txs genesis followers id now (Ok instruction) view same is =
-    subst (λ (h : Held). IsNextFor h.chain h.followers id (instruction_of instruction)) view (subst (λ (c : List Block). IsNextFor c (followers_of followers) id (instruction_of instruction)) same is)
+  -- ---- a follower is told what comes next
+
+  abbrev pub NextSteps : {S : Type 0} → Places → ℕ → Held → Result (Option (Instruction S)) NextFault → Type 0
+  NextSteps new id now result = (s : State) → Stands now s → (t : State) × Step (network_of now.genesis verifies) s (Next id) (next_reply_of result) t × Stands (held_of genesis live chain txs new) t
+
+  pub instructed : {S : Type 0} (old new : Places) (id : ℕ) (now : Held) (height : ℕ) (place : Place) (instruction : Option (Instruction S)) → held_of genesis live chain txs old ≡ now → height ≡ length chain → follower_of old id ≡ Some place
+      → IsStepOf chain (step_of height place) (instruction_of instruction) → new ≡ slice_set old id (Some (stepped_place height place)) → NextSteps new id now (Ok instruction)
+  instructed old new id now height place instruction view high open_at step after = subst (λ (h : Held). NextSteps new id h (Ok instruction)) view (λ s stands.
+      let are = beside old s stands in
+      let here : height ≡ length s.chain = high ∙ ap length stands.chain in
+      let step_here : IsStepOf s.chain (step_of (length s.chain) place) (instruction_of instruction) =
+      subst (λ n. IsStepOf s.chain (step_of n place) (instruction_of instruction)) here (subst (λ (c : List Block). IsStepOf c (step_of height place) (instruction_of instruction)) stands.chain step) in
+      let told = the_lengths.next s.chain old s.followers id place are open_at (instruction_of instruction) step_here in
+      let becomes : new ≡ slice_set old id (Some (stepped_place (length s.chain) place)) = after ∙ ap (λ n. slice_set old id (Some (stepped_place n place))) here in (
+        record s { followers = slice_set s.followers id (Some told.1) },
+        record { old = told.0; new = told.1; is_open = told.2; next = told.3; after = refl },
+        followed old new s (slice_set s.followers id (Some told.1)) stands (subst (λ (p : Places). ArePlacesOf s.chain p (slice_set s.followers id (Some told.1))) (sym becomes) told.4),
+      ))
+
+  -- from what the two calls on the follower's place say
+  pub instructed_by : {S : Type 0} (old new : Places) (id : ℕ) (now : Held) (height : ℕ) (shown : List Block) (step told : Option code.Step) (instruction : Option (Instruction S)) → held_of genesis live chain txs old ≡ now → height ≡ length now.chain → shown ≡ chain
+      → (place : Place) × (follower_of old id ≡ Some place) × (step ≡ step_of height place) → IsStepOf shown step (instruction_of instruction) → IsStepped old id height told new → NextSteps new id now (Ok instruction)
+  instructed_by old new id now height shown step told instruction view high same due is stepped =
+      let one : due.0 ≡ stepped.place = some_same due.0 stepped.place (sym due.1 ∙ stepped.is_open) in
+      instructed old new id now height stepped.place instruction view (high ∙ sym (ap (λ (h : Held). length h.chain) view)) stepped.is_open
+      (subst (λ (x : Option code.Step). IsStepOf chain x (instruction_of instruction)) (due.2 ∙ ap (step_of height) one) (subst (λ (c : List Block). IsStepOf c step (instruction_of instruction)) same is)) stepped.after
+
+  pub next_unknown : {S : Type 0} (old new : Places) (id : ℕ) (now : Held) (result : Result (Option (Instruction S)) NextFault) → held_of genesis live chain txs old ≡ now → IsErrAnd result (λ e. e ≡ next.UnknownFollower) → follower_of old id ≡ None → new ≡ old → NextSteps new id now result
+  next_unknown old new id now (Ok i) view is nobody same = absurd is
+  next_unknown {S} old new id now (Err e) view is nobody same = subst (λ (f : NextFault). NextSteps {S = S} new id now (Err f)) (sym is) (subst (λ (h : Held). NextSteps {S = S} new id h (Err next.UnknownFollower)) view
+      (λ s stands. (s, (the_lengths.nobody s.chain old s.followers id (beside old s stands) nobody, refl), still old new s same stands)))
+
+  -- memory is asked for only where a block comes next
+  add_is_due : (height : ℕ) (place : Place) (after : ℕ) (back more : Bool) → nat_lt place.agreed place.told ≡ back → nat_lt place.told height ≡ more
+      → (if back then Some (RollBack place.agreed) else if more then Some (Add place.told) else None) ≡ Some (Add after) → (place.told ≤ place.agreed) × (place.told < height)
+  add_is_due height place after true more back_is more_is is = absurd (let e : Some (RollBack place.agreed) ≡ Some (Add after) = is in cc)
+  add_is_due height place after false true back_is more_is is = (ltb-false place.agreed place.told back_is, ltb-true place.told height more_is)
+  add_is_due height place after false false back_is more_is is = absurd (let e : None ≡ Some (Add after) = is in cc)
+
+  pub want_at_next : {S : Type 0} (old : Places) (id : ℕ) (now : Held) (height : ℕ) (step : Option code.Step) (result : Result (Option (Instruction S)) NextFault) → held_of genesis live chain txs old ≡ now → height ≡ length now.chain
+      → (place : Place) × (follower_of old id ≡ Some place) × (step ≡ step_of height place) → (after : ℕ) × (step ≡ Some (Add after)) → IfErr result (IsWantAtNext now id)
+  want_at_next old id now height step (Ok i) view high due add = tt
+  want_at_next old id now height step (Err e) view high due add = λ is. subst (λ (h : Held). (s : State) → Stands h s → HasDue s id) view (λ s stands.
+      let place = due.0 in
+      let there = the_lengths.is_open s.chain old s.followers id place (beside old s stands) due.1 in
+      let tests = add_is_due height place add.0 (nat_lt place.agreed place.told) (nat_lt place.told height) refl refl (sym due.2 ∙ add.1) in
+      let long : height ≡ length s.chain = high ∙ (sym (ap (λ (h : Held). length h.chain) view) ∙ ap length stands.chain) in
+      let told = there.2.told in
+      let agreed : length there.0.agreed ≡ place.agreed = ap length there.2.agreed ∙ length-take-le place.agreed s.chain there.2.within in
+      let at : length there.0.told < length s.chain = let below = tests.1 in omega arith in
+      let b = there_is s.chain (length there.0.told) at in
+      (there.0, b.0, there.1, (let enough = tests.0 in omega arith, b.1)))
+
+  -- ---- a follower is set to a point
+
+  abbrev pub ForwardSteps : Places → ℕ → List Place' → Held → Result (Option Point) UnknownFollower → Type 0
+  ForwardSteps new id points now result = (s : State) → Stands now s → (t : State) × Step (network_of now.genesis verifies) s (Forward id points) (forward_reply_of result) t × Stands (held_of genesis live chain txs new) t
+
+  pub forward_unknown : (old new : Places) (id : ℕ) (points : List Place') (now : Held) (unknown : UnknownFollower) → held_of genesis live chain txs old ≡ now → follower_of old id ≡ None → new ≡ old → ForwardSteps new id points now (Err unknown)
+  forward_unknown old new id points now unknown view nobody same = subst (λ (h : Held). ForwardSteps new id points h (Err unknown)) view
+      (λ s stands. (s, (the_lengths.nobody s.chain old s.followers id (beside old s stands) nobody, refl), still old new s same stands))
+
+  pub forward_nowhere : (old new : Places) (id : ℕ) (points : List Place') (now : Held) (place : Place) → held_of genesis live chain txs old ≡ now → follower_of old id ≡ Some place → IsFirstOn chain points None → new ≡ old → ForwardSteps new id points now (Ok None)
+  forward_nowhere old new id points now place view open_at first same = subst (λ (h : Held). ForwardSteps new id points h (Ok None)) view (λ s stands.
+      let there = the_lengths.is_open s.chain old s.followers id place (beside old s stands) open_at in
+      (s, record { old = there.0; is_open = there.1; first = subst (λ (c : List Block). IsFirstOn c points None) stands.chain first; after = refl }, still old new s same stands))
+
+  first_is_on : (points : List Place') (found : Place') → IsFirstOn chain points (Some found) → IsOn chain found
+  first_is_on [] found first = absurd (let e : Some found ≡ None = first in cc)
+  first_is_on (p ∷ ps) found (inl here) = let same : found ≡ p = (let e : Some found ≡ Some p = here.1 in cc) in subst (IsOn chain) (sym same) here.0
+  first_is_on (p ∷ ps) found (inr later) = first_is_on ps found later.1
+
+  -- a point on a linked chain is at one of its blocks
+  on_within : (point : Place') → IsLinked genesis_tip chain → IsOn chain point → point.number ≤ length chain
+  on_within point linked is = elim (cases_lt (length chain) point.number) [
+    | inl past ↦
+        let whole : take point.number chain ≡ chain = take_all point.number chain (omega arith) in
+        let number : (tip_point chain).number ≡ point.number = ap (λ (p : Place'). p.number) (sym (ap tip_point whole) ∙ is) in
+        let count = tip_number genesis_tip chain linked in
+        absurd (omega arith)
+    | inr within ↦ within
+  ]
+
+  pub forwarded : (old new : Places) (id : ℕ) (points : List Place') (now : Held) (place : Place) (found : Point) → held_of genesis live chain txs old ≡ now → IsLinked genesis_tip chain → follower_of old id ≡ Some place → IsFirstOn chain points (Some (point_of found))
+      → new ≡ slice_set old id (Some (standing found.number)) → ForwardSteps new id points now (Ok (Some found))
+  forwarded old new id points now place found view linked open_at first after = subst (λ (h : Held). ForwardSteps new id points h (Ok (Some found))) view (λ s stands.
+      let are = beside old s stands in
+      let there = the_lengths.is_open s.chain old s.followers id place are open_at in
+      let within : found.number ≤ length s.chain = subst (λ (c : List Block). found.number ≤ length c) stands.chain (on_within (point_of found) linked (first_is_on points (point_of found) first)) in
+      let gs = slice_set s.followers id (Some (standing_at (take found.number s.chain))) in (
+        record s { followers = gs },
+        record { old = there.0; is_open = there.1; first = subst (λ (c : List Block). IsFirstOn c points (Some (point_of found))) stands.chain first; after = refl },
+        followed old new s gs stands (subst (λ (p : Places). ArePlacesOf s.chain p gs) (sym after) (the_lengths.forwarded s.chain old s.followers id found.number within are)),
+      ))
+
+  -- from what the search for the point says
+  pub forwarded_to : (old new : Places) (id : ℕ) (points : List Place') (now : Held) (shown : List Block) (point : Point) (result : Option Point) → held_of genesis live chain txs old ≡ now → IsLinked genesis_tip chain → shown ≡ chain
+      → IsFirstOn shown points (option_map point_of result) → result ≡ Some point → IsForwarded old id point.number new → ForwardSteps new id points now (Ok (Some point))
+  forwarded_to old new id points now shown point result view linked same first is ok =
+      forwarded old new id points now ok.place point view linked ok.is_open
+      (subst (λ (c : List Block). IsFirstOn c points (Some (point_of point))) same (subst (λ (r : Option Point). IsFirstOn shown points (option_map point_of r)) is first)) ok.after
+
+  pub forwarded_nowhere : (old new : Places) (id : ℕ) (points : List Place') (now : Held) (shown : List Block) (result : Option Point) → held_of genesis live chain txs old ≡ now → shown ≡ chain
+      → IsFirstOn shown points (option_map point_of result) → result ≡ None → (place : Place) × (follower_of old id ≡ Some place) → new ≡ old → ForwardSteps new id points now (Ok result)
+  forwarded_nowhere old new id points now shown result view same first is open_at stays =
+      subst (λ (r : Option Point). ForwardSteps new id points now (Ok r)) (sym is) (forward_nowhere old new id points now open_at.0 view open_at.1
+      (subst (λ (c : List Block). IsFirstOn c points None) same (subst (λ (r : Option Point). IsFirstOn shown points (option_map point_of r)) is first)) stays)
+
+  -- ---- a follower is closed
+
+  abbrev pub CloseSteps : Places → ℕ → Held → Result (Unit {0}) UnknownFollower → Type 0
+  CloseSteps new id now result = (s : State) → Stands now s → (t : State) × Step (network_of now.genesis verifies) s (Close id) (close_reply_of result) t × Stands (held_of genesis live chain txs new) t
+
+  pub closed : (old new : Places) (id : ℕ) (now : Held) (result : Result (Unit {0}) UnknownFollower) → held_of genesis live chain txs old ≡ now → OnOk result (IsClosed old id new) → OnErr result (follower_of old id ≡ None) → OnErr result (new ≡ old) → CloseSteps new id now result
+  closed old new id now (Ok done) view ok unknown err = subst (λ (h : Held). CloseSteps new id h (Ok done)) view (λ s stands.
+      let are = beside old s stands in
+      let there = the_lengths.is_open s.chain old s.followers id ok.place are ok.is_open in (
+        record s { followers = slice_set s.followers id None },
+        record { old = there.0; is_open = there.1; after = refl },
+        followed old new s (slice_set s.followers id None) stands (subst (λ (p : Places). ArePlacesOf s.chain p (slice_set s.followers id None)) (sym ok.after) (the_lengths.closed s.chain old s.followers id are)),
+      ))
+  closed old new id now (Err e) view ok unknown err = subst (λ (h : Held). CloseSteps new id h (Err e)) view
+      (λ s stands. (s, (the_lengths.nobody s.chain old s.followers id (beside old s stands) unknown, refl), still old new s err stands))

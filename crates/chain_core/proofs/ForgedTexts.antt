@@ -16,7 +16,7 @@ use Rattle.model.specs.Ledger.{Network, network_of}
 use Rattle.model.specs.Chain.{Tip, genesis_tip, tip_after, IsValidChain}
 use Rattle.model.specs.Applying.{LedgerState, IsStateOf}
 use Rattle.model.specs.Mempool.{picked, fits_in_a_block, nests_in_a_block}
-use Rattle.model.specs.Follower.{Followers}
+use Rattle.followers.specs.Places.{Places}
 use Rattle.model.specs.History.{State, live_of}
 use Rattle.model.specs.Forging.{ForgeFault, forge_fault_number, SlotNotAfterTip, OutOfRange, ForgeApplies, IsNotForged, IsForged, ArrivesNext, next_block}
 use Rattle.model.proofs.Lists.{all_of_member, all_from_members}
@@ -44,7 +44,7 @@ AreRead blocks = AllByRecursion (λ x. IsRead x.block (block_text x.block)) bloc
 -- ---- the state is ready for a block
 
 -- every state that the core stands for
-pub ready_for_one : {S : Type 0} (network : Network) (a : ChainDb S) (followers : Followers) (s : State) → IsWhole network a → AreRead a.store.blocks
+pub ready_for_one : {S : Type 0} (network : Network) (a : ChainDb S) (followers : Places) (s : State) → IsWhole network a → AreRead a.store.blocks
     → Stands (held_of network.genesis (blocks_of a.store) a.chain.items a.mempool.waiting.txs followers) s → IsReadyForOne network s
 ready_for_one network a followers s whole read stands =
     let has = state_of network.genesis a followers s stands in
@@ -66,7 +66,7 @@ ready_for_one network a followers s whole read stands =
     }
 
 -- so where the bytes arrive next the block is put on
-pub put_on_next : {S : Type 0} (network : Network) (a : ChainDb S) (followers : Followers) (now : Held) (slot : ℕ) (bytes : List ℕ) (point : Point) → IsGenesis network.genesis → IsWhole network a → AreRead a.store.blocks
+pub put_on_next : {S : Type 0} (network : Network) (a : ChainDb S) (followers : Places) (now : Held) (slot : ℕ) (bytes : List ℕ) (point : Point) → IsGenesis network.genesis → IsWhole network a → AreRead a.store.blocks
     → held_of network.genesis (blocks_of a.store) a.chain.items a.mempool.waiting.txs followers ≡ now → IsForgedAs network a.chain.items a.mempool.waiting.txs slot bytes point
     → (s : State) → Stands now s → (b : Block) → SpellsBlock b bytes → ArrivesNext (network_of now.genesis network.verifies) s b bytes
 put_on_next network a followers now slot bytes point genesis whole read view forged =

@@ -6,7 +6,8 @@ pub mod Refusals
 pub mod Arrivals
 pub mod Runs
 pub mod ForgedTexts
-pub mod ToldChains
+pub mod Results
+pub mod Points
 pub mod FollowerCalls
 pub mod Crossing
 pub mod ForCallers

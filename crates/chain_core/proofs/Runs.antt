@@ -13,7 +13,7 @@ use Rattle.chain_core.specs.Held.{Held, Stands, opening_held}
 
 -- a new core stands for the opening state
 pub opening_stands : (genesis : Genesis) → Stands (opening_held genesis) opening
-opening_stands genesis = record { chain = refl; mempool = refl; followers = refl; members = λ b. ((λ member. member), (λ member. member)); count = refl; chain_kept = tt }
+opening_stands genesis = record { chain = refl; mempool = refl; followers = tt; members = λ b. ((λ member. member), (λ member. member)); count = refl; chain_kept = tt }
 
 history_more : {S : Type 0} (es : List RawEvent) (rs : List (Reply S)) (e : RawEvent) (r : Reply S) → length es ≡ length rs → history_of (es ++ e ∷ []) (rs ++ r ∷ []) ≡ history_of es rs ++ record { event = event_of e; reply = reply_of r } ∷ []
 history_more [] [] e r long = refl

@@ -3,13 +3,12 @@ use Rattle.model.specs.Signature.{Verifies}
 use Rattle.model.specs.Ledger.{network_of}
 use Rattle.blockstore.specs.Stored.{blocks_of}
 use Rattle.chain_core.specs.declared.node_core.Core.TheInside.{Inside}
-use Rattle.chain_core.specs.Views.{followers_of}
 use Rattle.chain_core.specs.ChainDbs.{IsWhole}
 use Rattle.chain_core.specs.Held.{Held, held_of}
 
 abbrev pub held : {S : Type 0} → Inside S → Held
-held a = held_of a.genesis (blocks_of a.chain_db.store) a.chain_db.chain.items a.chain_db.mempool.waiting.txs
-    (followers_of a.followers.items)
+held a =
+    held_of a.genesis (blocks_of a.chain_db.store) a.chain_db.chain.items a.chain_db.mempool.waiting.txs a.followers
 
 -- the selected chain, the live blocks, the states and the mempool belong together
 pub record IsSoundInside {S : Type 0} (verifies : Verifies) (a : Inside S) : Type 0 where

@@ -8,7 +8,8 @@ use Rattle.mempool.specs.View.{reply_of as answer_of}
 use Rattle.mempool.specs.Texts.{submit_reply_text}
 use Rattle.chain_core.specs.declared.follower.Instruction.{Instruction}
 use Rattle.chain_core.specs.declared.follower.Instruction.TheVariants as instruction
-use Rattle.chain_core.specs.declared.follower.OpenFault.TheVariants as open'
+use Rattle.followers.specs.declared.fault.OpenFault.TheVariants as open'
+use Rattle.ident.specs.declared.point.Point.{Point}
 use Rattle.chain_core.specs.declared.follower.NextFault.TheVariants as next
 use Rattle.chain_core.specs.declared.event.Reply.{Reply}
 use Rattle.chain_core.specs.declared.event.Reply.TheVariants as reply
@@ -32,6 +33,9 @@ arrive_reply_text OutOfMemory = codes "out of memory"
 -- no arrival is answered otherwise
 arrive_reply_text other = []
 
+abbrev pub point_text : Point → List ℕ
+point_text point = decimal point.number ++ codes " " ++ encode_lower point.hash.bytes
+
 -- what a follower is told, with the hash of the block to put on, or the place to go back to
 abbrev pub instruction_text : {S : Type 0} → Instruction S → List ℕ
 instruction_text (instruction.AddBlock block) = codes "add " ++ encode_lower (block_hash_of block)
@@ -54,3 +58,8 @@ reply_text (reply.Open (Err open'.OutOfMemory)) = codes "out of memory"
 reply_text (reply.Next (Ok told)) = told_text told
 reply_text (reply.Next (Err next.UnknownFollower)) = codes "refused UnknownFollower"
 reply_text (reply.Next (Err next.OutOfMemory)) = codes "out of memory"
+reply_text (reply.Forward (Ok (Some point))) = point_text point
+reply_text (reply.Forward (Ok None)) = codes "none"
+reply_text (reply.Forward (Err unknown)) = codes "refused UnknownFollower"
+reply_text (reply.Close (Ok done)) = codes "closed"
+reply_text (reply.Close (Err unknown)) = codes "refused UnknownFollower"

@@ -1,11 +1,11 @@
 -- What the plain types of the code stand for: refusals, events and replies.
-use Rattle.std.specs.Prelude.{List, [], ◌∷◌, Option, Some, None, Result, Ok, Err, map}
-use Rattle.std.specs.Global.{Vec}
+use Rattle.std.specs.Prelude.{List, [], ◌∷◌, Option, Some, None, Result, Ok, Err, map, option_map}
 use Rattle.std.specs.declared.alloc.AllocError.{AllocError}
-use Rattle.model.specs.Block.{Block, block_text}
+use Rattle.model.specs.Block.{block_text}
 use Rattle.model.specs.Follower as follower
 use Rattle.model.specs.History as history
 use Rattle.ident.specs.PointView.{point_of}
+use Rattle.ident.specs.declared.point.Point.{Point}
 use Rattle.mempool.specs.View.{reply_of as answer_of}
 use Rattle.mempool.specs.declared.reply.SubmitReply.{SubmitReply}
 use Rattle.chain_core.specs.declared.arrival.Refusal.{Refusal}
@@ -13,11 +13,12 @@ use Rattle.chain_core.specs.declared.arrival.Refusal.TheVariants.{TooLarge, Malf
 use Rattle.chain_core.specs.declared.arrival.Refusal.TheVariants.{Clash, VolatileFull}
 use Rattle.chain_core.specs.declared.arrival.ArriveReply.{ArriveReply}
 use Rattle.chain_core.specs.declared.arrival.ArriveReply.TheVariants.{Kept, Refused}
-use Rattle.chain_core.specs.declared.follower.FollowerId.{FollowerId}
+use Rattle.followers.specs.declared.follower_id.FollowerId.{FollowerId}
+use Rattle.followers.specs.declared.fault.OpenFault.{OpenFault}
+use Rattle.followers.specs.declared.fault.OpenFault.TheVariants as open'
+use Rattle.followers.specs.declared.fault.UnknownFollower.{UnknownFollower}
 use Rattle.chain_core.specs.declared.follower.Instruction.{Instruction}
 use Rattle.chain_core.specs.declared.follower.Instruction.TheVariants as instruction
-use Rattle.chain_core.specs.declared.follower.OpenFault.{OpenFault}
-use Rattle.chain_core.specs.declared.follower.OpenFault.TheVariants as open'
 use Rattle.chain_core.specs.declared.follower.NextFault.{NextFault}
 use Rattle.chain_core.specs.declared.follower.NextFault.TheVariants as next
 use Rattle.chain_core.specs.declared.event.RawEvent.{RawEvent}
@@ -55,10 +56,6 @@ instruction_of None = follower.Stay
 instruction_of (Some (instruction.AddBlock block)) = follower.AddBlock (block_text block)
 instruction_of (Some (instruction.RollBack point)) = follower.RollBack (point_of point)
 
--- each follower is open
-abbrev pub followers_of : List (Vec Block) → follower.Followers
-followers_of followers = map (λ told. Some told.items) followers
-
 abbrev pub open_reply_of : Result FollowerId OpenFault → history.Reply
 open_reply_of (Ok id) = history.Opened id.number
 open_reply_of (Err open'.TooManyFollowers) = history.TooManyFollowers
@@ -69,6 +66,14 @@ next_reply_of (Ok instruction) = history.Instructed (instruction_of instruction)
 next_reply_of (Err next.UnknownFollower) = history.UnknownFollower
 next_reply_of (Err next.OutOfMemory) = history.OutOfMemory
 
+abbrev pub forward_reply_of : Result (Option Point) UnknownFollower → history.Reply
+forward_reply_of (Ok found) = history.Forwarded (option_map point_of found)
+forward_reply_of (Err unknown) = history.UnknownFollower
+
+abbrev pub close_reply_of : Result (Unit {0}) UnknownFollower → history.Reply
+close_reply_of (Ok done) = history.Closed
+close_reply_of (Err unknown) = history.UnknownFollower
+
 -- ---- events and replies
 
 abbrev pub event_of : RawEvent → history.Event
@@ -76,12 +81,16 @@ event_of (event.Arrive bytes) = history.Arrive bytes.items
 event_of (event.Submit bytes) = history.Submit bytes.items
 event_of event.Open = history.Open
 event_of (event.Next id) = history.Next id.number
+event_of (event.Forward id points) = history.Forward id.number (map point_of points.items)
+event_of (event.Close id) = history.Close id.number
 
 abbrev pub reply_of : {S : Type 0} → Reply S → history.Reply
 reply_of (reply.Arrive answer) = arrive_reply_of answer
 reply_of (reply.Submit answer) = submit_reply_of answer
 reply_of (reply.Open answer) = open_reply_of answer
 reply_of (reply.Next answer) = next_reply_of answer
+reply_of (reply.Forward answer) = forward_reply_of answer
+reply_of (reply.Close answer) = close_reply_of answer
 
 -- the reply is of the event's kind
 abbrev pub IsReplyTo : {S : Type 0} → RawEvent → Reply S → Type 0
@@ -89,6 +98,8 @@ IsReplyTo (event.Arrive bytes) (reply.Arrive answer) = Unit {0}
 IsReplyTo (event.Submit bytes) (reply.Submit answer) = Unit {0}
 IsReplyTo event.Open (reply.Open answer) = Unit {0}
 IsReplyTo (event.Next id) (reply.Next answer) = Unit {0}
+IsReplyTo (event.Forward id points) (reply.Forward answer) = Unit {0}
+IsReplyTo (event.Close id) (reply.Close answer) = Unit {0}
 IsReplyTo e r = ⊥
 
 -- each event has a reply of its kind

@@ -1,7 +1,9 @@
 //! Events and their replies.
 
 use crate::arrival::ArriveReply;
-use crate::follower::{FollowerId, Instruction, NextFault, OpenFault};
+use crate::follower::{Instruction, NextFault};
+use followers::{FollowerId, OpenFault, UnknownFollower};
+use ident::Point;
 use mempool::SubmitReply;
 use std::alloc::AllocError;
 use std::fmt;
@@ -18,6 +20,10 @@ pub enum RawEvent {
     Open,
     /// A follower is to be told what comes next.
     Next(FollowerId),
+    /// A follower is to be set to the first of these points that is on the selected chain.
+    Forward(FollowerId, Vec<Point>),
+    /// A follower is closed.
+    Close(FollowerId),
 }
 
 /// What the node answers to an event, by the event's kind. Where memory ran out nothing changed.
@@ -31,6 +37,10 @@ pub enum Reply<S: SigScheme> {
     Open(Result<FollowerId, OpenFault>),
     /// To a follower that asks what comes next.
     Next(Result<Option<Instruction<S>>, NextFault>),
+    /// To a follower that is to be set to a point.
+    Forward(Result<Option<Point>, UnknownFollower>),
+    /// To the closing of a follower.
+    Close(Result<(), UnknownFollower>),
 }
 
 impl<S: SigScheme> fmt::Display for Reply<S> {
@@ -39,8 +49,9 @@ impl<S: SigScheme> fmt::Display for Reply<S> {
 
     ghost output = { λ reply. Some (reply_text reply) };
 
-    /// Writes what was answered to an arrival or a submission, `opened` and the follower's number, or what the follower
-    /// is told, and `none` where it is told nothing; `refused` and the fault's name, or `out of memory`.
+    /// Writes what was answered to an arrival or a submission, `opened` and the follower's number, what the follower
+    /// is told or the point that it is set to, and `none` where there is none, or `closed`; `refused` and the fault's
+    /// name, or `out of memory`.
     fn fmt<W: fmt::Write>(&self, f: &mut fmt::Formatter<W>) -> fmt::Result {
         match self {
             Reply::Arrive(Ok(reply)) => write!(f, "{reply}"),
@@ -51,7 +62,12 @@ impl<S: SigScheme> fmt::Display for Reply<S> {
             Reply::Open(Err(OpenFault::TooManyFollowers)) => f.write_str(
                 "refused TooManyFollowers",
             ),
-            Reply::Next(Err(NextFault::UnknownFollower)) => f.write_str("refused UnknownFollower"),
+            Reply::Forward(Ok(Some(point))) => write!(f, "{point}"),
+            Reply::Forward(Ok(None)) => f.write_str("none"),
+            Reply::Close(Ok(())) => f.write_str("closed"),
+            Reply::Next(Err(NextFault::UnknownFollower))
+            | Reply::Forward(Err(_))
+            | Reply::Close(Err(_)) => f.write_str("refused UnknownFollower"),
             Reply::Arrive(Err(_))
             | Reply::Submit(Err(_))
             | Reply::Open(Err(OpenFault::OutOfMemory))

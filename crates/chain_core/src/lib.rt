@@ -8,10 +8,12 @@ mod event;
 mod follower;
 mod forging;
 mod node_core;
+mod place;
 mod refusal;
 
 pub use arrival::{ArriveReply, Refusal};
 pub use event::{RawEvent, Reply};
-pub use follower::{FollowerId, Instruction, NextFault, OpenFault};
+pub use follower::{Instruction, NextFault};
+pub use followers::{FollowerId, OpenFault, UnknownFollower};
 pub use forging::{ForgeFault, Forged};
 pub use node_core::Core;

@@ -3,12 +3,12 @@
 use crate::arrival::{ArriveReply, Refusal};
 use crate::chain_db::ChainDb;
 use crate::event::{RawEvent, Reply};
-use crate::follower::{
-    FollowerId, Instruction, NextFault, OpenFault, open_follower, tell_follower,
-};
+use crate::follower::{Instruction, NextFault, instruction_for};
 use crate::forging::{ForgeFault, Forged, forge};
+use crate::place::{end_of, first_on};
 use crate::refusal::first_refusal;
 use block::{BadBytes, CheckedBlock, NoBlock, Seen};
+use followers::{FollowerId, Followers, OpenFault, UnknownFollower};
 use genesis::Genesis;
 use ident::Point;
 use mempool::{Mempool, SubmitReply};
@@ -27,14 +27,14 @@ use witness_pool::{CheckedTx, SigScheme};
 /// }
 /// ```
 ///
-/// The core keeps the selected chain, the live blocks, the states of the chain's last k blocks, the mempool, and what
-/// each follower was told.
+/// The core keeps the selected chain, the live blocks, the states of the chain's last k blocks, the mempool, and for
+/// each follower how many blocks it was told and how many of these the chain still has.
 #[derive(Drop)]
 pub struct Core<S: SigScheme> {
     alloc: Global,
     genesis: Genesis,
     chain_db: ChainDb<S>,
-    followers: Vec<Vec<CheckedBlock<S>>>,
+    followers: Followers,
 }
 
 impl<S: SigScheme> Model for Core<S> {
@@ -52,21 +52,22 @@ impl<S: SigScheme> Model for Core<S> {
 }
 
 impl<S: SigScheme> Core<S> {
-    ghost use Rattle.std.specs.Prelude.{◌≡◌, ◌<◌, ◌≤◌, ℕ, List, [], length, Some, IfOk, IfErr, OnErr};
+    ghost use Rattle.std.specs.Prelude.{◌≡◌, ◌≤◌, ℕ, List, [], length, Some, IfOk, IfErr, OnErr, map};
     ghost use Rattle.model.specs.Transaction.{SpellsTransaction};
     ghost use Rattle.model.specs.Mempool.{IsInPool};
     ghost use Rattle.model.specs.Block.{Block as Plain, SpellsBlock};
     ghost use Rattle.model.specs.Chain.{tip_point};
     ghost use Rattle.model.specs.Ledger.{Ledger, network_of, ledger_of};
-    ghost use Rattle.model.specs.Limits.{block_size_limit, follower_limit};
-    ghost use Rattle.model.specs.Follower.{free_id};
+    ghost use Rattle.model.specs.Limits.{block_size_limit};
     ghost use Rattle.model.specs.History as history;
-    ghost use Rattle.model.specs.History.{State, Arrive, Submit, Open, Next, Step, IsRun, ChainTheorem, Applies};
+    ghost use Rattle.model.specs.History.{State, Arrive, Submit, Open, Next, Forward, Close, Step, IsRun, ChainTheorem};
+    ghost use Rattle.model.specs.History.{Applies};
     ghost use Rattle.ident.specs.PointView.{point_of};
     ghost use Rattle.chain_core.specs.Views.{event_of, reply_of, arrive_reply_of, submit_reply_of, open_reply_of};
-    ghost use Rattle.chain_core.specs.Views.{next_reply_of, instruction_of, history_of, IsReplyTo, AreRepliesTo};
+    ghost use Rattle.chain_core.specs.Views.{next_reply_of, forward_reply_of, close_reply_of, history_of, IsReplyTo};
+    ghost use Rattle.chain_core.specs.Views.{AreRepliesTo};
     ghost use Rattle.model.specs.Forging.{ArrivesNext};
-    ghost use Rattle.chain_core.specs.FollowerCalls.{HasDue, IsNextFor};
+    ghost use Rattle.chain_core.specs.FollowerCalls.{IsWantAtOpening, IsWantAtNext};
     ghost use Rattle.chain_core.specs.ForgedBlocks.{IsForgedAs, IsForgeFault};
     ghost use Rattle.chain_core.specs.Held.{opening_held, Stands};
 
@@ -80,7 +81,7 @@ impl<S: SigScheme> Core<S> {
             alloc,
             genesis,
             chain_db,
-            followers: Vec::new(alloc),
+            followers: Followers::new(alloc),
         })
     }
 
@@ -92,7 +93,7 @@ impl<S: SigScheme> Core<S> {
     /// a fork that is not longer isn't judged. The rest grows with the blocks of the chain, whose hashes are compared
     /// once, and with the live blocks, whose hashes and numbers are compared a few times, and once more for each block
     /// on the way to the new one and for each that goes on from it. Where the chain changes, each transaction of the
-    /// mempool is judged once.
+    /// mempool is judged once. Each follower is looked at once.
     pub fn arrive(&mut self, bytes: &[u8]) -> Result<ArriveReply, AllocError>
         // For every state of the definitions that the core stands for, this is a step to one that it then stands for.
         ensures step { (s : State) → Stands self.old s → (t : State)
@@ -120,6 +121,8 @@ impl<S: SigScheme> Core<S> {
         }
         let block = found.into_checked_block(self.alloc)?;
         let change = self.chain_db.add(self.alloc, &self.genesis, block)?;
+        self.followers
+            .moved(self.chain_db.chain.len() as u64 - change.added);
         Ok(ArriveReply::Kept {
             back: change.back,
             added: change.added,
@@ -155,6 +158,8 @@ impl<S: SigScheme> Core<S> {
             return Ok(ArriveReply::Refused(refusal));
         }
         let change = self.chain_db.add(self.alloc, &self.genesis, block)?;
+        self.followers
+            .moved(self.chain_db.chain.len() as u64 - change.added);
         Ok(ArriveReply::Kept {
             back: change.back,
             added: change.added,
@@ -227,40 +232,81 @@ impl<S: SigScheme> Core<S> {
     }
 
     /// Opens a follower of the least number that is free, 0 to 1,023. It was told nothing, and stands at genesis. Where
-    /// there are 1,024, or memory runs out, nothing changes.
+    /// there are 1,024, or memory runs out, nothing changes. Looks at each lower number once.
     pub fn open(&mut self) -> Result<FollowerId, OpenFault>
         ensures step { (s : State) → Stands self.old s → (t : State)
             × Step (network_of self.old.genesis S.verifies) s Open (open_reply_of result) t
             × Stands self.new t }
         // Memory is asked for only where a number is free.
-        ensures memory { IfErr result (λ e. e ≡ OpenFault.OutOfMemory → free_id self.old.followers < follower_limit) }
+        ensures memory { IfErr result (IsWantAtOpening self.old) }
         ensures genesis { self.new.genesis ≡ self.old.genesis }
         ensures err { OnErr result (self.new ≡ self.old) }
     {
-        open_follower(self.alloc, &mut self.followers)
+        self.followers.open()
     }
 
-    /// What the follower of this number is told next: to put on the next block of the selected chain, where what it was
-    /// told is a proper beginning of that, and else nothing. A follower whose chain was abandoned stays where it
-    /// is, for now.
+    /// What the follower of this number is told next. Where of the chain that it was told blocks were rolled back
+    /// since, it goes back to the last one that every selected chain has had; else it gets the next block of the
+    /// selected chain; and nothing where it was told all of that.
+    ///
+    /// A client that puts on and cuts back as it is told has the selected chain after one instruction for each block
+    /// that it lacks, and one to go back.
     ///
     /// Where no such follower is open, or memory runs out, nothing changes. Takes no memory where it answers nothing.
-    /// Compares what was told with the chain, block by block. Shares the block, and copies none of its bytes.
+    /// In constant time, however far along the follower is. Shares the block, and copies none of its bytes.
     pub fn next(&mut self, id: FollowerId) -> Result<Option<Instruction<S>>, NextFault>
         ensures step { (s : State) → Stands self.old s → (t : State)
             × Step (network_of self.old.genesis S.verifies) s (Next id.number) (next_reply_of result) t
             × Stands self.new t }
-        // Where what the follower was told is a proper beginning of the selected chain, the instruction is its next
-        // block; else there is none.
-        ensures next { IfOk result (λ instruction. IsNextFor self.old.chain self.old.followers id.number
-            (instruction_of instruction)) }
-        // Memory is asked for only where a block is due.
-        ensures memory { IfErr result (λ e. e ≡ NextFault.OutOfMemory
-            → HasDue self.old.chain self.old.followers id.number) }
+        // Memory is asked for only where a block comes next.
+        ensures memory { IfErr result (IsWantAtNext self.old id.number) }
         ensures genesis { self.new.genesis ≡ self.old.genesis }
         ensures err { OnErr result (self.new ≡ self.old) }
     {
-        tell_follower(&self.chain_db.chain, &mut self.followers, id)
+        let height = self.height();
+        let step = self.followers.due(id, height)?;
+        let instruction = instruction_for(&self.chain_db.chain, step)?;
+        self.followers.next(id, height)?;
+        Ok(instruction)
+    }
+
+    /// Sets the follower of this number to the first of the points that is on the selected chain, and answers that
+    /// point. It is then told what comes after it; it gets no rollback to where it stands. The genesis point is on
+    /// every chain. Where none of them is on it, or no such follower is open, nothing changes.
+    ///
+    /// Takes no memory. A look-up by number for each point.
+    pub fn forward(
+        &mut self,
+        id: FollowerId,
+        points: &[Point],
+    ) -> Result<Option<Point>, UnknownFollower>
+        ensures step { (s : State) → Stands self.old s → (t : State)
+            × Step (network_of self.old.genesis S.verifies) s (Forward id.number (map point_of points.now))
+            (forward_reply_of result) t
+            × Stands self.new t }
+        ensures genesis { self.new.genesis ≡ self.old.genesis }
+        ensures err { OnErr result (self.new ≡ self.old) }
+    {
+        if !self.followers.is_open(id) {
+            return Err(UnknownFollower {});
+        }
+        let found = first_on(&self.chain_db.chain, points);
+        if let Some(point) = found {
+            self.followers.forward(id, point.number)?;
+        }
+        Ok(found)
+    }
+
+    /// Closes the follower of this number, which may then be given again. Where no such follower is open nothing
+    /// changes. In constant time, and takes no memory.
+    pub fn close(&mut self, id: FollowerId) -> Result<(), UnknownFollower>
+        ensures step { (s : State) → Stands self.old s → (t : State)
+            × Step (network_of self.old.genesis S.verifies) s (Close id.number) (close_reply_of result) t
+            × Stands self.new t }
+        ensures genesis { self.new.genesis ≡ self.old.genesis }
+        ensures err { OnErr result (self.new ≡ self.old) }
+    {
+        self.followers.close(id)
     }
 
     /// Answers one event.
@@ -276,6 +322,8 @@ impl<S: SigScheme> Core<S> {
             RawEvent::Submit(bytes) => Reply::Submit(self.submit(bytes)),
             RawEvent::Open => Reply::Open(self.open()),
             RawEvent::Next(id) => Reply::Next(self.next(*id)),
+            RawEvent::Forward(id, points) => Reply::Forward(self.forward(*id, points)),
+            RawEvent::Close(id) => Reply::Close(self.close(*id)),
         }
     }
 
@@ -308,10 +356,7 @@ impl<S: SigScheme> Core<S> {
     pub fn tip(&self) -> Point
         ensures { point_of result ≡ tip_point self.now.chain }
     {
-        match self.chain_db.chain.last() {
-            Some(block) => block.point(),
-            None => Point::genesis(),
-        }
+        end_of(&self.chain_db.chain)
     }
 
     /// How many blocks the selected chain has. Takes no memory.

@@ -1,5 +1,5 @@
 -- What every legal history keeps, and that it determines its state.
-use Rattle.std.proofs.Common.{◌≡◌, ◌≢◌, ℕ, ◌<◌, ◌≤◌, ◌↔◌, Bool, true, false, cond, List, [], ◌∷◌, ◌++◌, Some, length, Contains, refl, sym, ap, subst, ◌∙◌, arith, inl, inr, ◌⊎◌}
+use Rattle.std.proofs.Common.{◌≡◌, ◌≢◌, ℕ, zero, suc, ◌<◌, ◌≤◌, ◌↔◌, Bool, true, false, cond, List, [], ◌∷◌, ◌++◌, Option, Some, None, take, length, Contains, refl, sym, ap, subst, ◌∙◌, arith, inl, inr, ◌⊎◌}
 use Rattle.std.specs.Prelude.{nat_lt, slice_set}
 use Rattle.std.specs.List.{AllByRecursion, filter}
 use Rattle.std.proofs.lemmas.Bool.{lt-ltb, ltb-true}
@@ -8,12 +8,13 @@ use Rattle.model.specs.Genesis.{Genesis}
 use Rattle.model.specs.Ledger.{Network}
 use Rattle.model.specs.Chain.{IsValidChain, NoneLonger, IsSelection, Stays, Changes, HaveDistinctHashes, immutable_length, immutable_part, live_blocks, BeginsWith}
 use Rattle.model.specs.Mempool.{SubmitReply, IsValidPool, revalidated}
-use Rattle.model.specs.Follower.{Instruction, Stay, AddBlock, RollBack, IsReplayed}
-use Rattle.model.specs.History.{State, opening, live_of, Refusal, Known, Clash, Applies, Event, Arrive, Submit, Open, Next, Reply, Kept, Refused, Submitted, Opened, TooManyFollowers, Instructed, UnknownFollower, OutOfMemory, Keeps, Takes, Instructs, Step, Entry, IsRun, IsLegal, BringsBlock, IsKeptBy, length_with, length_from}
+use Rattle.model.specs.Follower.{Follower, Followers, Instruction, IsNext, AreMoved, follower_of, standing_at, with_opened}
+use Rattle.model.specs.History.{State, opening, live_of, Refusal, Known, Clash, Applies, Event, Arrive, Submit, Open, Next, Forward, Close, Reply, Kept, Refused, Submitted, Opened, TooManyFollowers, Instructed, Forwarded, Closed, UnknownFollower, OutOfMemory, Keeps, Takes, Instructs, Forwards, Closes, with_follower, state_forwarded, Step, Entry, IsRun, IsLegal, BringsBlock, IsKeptBy, length_with, length_from}
 use Rattle.model.proofs.Lists.{all_weaker, all_from_members, all_filter_narrower, nothing_contained, contains_first, contains_later, contains_cases}
 use Rattle.model.proofs.Chains.{begins_with_itself, begins_earlier}
 use Rattle.model.proofs.Selections.{one_selection, selection_valid, selection_longer, selection_not_shorter, selection_begins, selection_longest}
 use Rattle.model.proofs.BlockTexts.{one_block, block_text_is}
+use Rattle.model.proofs.FollowerSteps.{IsSoundFollower, AllSound, begins_take, standing_sound, next_sound, next_one, moved_one, moved_all_sound, opened_all_sound, set_all_sound, closed_all_sound}
 use Rattle.model.proofs.MempoolSteps.{up_to_date, nothing_valid, submitted_valid, submitted_one}
 
 -- ---- live blocks have distinct hashes
@@ -58,10 +59,15 @@ pub record IsSoundState (network : Network) (s : State) : Type 0 where
   pub mempool : IsValidPool network s.chain s.mempool
   pub members : AllByRecursion (Contains s.kept) s.chain
   pub spelled : AllByRecursion HasItsText s.kept
+  pub followers : AllSound network.genesis.k s.chain s.followers
 
 no_longer_than_nothing : (network : Network) → NoneLonger network [] []
 no_longer_than_nothing network [] candidate = omega arith
 no_longer_than_nothing network (b ∷ bs) candidate = absurd (nothing_contained b candidate.members.0)
+
+no_follower : (id : ℕ) (f : Follower) → follower_of [] id ≡ Some f → ⊥
+no_follower zero f is = let e : None ≡ Some f = is in cc
+no_follower (suc id) f is = let e : None ≡ Some f = is in cc
 
 pub opening_sound : (network : Network) → IsSoundState network opening
 opening_sound network = record {
@@ -71,6 +77,7 @@ opening_sound network = record {
   mempool = nothing_valid network [];
   members = tt;
   spelled = tt;
+  followers = λ id f is. absurd (no_follower id f is);
 }
 
 -- a block that bytes spell is the one of its text
@@ -95,6 +102,8 @@ keeps_sound network s bytes back added t sound keeps =
       mempool = subst (IsValidPool network t.chain) (sym keeps.mempool) (up_to_date network t.chain s.mempool);
       members = selected_kept network s.kept t.kept s.chain t.chain keeps.block keeps.kept sound.members keeps.selection;
       spelled = subst (AllByRecursion HasItsText) (sym keeps.kept) (spelled_by keeps.block bytes keeps.read, sound.spelled);
+      followers = moved_all_sound network.genesis.k s.chain t.chain s.followers t.followers (selection_longer network t.kept s.chain t.chain keeps.selection)
+          (selection_begins network t.kept s.chain t.chain keeps.selection) sound.followers keeps.followers;
     }
 
 -- a step that neither keeps a block nor changes the chain, and leaves the mempool valid
@@ -104,21 +113,64 @@ pub record IsQuiet (network : Network) (s : State) (event : Event) (reply : Repl
   pub counted : (n : ℕ) → length_with n reply ≡ n
   pub brings_none : (b : Block) → BringsBlock event reply b → ⊥
   pub mempool : IsValidPool network s.chain s.mempool → IsValidPool network t.chain t.mempool
+  pub followers : AllSound network.genesis.k s.chain s.followers → AllSound network.genesis.k t.chain t.followers
 
 -- a step keeps a block, or is quiet
 pub data Kind (network : Network) (s : State) : Event → Reply → State → Type 0 where
   Keeping : (bytes : List ℕ) (back added : ℕ) (t : State) → Keeps network s bytes back added t → Kind network s (Arrive bytes) (Kept back added) t
   Quiet : (event : Event) (reply : Reply) (t : State) → IsQuiet network s event reply t → Kind network s event reply t
 
+-- a step that leaves the state is quiet
+still : (network : Network) (s : State) (event : Event) (reply : Reply) (t : State) → ((n : ℕ) → length_with n reply ≡ n) → ((b : Block) → BringsBlock event reply b → ⊥) → t ≡ s → IsQuiet network s event reply t
+still network s event reply t counted none same = record {
+  kept = ap (λ (u : State). u.kept) same;
+  chain = ap (λ (u : State). u.chain) same;
+  counted = counted;
+  brings_none = none;
+  mempool = subst (λ (u : State). IsValidPool network u.chain u.mempool) (sym same);
+  followers = subst (λ (u : State). AllSound network.genesis.k u.chain u.followers) (sym same);
+}
+
+-- a step that leaves all but the followers is quiet
+re_followed : (network : Network) (s : State) (event : Event) (reply : Reply) (followers : Followers) (t : State) → ((n : ℕ) → length_with n reply ≡ n) → ((b : Block) → BringsBlock event reply b → ⊥)
+    → t ≡ record s { followers = followers } → (AllSound network.genesis.k s.chain s.followers → AllSound network.genesis.k s.chain followers) → IsQuiet network s event reply t
+re_followed network s event reply followers t counted none same sound = record {
+  kept = ap (λ (u : State). u.kept) same;
+  chain = ap (λ (u : State). u.chain) same;
+  counted = counted;
+  brings_none = none;
+  mempool = subst (λ (u : State). IsValidPool network u.chain u.mempool) (sym same);
+  followers = λ before. subst (λ (u : State). AllSound network.genesis.k u.chain u.followers) (sym same) (sound before);
+}
+
 pub kind_of : (network : Network) (s : State) (event : Event) (reply : Reply) (t : State) → Step network s event reply t → Kind network s event reply t
 kind_of network s (Arrive bytes) (Kept back added) t step = Keeping bytes back added t step
-kind_of network s (Arrive bytes) (Refused refusal) t step = Quiet (Arrive bytes) (Refused refusal) t (record { kept = ap (λ (u : State). u.kept) step.1; chain = ap (λ (u : State). u.chain) step.1; counted = λ n. refl; brings_none = λ b no'. no'; mempool = λ valid. subst (λ (u : State). IsValidPool network u.chain u.mempool) (sym step.1) valid })
-kind_of network s (Submit bytes) (Submitted answer) t step = Quiet (Submit bytes) (Submitted answer) t (record { kept = ap (λ (u : State). u.kept) step.after; chain = ap (λ (u : State). u.chain) step.after; counted = λ n. refl; brings_none = λ b no'. no'; mempool = λ valid. subst (λ (u : State). IsValidPool network u.chain u.mempool) (sym step.after) (submitted_valid network s.chain s.mempool bytes answer step.mempool step.submits valid) })
-kind_of network s Open (Opened id) t step = Quiet Open (Opened id) t (record { kept = ap (λ (u : State). u.kept) step.after; chain = ap (λ (u : State). u.chain) step.after; counted = λ n. refl; brings_none = λ b no'. no'; mempool = λ valid. subst (λ (u : State). IsValidPool network u.chain u.mempool) (sym step.after) valid })
-kind_of network s Open TooManyFollowers t step = Quiet Open TooManyFollowers t (record { kept = ap (λ (u : State). u.kept) step.1; chain = ap (λ (u : State). u.chain) step.1; counted = λ n. refl; brings_none = λ b no'. no'; mempool = λ valid. subst (λ (u : State). IsValidPool network u.chain u.mempool) (sym step.1) valid })
-kind_of network s (Next id) (Instructed instruction) t step = Quiet (Next id) (Instructed instruction) t (record { kept = ap (λ (u : State). u.kept) step.after; chain = ap (λ (u : State). u.chain) step.after; counted = λ n. refl; brings_none = λ b no'. no'; mempool = λ valid. subst (λ (u : State). IsValidPool network u.chain u.mempool) (sym step.after) valid })
-kind_of network s (Next id) UnknownFollower t step = Quiet (Next id) UnknownFollower t (record { kept = ap (λ (u : State). u.kept) step.1; chain = ap (λ (u : State). u.chain) step.1; counted = λ n. refl; brings_none = λ b no'. no'; mempool = λ valid. subst (λ (u : State). IsValidPool network u.chain u.mempool) (sym step.1) valid })
-kind_of network s event OutOfMemory t step = Quiet event OutOfMemory t (record { kept = ap (λ (u : State). u.kept) step; chain = ap (λ (u : State). u.chain) step; counted = λ n. refl; brings_none = λ b no'. no'; mempool = λ valid. subst (λ (u : State). IsValidPool network u.chain u.mempool) (sym step) valid })
+kind_of network s (Arrive bytes) (Refused refusal) t step = Quiet (Arrive bytes) (Refused refusal) t (still network s (Arrive bytes) (Refused refusal) t (λ n. refl) (λ b no'. no') step.1)
+kind_of network s (Submit bytes) (Submitted answer) t step = Quiet (Submit bytes) (Submitted answer) t (record {
+  kept = ap (λ (u : State). u.kept) step.after;
+  chain = ap (λ (u : State). u.chain) step.after;
+  counted = λ n. refl;
+  brings_none = λ b no'. no';
+  mempool = λ valid. subst (λ (u : State). IsValidPool network u.chain u.mempool) (sym step.after) (submitted_valid network s.chain s.mempool bytes answer step.mempool step.submits valid);
+  followers = subst (λ (u : State). AllSound network.genesis.k u.chain u.followers) (sym step.after);
+})
+kind_of network s Open (Opened id) t step = Quiet Open (Opened id) t
+    (re_followed network s Open (Opened id) (with_opened s.followers) t (λ n. refl) (λ b no'. no') step.after (opened_all_sound network.genesis.k s.chain s.followers))
+kind_of network s Open TooManyFollowers t step = Quiet Open TooManyFollowers t (still network s Open TooManyFollowers t (λ n. refl) (λ b no'. no') step.1)
+kind_of network s (Next id) (Instructed instruction) t step = Quiet (Next id) (Instructed instruction) t
+    (re_followed network s (Next id) (Instructed instruction) (slice_set s.followers id (Some step.new)) t (λ n. refl) (λ b no'. no') step.after
+    (λ sound. set_all_sound network.genesis.k s.chain s.followers id step.new sound (next_sound network.genesis.k s.chain step.old instruction step.new (sound id step.old step.is_open) step.next)))
+kind_of network s (Next id) UnknownFollower t step = Quiet (Next id) UnknownFollower t (still network s (Next id) UnknownFollower t (λ n. refl) (λ b no'. no') step.1)
+kind_of network s (Forward id points) (Forwarded None) t step = Quiet (Forward id points) (Forwarded None) t (still network s (Forward id points) (Forwarded None) t (λ n. refl) (λ b no'. no') step.after)
+kind_of network s (Forward id points) (Forwarded (Some point)) t step = Quiet (Forward id points) (Forwarded (Some point)) t
+    (let part = take point.number s.chain in
+    re_followed network s (Forward id points) (Forwarded (Some point)) (slice_set s.followers id (Some (standing_at part))) t (λ n. refl) (λ b no'. no') step.after
+    (λ sound. set_all_sound network.genesis.k s.chain s.followers id (standing_at part) sound (standing_sound network.genesis.k s.chain part (begins_take point.number s.chain))))
+kind_of network s (Forward id points) UnknownFollower t step = Quiet (Forward id points) UnknownFollower t (still network s (Forward id points) UnknownFollower t (λ n. refl) (λ b no'. no') step.1)
+kind_of network s (Close id) Closed t step = Quiet (Close id) Closed t
+    (re_followed network s (Close id) Closed (slice_set s.followers id None) t (λ n. refl) (λ b no'. no') step.after (closed_all_sound network.genesis.k s.chain s.followers id))
+kind_of network s (Close id) UnknownFollower t step = Quiet (Close id) UnknownFollower t (still network s (Close id) UnknownFollower t (λ n. refl) (λ b no'. no') step.1)
+kind_of network s event OutOfMemory t step = Quiet event OutOfMemory t (still network s event OutOfMemory t (λ n. refl) (λ b no'. no') step)
 kind_of network s event reply t step = absurd step
 
 quiet_sound : (network : Network) (s : State) (event : Event) (reply : Reply) (t : State) → IsSoundState network s → IsQuiet network s event reply t → IsSoundState network t
@@ -129,6 +181,7 @@ quiet_sound network s event reply t sound quiet = record {
   mempool = quiet.mempool sound.mempool;
   members = subst (λ (bs : List Block). AllByRecursion (Contains bs) t.chain) (sym quiet.kept) (subst (AllByRecursion (Contains s.kept)) (sym quiet.chain) sound.members);
   spelled = subst (AllByRecursion HasItsText) (sym quiet.kept) sound.spelled;
+  followers = quiet.followers sound.followers;
 }
 
 kind_sound : (network : Network) (s : State) (event : Event) (reply : Reply) (t : State) → IsSoundState network s → Kind network s event reply t → IsSoundState network t
@@ -153,7 +206,7 @@ keeps_one network s bytes back added t u sound first second =
     let kept : t.kept ≡ u.kept = first.kept ∙ (ap (λ (b : Block). b ∷ s.kept) blocks ∙ sym second.kept) in
     let distinct : HaveDistinctHashes (live_blocks network.genesis u.kept s.chain) = subst (λ (bs : List Block). HaveDistinctHashes (live_blocks network.genesis bs s.chain)) (sym second.kept) (distinct_with network.genesis s bytes second.block sound.distinct second.read second.not_refused) in
     let chain : t.chain ≡ u.chain = one_selection network u.kept s.chain t.chain u.chain distinct (subst (λ (bs : List Block). IsSelection network bs s.chain t.chain) kept first.selection) second.selection in
-    let followers : t.followers ≡ u.followers = first.followers ∙ sym second.followers in
+    let followers : t.followers ≡ u.followers = moved_one u.chain s.followers t.followers u.followers (subst (λ (c : List Block). AreMoved c s.followers t.followers) chain first.followers) second.followers in
     let mempool : t.mempool ≡ u.mempool = first.mempool ∙ (ap (λ (c : List Block). revalidated network c s.mempool) chain ∙ sym second.mempool) in
     λ i. record { kept = kept i; chain = chain i; mempool = mempool i; followers = followers i }
 
@@ -165,16 +218,11 @@ takes_one network s bytes answer t u first second =
 some_same : {X : Type 0} (x y : X) → Some x ≡ Some y → x ≡ y
 some_same x y e = cc
 
-replayed_one : (old : List Block) (instruction : Instruction) (a b : List Block) → IsReplayed old instruction a → IsReplayed old instruction b → a ≡ b
-replayed_one old Stay a b first second = first ∙ sym second
-replayed_one old (AddBlock bytes) a b first second = first.2 ∙ (ap (λ (c : Block). old ++ c ∷ []) (one_block first.0 second.0 bytes first.1 second.1) ∙ sym second.2)
-replayed_one old (RollBack point) a b first second = first.0 ∙ sym second.0
-
 instructs_one : (s : State) (id : ℕ) (instruction : Instruction) (t u : State) → Instructs s id instruction t → Instructs s id instruction u → t ≡ u
 instructs_one s id instruction t u first second =
-    let before : first.before ≡ second.before = some_same first.before second.before (sym first.open_before ∙ second.open_before) in
-    let now : first.now ≡ second.now = replayed_one first.before instruction first.now second.now first.told.replayed (subst (λ (old : List Block). IsReplayed old instruction second.now) (sym before) second.told.replayed) in
-    first.after ∙ ((λ i. record { kept = s.kept; chain = s.chain; mempool = s.mempool; followers = slice_set s.followers id (Some (now i)) }) ∙ sym second.after)
+    let old : first.old ≡ second.old = some_same first.old second.old (sym first.is_open ∙ second.is_open) in
+    let new : first.new ≡ second.new = next_one s.chain first.old instruction first.new second.new first.next (subst (λ (f : Follower). IsNext s.chain f instruction second.new) (sym old) second.next) in
+    first.after ∙ (ap (λ (f : Follower). with_follower s id (Some f)) new ∙ sym second.after)
 
 pub step_one : (network : Network) (s : State) (event : Event) (reply : Reply) (t u : State) → IsSoundState network s → Step network s event reply t → Step network s event reply u → t ≡ u
 step_one network s (Arrive bytes) (Kept back added) t u sound first second = keeps_one network s bytes back added t u sound first second
@@ -184,6 +232,10 @@ step_one network s Open (Opened id) t u sound first second = first.after ∙ sym
 step_one network s Open TooManyFollowers t u sound first second = first.1 ∙ sym second.1
 step_one network s (Next id) (Instructed instruction) t u sound first second = instructs_one s id instruction t u first second
 step_one network s (Next id) UnknownFollower t u sound first second = first.1 ∙ sym second.1
+step_one network s (Forward id points) (Forwarded found) t u sound first second = first.after ∙ sym second.after
+step_one network s (Forward id points) UnknownFollower t u sound first second = first.1 ∙ sym second.1
+step_one network s (Close id) Closed t u sound first second = first.after ∙ sym second.after
+step_one network s (Close id) UnknownFollower t u sound first second = first.1 ∙ sym second.1
 step_one network s event OutOfMemory t u sound first second = first ∙ sym second
 step_one network s event reply t u sound first second = absurd first
 

@@ -11,6 +11,7 @@ pub mod ExampleTexts
 pub mod Chains
 pub mod Selections
 pub mod Changes
+pub mod FollowerSteps
 pub mod LegalHistories
 pub mod ToldChains
 pub mod Unspent

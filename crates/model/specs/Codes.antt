@@ -15,18 +15,13 @@ use Rattle.model.specs.Script.{RequireTimeStart, RequireTimeExpire, NoScripts, N
 use Rattle.model.specs.Transaction.{Credential, KeyHash, ScriptHash, Address, Input, Output, KeyWitness, Transaction}
 use Rattle.model.specs.Block.{Header, Block}
 use Rattle.model.specs.Utxo.{Utxo}
-use Rattle.model.specs.Rules.{Params, Reason, reason_number, OutsideInterval, NoInputs, TooBig, FeeTooSmall}
-use Rattle.model.specs.Rules.{MissingInput, OutputTooSmall, WrongNetwork, NotBalanced, OutputExists, BadSignature}
-use Rattle.model.specs.Rules.{MissingKeyWitness, MissingScript, ExtraScript, ScriptFails}
-use Rattle.model.specs.Mempool.{SubmitReply, NoTransaction, InMempool, IsAgainst, MempoolFull, Added}
+use Rattle.model.specs.Rules.{Params}
 use Rattle.model.specs.Genesis.{Grant, Genesis}
 use Rattle.model.specs.Chain.{Tip}
 use Rattle.model.specs.Applying.{LedgerState}
-use Rattle.model.specs.Follower.{Followers, Instruction, Stay, AddBlock, RollBack}
+use Rattle.model.specs.Follower.{Follower, Followers}
 use Rattle.model.specs.History.{State, Refusal, TooLarge, Malformed, BodyHashMismatch, TooOld, Known, Clash}
-use Rattle.model.specs.History.{VolatileFull, refusal_number, Event, Arrive, Submit, Open, Next, Reply, Kept, Refused}
-use Rattle.model.specs.History.{Submitted, Opened, TooManyFollowers, Instructed, UnknownFollower, OutOfMemory, Entry}
-use Rattle.model.specs.Journal.{JournalEntry, Journal, Knowledge}
+use Rattle.model.specs.History.{VolatileFull, refusal_number}
 
 -- ---- bytes
 
@@ -352,12 +347,18 @@ coded_ledger_state =
     (λ p. record { params = p.0; ledger = record { utxo = p.1.0; fees = p.1.1.0 }; tip = p.1.1.1 })
     (λ _. refl)
 
+-- a follower's two chains
+abbrev pub coded_follower : Coded Follower
+coded_follower =
+    code_by (List Block × List Block) (coded× (coded_list coded_block) (coded_list coded_block))
+    (λ f. (f.told, f.agreed)) (λ p. record { told = p.0; agreed = p.1 }) (λ _. refl)
+
 -- what is kept, the selected chain, the mempool, and the followers
 abbrev pub coded_state : Coded State
 coded_state =
     code_by (List Block × (List Block × (List Transaction × Followers)))
     (coded× (coded_list coded_block) (coded× (coded_list coded_block) (coded× (coded_list coded_transaction)
-    (coded_list (coded_option (coded_list coded_block))))))
+    (coded_list (coded_option coded_follower)))))
     (λ s. (s.kept, (s.chain, (s.mempool, s.followers))))
     (λ p. record { kept = p.0; chain = p.1.0; mempool = p.1.1.0; followers = p.1.1.1 }) (λ _. refl)
 
@@ -385,189 +386,3 @@ refusal_back VolatileFull = refl
 -- why bytes are refused
 abbrev pub coded_refusal : Coded Refusal
 coded_refusal = code_by ℕ coded_ℕ refusal_number refusal_at refusal_back
-
--- ---- events, replies and the journal
-
--- an event as a number, bytes and an id, and back
-abbrev pub fields_of_event : Event → ℕ × (List ℕ × ℕ)
-fields_of_event (Arrive bytes) = (0, (bytes, 0))
-fields_of_event Open = (1, ([], 0))
-fields_of_event (Next id) = (2, ([], id))
-fields_of_event (Submit bytes) = (3, (bytes, 0))
-
-abbrev pub event_at : ℕ → List ℕ → ℕ → Event
-event_at zero bytes id = Arrive bytes
-event_at (suc zero) bytes id = Open
-event_at (suc (suc zero)) bytes id = Next id
-event_at (suc (suc (suc n))) bytes id = Submit bytes
-
-pub event_back : (e : Event) → event_at (fields_of_event e).0 (fields_of_event e).1.0 (fields_of_event e).1.1 ≡ e
-event_back (Arrive bytes) = refl
-event_back Open = refl
-event_back (Next id) = refl
-event_back (Submit bytes) = refl
-
--- what comes to the node
-abbrev pub coded_event : Coded Event
-coded_event =
-    code_by (ℕ × (List ℕ × ℕ)) (coded× coded_ℕ (coded× coded_bytes coded_ℕ)) fields_of_event
-    (λ p. event_at p.0 p.1.0 p.1.1) event_back
-
--- an instruction as numbers and bytes, and back
-abbrev pub fields_of_instruction : Instruction → ℕ × (List ℕ × ℕ)
-fields_of_instruction Stay = (0, ([], 0))
-fields_of_instruction (AddBlock bytes) = (1, (bytes, 0))
-fields_of_instruction (RollBack point) = (2, (point.hash, point.number))
-
-abbrev pub instruction_at : ℕ → List ℕ → ℕ → Instruction
-instruction_at zero bytes number = Stay
-instruction_at (suc zero) bytes number = AddBlock bytes
-instruction_at (suc (suc n)) bytes number = RollBack record { number = number; hash = bytes }
-
-pub instruction_back : (i : Instruction)
-    → instruction_at (fields_of_instruction i).0 (fields_of_instruction i).1.0 (fields_of_instruction i).1.1 ≡ i
-instruction_back Stay = refl
-instruction_back (AddBlock bytes) = refl
-instruction_back (RollBack point) = refl
-
--- what a follower is told
-abbrev pub coded_instruction : Coded Instruction
-coded_instruction =
-    code_by (ℕ × (List ℕ × ℕ)) (coded× coded_ℕ (coded× coded_bytes coded_ℕ)) fields_of_instruction
-    (λ p. instruction_at p.0 p.1.0 p.1.1) instruction_back
-
--- the number of a reason against a transaction, and the reason of a number
-abbrev pub reason_at : ℕ → Reason
-reason_at zero = OutsideInterval
-reason_at (suc zero) = OutsideInterval
-reason_at (suc (suc zero)) = NoInputs
-reason_at (suc (suc (suc zero))) = TooBig
-reason_at (suc (suc (suc (suc zero)))) = FeeTooSmall
-reason_at (suc (suc (suc (suc (suc zero))))) = MissingInput
-reason_at (suc (suc (suc (suc (suc (suc zero)))))) = OutputTooSmall
-reason_at (suc (suc (suc (suc (suc (suc (suc zero))))))) = WrongNetwork
-reason_at (suc (suc (suc (suc (suc (suc (suc (suc zero)))))))) = NotBalanced
-reason_at (suc (suc (suc (suc (suc (suc (suc (suc (suc zero))))))))) = OutputExists
-reason_at (suc (suc (suc (suc (suc (suc (suc (suc (suc (suc zero)))))))))) = BadSignature
-reason_at (suc (suc (suc (suc (suc (suc (suc (suc (suc (suc (suc zero))))))))))) = MissingKeyWitness
-reason_at (suc (suc (suc (suc (suc (suc (suc (suc (suc (suc (suc (suc zero)))))))))))) = MissingScript
-reason_at (suc (suc (suc (suc (suc (suc (suc (suc (suc (suc (suc (suc (suc zero))))))))))))) = ExtraScript
-reason_at (suc (suc (suc (suc (suc (suc (suc (suc (suc (suc (suc (suc (suc (suc n)))))))))))))) = ScriptFails
-
-pub reason_back : (r : Reason) → reason_at (reason_number r) ≡ r
-reason_back OutsideInterval = refl
-reason_back NoInputs = refl
-reason_back TooBig = refl
-reason_back FeeTooSmall = refl
-reason_back MissingInput = refl
-reason_back OutputTooSmall = refl
-reason_back WrongNetwork = refl
-reason_back NotBalanced = refl
-reason_back OutputExists = refl
-reason_back BadSignature = refl
-reason_back MissingKeyWitness = refl
-reason_back MissingScript = refl
-reason_back ExtraScript = refl
-reason_back ScriptFails = refl
-
--- why a transaction is refused
-abbrev pub coded_reason : Coded Reason
-coded_reason = code_by ℕ coded_ℕ reason_number reason_at reason_back
-
--- the answer to a submission as a number and a reason, and back
-abbrev pub fields_of_submit_reply : SubmitReply → ℕ × Reason
-fields_of_submit_reply NoTransaction = (0, OutsideInterval)
-fields_of_submit_reply InMempool = (1, OutsideInterval)
-fields_of_submit_reply (IsAgainst reason) = (2, reason)
-fields_of_submit_reply MempoolFull = (3, OutsideInterval)
-fields_of_submit_reply Added = (4, OutsideInterval)
-
-abbrev pub submit_reply_at : ℕ → Reason → SubmitReply
-submit_reply_at zero reason = NoTransaction
-submit_reply_at (suc zero) reason = InMempool
-submit_reply_at (suc (suc zero)) reason = IsAgainst reason
-submit_reply_at (suc (suc (suc zero))) reason = MempoolFull
-submit_reply_at (suc (suc (suc (suc n)))) reason = Added
-
-pub submit_reply_back : (r : SubmitReply)
-    → submit_reply_at (fields_of_submit_reply r).0 (fields_of_submit_reply r).1 ≡ r
-submit_reply_back NoTransaction = refl
-submit_reply_back InMempool = refl
-submit_reply_back (IsAgainst reason) = refl
-submit_reply_back MempoolFull = refl
-submit_reply_back Added = refl
-
--- what is answered to a submission
-abbrev pub coded_submit_reply : Coded SubmitReply
-coded_submit_reply =
-    code_by (ℕ × Reason) (coded× coded_ℕ coded_reason) fields_of_submit_reply (λ p. submit_reply_at p.0 p.1)
-    submit_reply_back
-
--- a reply as three numbers, a refusal, an instruction and an answer to a submission, and back
-abbrev pub ReplyFields : Type 0
-ReplyFields = ℕ × (ℕ × (ℕ × (Refusal × (Instruction × SubmitReply))))
-
-abbrev pub fields_of_reply : Reply → ReplyFields
-fields_of_reply (Kept back added) = (0, (back, (added, (TooLarge, (Stay, Added)))))
-fields_of_reply (Refused refusal) = (1, (0, (0, (refusal, (Stay, Added)))))
-fields_of_reply (Opened id) = (2, (id, (0, (TooLarge, (Stay, Added)))))
-fields_of_reply TooManyFollowers = (3, (0, (0, (TooLarge, (Stay, Added)))))
-fields_of_reply (Instructed instruction) = (4, (0, (0, (TooLarge, (instruction, Added)))))
-fields_of_reply UnknownFollower = (5, (0, (0, (TooLarge, (Stay, Added)))))
-fields_of_reply (Submitted answer) = (6, (0, (0, (TooLarge, (Stay, answer)))))
-fields_of_reply OutOfMemory = (7, (0, (0, (TooLarge, (Stay, Added)))))
-
-abbrev pub reply_at : ℕ → ℕ → ℕ → Refusal → Instruction → SubmitReply → Reply
-reply_at zero m n refusal instruction answer = Kept m n
-reply_at (suc zero) m n refusal instruction answer = Refused refusal
-reply_at (suc (suc zero)) m n refusal instruction answer = Opened m
-reply_at (suc (suc (suc zero))) m n refusal instruction answer = TooManyFollowers
-reply_at (suc (suc (suc (suc zero)))) m n refusal instruction answer = Instructed instruction
-reply_at (suc (suc (suc (suc (suc zero))))) m n refusal instruction answer = UnknownFollower
-reply_at (suc (suc (suc (suc (suc (suc zero)))))) m n refusal instruction answer = Submitted answer
-reply_at (suc (suc (suc (suc (suc (suc (suc k))))))) m n refusal instruction answer = OutOfMemory
-
-abbrev pub reply_from : ReplyFields → Reply
-reply_from p = reply_at p.0 p.1.0 p.1.1.0 p.1.1.1.0 p.1.1.1.1.0 p.1.1.1.1.1
-
-pub reply_back : (r : Reply) → reply_from (fields_of_reply r) ≡ r
-reply_back (Kept back added) = refl
-reply_back (Refused refusal) = refl
-reply_back (Opened id) = refl
-reply_back TooManyFollowers = refl
-reply_back (Instructed instruction) = refl
-reply_back UnknownFollower = refl
-reply_back (Submitted answer) = refl
-reply_back OutOfMemory = refl
-
--- what it answers
-abbrev pub coded_reply : Coded Reply
-coded_reply =
-    code_by ReplyFields
-    (coded× coded_ℕ (coded× coded_ℕ (coded× coded_ℕ
-    (coded× coded_refusal (coded× coded_instruction coded_submit_reply)))))
-    fields_of_reply reply_from reply_back
-
--- an event with its reply
-abbrev pub coded_entry : Coded Entry
-coded_entry =
-    code_by (Event × Reply) (coded× coded_event coded_reply) (λ e. (e.event, e.reply))
-    (λ p. record { event = p.0; reply = p.1 }) (λ _. refl)
-
--- that of a caller
-abbrev pub coded_journal_entry : Coded JournalEntry
-coded_journal_entry =
-    code_by (ℕ × (Option ℕ × Entry)) (coded× coded_ℕ (coded× (coded_option coded_ℕ) coded_entry))
-    (λ e. (e.caller, (e.peer, e.entry))) (λ p. record { caller = p.0; peer = p.1.0; entry = p.1.1 }) (λ _. refl)
-
--- all of them
-abbrev pub coded_journal : Coded Journal
-coded_journal = coded_list coded_journal_entry
-
--- what a caller knows
-abbrev pub coded_knowledge : Coded Knowledge
-coded_knowledge =
-    code_by (ℕ × (Journal × (Journal × (ℕ × ℕ))))
-    (coded× coded_ℕ (coded× coded_journal (coded× coded_journal (coded× coded_ℕ coded_ℕ))))
-    (λ k. (k.caller, (k.seen, (k.calls, (k.loads, k.last)))))
-    (λ p. record { caller = p.0; seen = p.1.0; calls = p.1.1.0; loads = p.1.1.1.0; last = p.1.1.1.1 }) (λ _. refl)

@@ -1,15 +1,17 @@
--- Histories: which bytes arrived, what was answered, and what is then kept and selected (this project's
--- own, over the Consensus and Storage Layer report's rules).
+-- Histories: what came, what was answered, and what is then kept, selected, waiting and told (this project's own, over
+-- the Consensus and Storage Layer report's rules).
 use Rattle.std.specs.Prelude.{◌≡◌, ◌≢◌, ◌++◌, ℕ, ◌+◌, ◌-◌, ◌≤◌, ◌<◌, ◌⊎◌, List, [], ◌∷◌, length, take, Contains, Some}
-use Rattle.std.specs.Prelude.{None, slice_set}
+use Rattle.std.specs.Prelude.{None, Option, slice_set, ◌==◌, if◌then◌else◌, ◌↔◌}
+use Rattle.std.specs.List.{AllByRecursion}
 use Rattle.model.specs.Block.{Block, SpellsBlock, block_text, block_hash_of, body_hash_of}
 use Rattle.model.specs.Genesis.{Genesis}
 use Rattle.model.specs.Ledger.{Network}
-use Rattle.model.specs.Chain.{immutable_length, live_blocks, IsSelection, BeginsWith, IsValidChain, NoneLonger}
+use Rattle.model.specs.Chain.{Point, immutable_length, live_blocks, IsSelection, BeginsWith, IsValidChain, NoneLonger}
 use Rattle.model.specs.Limits.{block_size_limit, follower_limit}
 use Rattle.model.specs.Transaction.{Transaction}
 use Rattle.model.specs.Mempool.{SubmitReply, Submits, revalidated, IsValidPool}
-use Rattle.model.specs.Follower.{Followers, Instruction, told_by, free_id, with_opened, MayBeTold}
+use Rattle.model.specs.Follower.{Follower, Followers, standing_at, follower_of, free_id, with_opened, AreMoved}
+use Rattle.model.specs.Follower.{Instruction, Stay, IsDue, IsNext, IsFirstOn, AreReplayed}
 
 -- the blocks that were kept, the newest first; the selected chain, its first block first; the mempool, in the order in
 -- which its transactions came; and the open followers
@@ -75,10 +77,13 @@ pub data Event : Type 0 where
   Submit : List ℕ → Event
   Open : Event
   Next : (id : ℕ) → Event
+  Forward : (id : ℕ) → List Point → Event
+  Close : (id : ℕ) → Event
 
 -- what it answers: that the block is kept, with how many blocks of the old chain were rolled back and how many
 -- of the new one were put on; that the bytes are refused; what is answered to a submission; a new follower's id, or
--- that too many are open; an instruction, or that no such follower is open; or that memory ran out
+-- that too many are open; an instruction; the point that a follower was set to, if it was; that it was closed; that no
+-- such follower is open; or that memory ran out
 pub data Reply : Type 0 where
   Kept : (back added : ℕ) → Reply
   Refused : Refusal → Reply
@@ -86,6 +91,8 @@ pub data Reply : Type 0 where
   Opened : (id : ℕ) → Reply
   TooManyFollowers : Reply
   Instructed : Instruction → Reply
+  Forwarded : Option Point → Reply
+  Closed : Reply
   UnknownFollower : Reply
   OutOfMemory : Reply
 
@@ -105,14 +112,14 @@ pub record IsChange (old new : List Block) (back added : ℕ) : Type 0 where
 
 -- RULE OF A KEPT BLOCK (the report, addition of a block to the chain database)
 -- Bytes are kept where they are read as a block and no refusal applies. The block joins the kept ones, the selection
--- rule then says which chain is selected, and the reply counts the blocks rolled back and put on. The mempool is
--- brought up to date with that chain. Followers are told later.
+-- rule then says which chain is selected, and the reply counts the blocks rolled back and put on. The mempool and the
+-- followers are brought up to date with that chain; followers are told of it later.
 pub record Keeps (network : Network) (s : State) (bytes : List ℕ) (back added : ℕ) (t : State) : Type 0 where
   pub block : Block
   pub read : SpellsBlock block bytes
   pub not_refused : (refusal : Refusal) → Applies network.genesis s bytes refusal → ⊥
   pub kept : t.kept ≡ block ∷ s.kept
-  pub followers : t.followers ≡ s.followers
+  pub followers : AreMoved t.chain s.followers t.followers
   pub mempool : t.mempool ≡ revalidated network t.chain s.mempool
   pub selection : IsSelection network t.kept s.chain t.chain
   pub change : IsChange s.chain t.chain back added
@@ -121,27 +128,47 @@ pub record Keeps (network : Network) (s : State) (bytes : List ℕ) (back added 
 pub record Takes (network : Network) (s : State) (bytes : List ℕ) (reply : SubmitReply) (t : State) : Type 0 where
   pub mempool : List Transaction
   pub submits : Submits network s.chain s.mempool bytes reply mempool
-  pub after : t ≡ record { kept = s.kept; chain = s.chain; mempool = mempool; followers = s.followers }
+  pub after : t ≡ record s { mempool = mempool }
 
 -- a follower of the least free number is opened
 pub record Opens (s : State) (id : ℕ) (t : State) : Type 0 where
   pub is_free : id ≡ free_id s.followers
   pub room : id < follower_limit
-  pub after : t ≡
-      record { kept = s.kept; chain = s.chain; mempool = s.mempool; followers = with_opened s.followers }
+  pub after : t ≡ record s { followers = with_opened s.followers }
 
--- an open follower gets an instruction, and has then been told another chain
+-- with another follower of this number, or with none
+abbrev pub with_follower : State → ℕ → Option Follower → State
+with_follower s id follower = record s { followers = slice_set s.followers id follower }
+
+-- an open follower gets the instruction that is next
 pub record Instructs (s : State) (id : ℕ) (instruction : Instruction) (t : State) : Type 0 where
-  pub before : List Block
-  pub now : List Block
-  pub open_before : told_by s.followers id ≡ Some before
-  pub told : MayBeTold s.chain before instruction now
-  pub after : t ≡ record {
-    kept = s.kept;
-    chain = s.chain;
-    mempool = s.mempool;
-    followers = slice_set s.followers id (Some now);
-  }
+  pub old : Follower
+  pub new : Follower
+  pub is_open : follower_of s.followers id ≡ Some old
+  pub next : IsNext s.chain old instruction new
+  pub after : t ≡ with_follower s id (Some new)
+
+-- a block comes next for the follower of this number
+abbrev pub HasDue : State → ℕ → Type 0
+HasDue s id = (f : Follower) × (b : Block) × (follower_of s.followers id ≡ Some f) × IsDue s.chain f b
+
+-- a follower that is set to a point stands there; where there is no point nothing changes
+abbrev pub state_forwarded : State → ℕ → Option Point → State
+state_forwarded s id None = s
+state_forwarded s id (Some point) = with_follower s id (Some (standing_at (take point.number s.chain)))
+
+-- an open follower is set to the first of the points that is on the selected chain
+pub record Forwards (s : State) (id : ℕ) (points : List Point) (found : Option Point) (t : State) : Type 0 where
+  pub old : Follower
+  pub is_open : follower_of s.followers id ≡ Some old
+  pub first : IsFirstOn s.chain points found
+  pub after : t ≡ state_forwarded s id found
+
+-- an open follower is open no more, and its number is free
+pub record Closes (s : State) (id : ℕ) (t : State) : Type 0 where
+  pub old : Follower
+  pub is_open : follower_of s.followers id ≡ Some old
+  pub after : t ≡ with_follower s id None
 
 -- STEP RULE (this project's own, over the report's interface of the chain database)
 -- From one state an event may be answered so, and leave the other; each kind of event has its own replies. What is
@@ -153,7 +180,11 @@ Step network s (Submit bytes) (Submitted reply) t = Takes network s bytes reply 
 Step network s Open (Opened id) t = Opens s id t
 Step network s Open TooManyFollowers t = (follower_limit ≤ free_id s.followers) × (t ≡ s)
 Step network s (Next id) (Instructed instruction) t = Instructs s id instruction t
-Step network s (Next id) UnknownFollower t = (told_by s.followers id ≡ None) × (t ≡ s)
+Step network s (Next id) UnknownFollower t = (follower_of s.followers id ≡ None) × (t ≡ s)
+Step network s (Forward id points) (Forwarded found) t = Forwards s id points found t
+Step network s (Forward id points) UnknownFollower t = (follower_of s.followers id ≡ None) × (t ≡ s)
+Step network s (Close id) Closed t = Closes s id t
+Step network s (Close id) UnknownFollower t = (follower_of s.followers id ≡ None) × (t ≡ s)
 Step network s event OutOfMemory t = t ≡ s
 -- no event is answered otherwise
 Step network s event reply t = ⊥
@@ -206,14 +237,61 @@ pub record WasSelected (network : Network) (history : List Entry) (chain : List 
   pub legal : IsLegal network past state
   pub begins : BeginsWith state.chain chain
 
+-- the event with this reply sets the follower of the number to this chain: it is opened, or set to a point
+abbrev pub SetsFollower : State → ℕ → Event → Reply → (chain : List Block) → Type 0
+SetsFollower s id Open (Opened opened) chain = (opened ≡ id) × (chain ≡ [])
+SetsFollower s id (Forward at points) (Forwarded (Some point)) chain = (at ≡ id) × (chain ≡ take point.number s.chain)
+SetsFollower s id event reply chain = ⊥
+
+-- what an event with this reply tells the follower of the number
+abbrev pub told_to : ℕ → Event → Reply → List Instruction
+told_to id (Next at) (Instructed instruction) = if at == id then instruction ∷ [] else []
+told_to id event reply = []
+
+-- the instructions that the follower of the number was given, one after the other
+abbrev pub instructions_to : ℕ → List Entry → List Instruction
+instructions_to id [] = []
+instructions_to id (e ∷ es) = told_to id e.event e.reply ++ instructions_to id es
+
+-- each of these asks what the follower of the number is told next, and is answered
+abbrev pub AreTold : ℕ → List Entry → Type 0
+AreTold id entries = AllByRecursion (λ e. (instruction : Instruction) × (e.event ≡ Next id)
+    × (e.reply ≡ Instructed instruction)) entries
+
+-- The instructions that the follower of this number was given since it was last set, carried out on the chain that it
+-- was set to, give this chain.
+pub record WasTold (network : Network) (history : List Entry) (id : ℕ) (told : List Block) : Type 0 where
+  pub past : List Entry
+  pub set : Entry
+  pub since : List Entry
+  pub split : history ≡ past ++ set ∷ since
+  pub state : State
+  pub legal : IsLegal network past state
+  pub start : List Block
+  pub sets : SetsFollower state id set.event set.reply start
+  pub never_again : AllByRecursion (λ e. (s : State) (chain : List Block)
+      → SetsFollower s id e.event e.reply chain → ⊥) since
+  pub replayed : AreReplayed start (instructions_to id since) told
+
 -- ---- the chain theorem
 
+-- What is promised of an open follower: the instructions that it was given, carried out from where it was last set on,
+-- give the chain that it was told; never has it to go back more than k blocks; and nothing is left to tell it exactly
+-- where it was told the selected chain.
+pub record IsFollowing (network : Network) (history : List Entry) (state : State) (id : ℕ) (f : Follower)
+    : Type 0 where
+  pub replayed : WasTold network history id f.told
+  pub begins : BeginsWith f.told f.agreed
+  pub bounded : length f.told ≤ length f.agreed + network.genesis.k
+  pub at_end : (instruction : Instruction) (new : Follower) → IsNext state.chain f instruction new
+      → (instruction ≡ Stay) ↔ (f.told ≡ state.chain)
+
 -- The history is legal and leaves this state; the selected chain is valid; no valid chain of kept blocks through the
--- immutable tip is longer; the mempool is valid in order on it; and what each follower was told is the beginning of a
--- chain that was selected at some time of the history.
+-- immutable tip is longer; the mempool is valid in order on it; and each open follower follows it.
 pub record ChainTheorem (network : Network) (history : List Entry) (state : State) : Type 0 where
   pub legal : IsLegal network history state
   pub valid : IsValidChain network state.chain
   pub longest : NoneLonger network state.kept state.chain
   pub mempool : IsValidPool network state.chain state.mempool
-  pub told : (id : ℕ) (told : List Block) → told_by state.followers id ≡ Some told → WasSelected network history told
+  pub followers : (id : ℕ) (f : Follower) → follower_of state.followers id ≡ Some f
+      → IsFollowing network history state id f

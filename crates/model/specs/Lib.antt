@@ -18,6 +18,7 @@ pub mod History
 pub mod Forging
 pub mod Journal
 pub mod Codes
+pub mod JournalCodes
 pub mod Examples
 pub mod TransactionExamples
 pub mod Disk

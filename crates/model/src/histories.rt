@@ -7,9 +7,9 @@ ghost use Rattle.model.specs.Block.{Block};
 ghost use Rattle.model.specs.Ledger.{Network};
 ghost use Rattle.model.specs.Chain.{IsValidChain, NoneLonger, IsSelection, IsCandidate, HaveDistinctHashes};
 ghost use Rattle.model.specs.Chain.{live_blocks, immutable_part, BeginsWith};
-ghost use Rattle.model.specs.Follower.{told_by};
+ghost use Rattle.model.specs.Follower.{Follower, follower_of, left_to_tell};
 ghost use Rattle.model.specs.History.{State, Event, Reply, Kept, Entry, Step, IsRun, IsLegal, IsKeptBy, WasSelected};
-ghost use Rattle.model.specs.History.{ChainTheorem, live_of, length_after};
+ghost use Rattle.model.specs.History.{ChainTheorem, AreTold, live_of, length_after};
 
 /// The selection rule has one answer at most, where no two live blocks have one hash.
 pub fn one_selection()
@@ -92,9 +92,18 @@ pub fn change_counts()
 
 /// What a follower was told is the beginning of a chain that was selected at some time of the history.
 pub fn told_chains()
-    ensures { (network : Network) (history : List Entry) (s : State) (id : ℕ) (told : List Block)
+    ensures { (network : Network) (history : List Entry) (s : State) (id : ℕ) (f : Follower)
         → IsLegal network history s
-        → told_by s.followers id ≡ Some told → WasSelected network history told }
+        → follower_of s.followers id ≡ Some f → WasSelected network history f.told }
+{}
+
+/// A client that puts on and cuts back as it is told has the selected chain after finitely many instructions: one to go
+/// back where that is due, and one for each block of the chain that isn't agreed.
+pub fn followers_catch_up()
+    ensures { (network : Network) (history : List Entry) (s : State) (id : ℕ) (f : Follower) (more : List Entry)
+        (t : State) → IsLegal network history s → follower_of s.followers id ≡ Some f
+        → AreTold id more → IsRun network s more t → left_to_tell s.chain f ≤ length more
+        → (t.chain ≡ s.chain) × (g : Follower) × (follower_of t.followers id ≡ Some g) × (g.told ≡ t.chain) }
 {}
 
 /// The chain theorem holds of every legal history and the state that it leaves.

@@ -3,7 +3,7 @@ use Rattle.std.proofs.Common.{◌≡◌, ℕ, ◌+◌, List, [], ◌∷◌, ◌+
 use Rattle.model.specs.Ledger.{Network}
 use Rattle.model.specs.History.{State, Event, Reply, Entry, Step, IsRun}
 use Rattle.model.proofs.ToldChains.{theorem_of_legal}
-use Rattle.script.specs.Meaning.{Meaning, Defines, Arrives, SubmitsTx, ForgesBlock, OpensFollower, TellsFollower, PrintsTip, PrintsMempool, PrintsUtxo}
+use Rattle.script.specs.Meaning.{Meaning, Defines, Arrives, SubmitsTx, ForgesBlock, OpensFollower, TellsFollower, ForwardsFollower, ClosesFollower, PrintsTip, PrintsMempool, PrintsUtxo}
 use Rattle.scenario.specs.Run.{Scene, opening_scene, Acts, Prints, AreObeyed, entry}
 
 -- a run, and another from where it ended
@@ -26,6 +26,8 @@ acts_run network s (SubmitsTx name tx) out entries t (reply, submitted, printed,
 acts_run network s (ForgesBlock name slot) out entries t (answer, forged, printed, none) = still network s.state t.state entries none forged.state
 acts_run network s (OpensFollower name) out entries t (reply, opened, printed, is) = once network s.state t.state _ reply entries opened.step is
 acts_run network s (TellsFollower name id) out entries t (reply, told, printed, is) = once network s.state t.state _ reply entries told.step is
+acts_run network s (ForwardsFollower name id points) out entries t (reply, forwarded, printed, is) = once network s.state t.state _ reply entries forwarded.step is
+acts_run network s (ClosesFollower name id) out entries t (reply, closed, printed, is) = once network s.state t.state _ reply entries closed.step is
 acts_run network s PrintsTip out entries t (printed, none, same) = still network s.state t.state entries none (ap (λ (x : Scene). x.state) same)
 acts_run network s PrintsMempool out entries t (printed, none, same) = still network s.state t.state entries none (ap (λ (x : Scene). x.state) same)
 acts_run network s PrintsUtxo out entries t (ledger, folded, printed, none, same) = still network s.state t.state entries none (ap (λ (x : Scene). x.state) same)

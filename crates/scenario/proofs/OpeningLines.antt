@@ -2,9 +2,9 @@
 use Rattle.std.proofs.Common.{◌≡◌, List, [], ◌++◌, ℕ, Result, Err, refl, ap, ◌∙◌}
 use Rattle.model.specs.Ledger.{Network}
 use Rattle.model.specs.History.{State, Open, Reply, Step}
-use Rattle.chain_core.specs.declared.follower.FollowerId.{FollowerId}
-use Rattle.chain_core.specs.declared.follower.OpenFault.{OpenFault}
-use Rattle.chain_core.specs.declared.follower.OpenFault.TheVariants as open'
+use Rattle.followers.specs.declared.follower_id.FollowerId.{FollowerId}
+use Rattle.followers.specs.declared.fault.OpenFault.{OpenFault}
+use Rattle.followers.specs.declared.fault.OpenFault.TheVariants as open'
 use Rattle.chain_core.specs.Views.{open_reply_of}
 use Rattle.chain_core.specs.Held.{Stands}
 use Rattle.scenario.specs.declared.session.Session.{Session}

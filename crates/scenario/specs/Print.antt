@@ -1,5 +1,6 @@
 -- The lines that a script prints, and what of them a writer that fails has written.
-use Rattle.std.specs.Prelude.{◌≡◌, ◌≢◌, ℕ, List, [], ◌∷◌, ◌++◌, length, Option, decimal, codes, ◌==◌, if◌then◌else◌}
+use Rattle.std.specs.Prelude.{◌≡◌, ◌≢◌, ℕ, List, [], ◌∷◌, ◌++◌, length, Option, Some, None, decimal, codes, ◌==◌}
+use Rattle.std.specs.Prelude.{if◌then◌else◌}
 use Rattle.std.specs.Io.KnownBytes.{Appends}
 use Rattle.model.specs.Transaction.{Transaction, transaction_id_of}
 use Rattle.model.specs.Block.{Block, SpellsBlock, block_text, block_hash_of}
@@ -9,7 +10,8 @@ use Rattle.model.specs.Ledger.{Ledger}
 use Rattle.model.specs.Chain.{Point}
 use Rattle.model.specs.Follower.{Instruction, Stay, AddBlock, RollBack}
 use Rattle.model.specs.Forging.{ForgeFault, SlotNotAfterTip, OutOfRange}
-use Rattle.model.specs.History.{Reply, Submitted, Opened, TooManyFollowers, Instructed, UnknownFollower, OutOfMemory}
+use Rattle.model.specs.History.{Reply, Submitted, Opened, TooManyFollowers, Instructed, Forwarded, Closed}
+use Rattle.model.specs.History.{UnknownFollower, OutOfMemory}
 use Rattle.mempool.specs.Texts.{submit_reply_text}
 use Rattle.chain_core.specs.Texts.{arrive_reply_text}
 use Rattle.script.specs.declared.line.Form.{Form}
@@ -107,6 +109,30 @@ pub record IsNextText (names : List Binding) (name : List ℕ) (reply : Reply) (
   pub text : List ℕ
   pub is_reply : IsNextReplyText names reply text
   pub line : out ≡ codes "next " ++ name ++ codes ": " ++ text ++ 10 ∷ []
+
+-- what a follower is answered that was to be set to a point: the point's name, where one is on the chain
+abbrev pub forwarding_reply_text : List Binding → Reply → List ℕ
+forwarding_reply_text names (Forwarded None) = codes "none"
+forwarding_reply_text names (Forwarded (Some point)) = point_name names point
+forwarding_reply_text names UnknownFollower = codes "refused UnknownFollower"
+-- it is answered nothing else
+forwarding_reply_text names reply = []
+
+-- what the line `forward` prints
+abbrev pub forwarding_text : List Binding → List ℕ → Reply → List ℕ
+forwarding_text names name reply =
+    codes "forward " ++ name ++ codes ": " ++ forwarding_reply_text names reply ++ 10 ∷ []
+
+-- what the closing of a follower is answered
+abbrev pub closing_reply_text : Reply → List ℕ
+closing_reply_text Closed = codes "ok"
+closing_reply_text UnknownFollower = codes "refused UnknownFollower"
+-- no closing is answered otherwise
+closing_reply_text reply = []
+
+-- what the line `close` prints
+abbrev pub closing_text : List ℕ → Reply → List ℕ
+closing_text name reply = codes "close " ++ name ++ codes ": " ++ closing_reply_text reply ++ 10 ∷ []
 
 -- a beginning of the bytes was written, and these are left
 pub record AppendsUpTo (old new : Option (List ℕ)) (bytes unwritten : List ℕ) : Type 0 where

@@ -8,11 +8,10 @@ use Rattle.model.specs.Block.{Block}
 use Rattle.model.specs.Signature.{test_verifies}
 use Rattle.model.specs.Genesis.{Genesis}
 use Rattle.model.specs.Ledger.{Network, Ledger, network_of, ledger_of}
-use Rattle.model.specs.Chain.{tip_point}
-use Rattle.model.specs.Follower.{told_by, IsDue, IsNextInstruction, Instruction}
+use Rattle.model.specs.Chain.{Point, tip_point}
 use Rattle.model.specs.Forging.{ForgeFault, ForgeApplies, IsNotForged, IsForged}
-use Rattle.model.specs.History.{State, opening, Event, Arrive, Submit, Open, Next, Step}
-use Rattle.model.specs.History.{Reply, Opened, Instructed, OutOfMemory}
+use Rattle.model.specs.History.{State, opening, Event, Arrive, Submit, Open, Next, Forward, Close, Step, HasDue}
+use Rattle.model.specs.History.{Reply, Opened, OutOfMemory}
 use Rattle.model.specs.History.{Entry, ChainTheorem}
 use Rattle.script.specs.declared.fault.LineFault.{LineFault}
 use Rattle.script.specs.declared.fault.LineFault.TheVariants.{BadLine}
@@ -23,11 +22,11 @@ use Rattle.scenario.specs.declared.fault.ScenarioFault.TheVariants as fault
 use Rattle.script.specs.Text.{lines_of}
 use Rattle.script.specs.Names.{Named, Binding, OpenTx, AllNames, no_names}
 use Rattle.script.specs.Meaning.{Meaning, Defines, Arrives, SubmitsTx, ForgesBlock, OpensFollower, TellsFollower}
-use Rattle.script.specs.Meaning.{PrintsTip, PrintsMempool, PrintsUtxo, bound_block}
+use Rattle.script.specs.Meaning.{ForwardsFollower, ClosesFollower, PrintsTip, PrintsMempool, PrintsUtxo, bound_block}
 use Rattle.script.specs.Meaning.{AreNamesAfter, HasNoFault, Means, formed}
 use Rattle.scenario.specs.Print.{arrival_text, submission_text, ForgeAnswer, ForgedBlock, NoBlock, NoMemory}
 use Rattle.scenario.specs.Print.{forge_answer_text, forging_text, mempool_text, opening_text, tip_text, utxo_text}
-use Rattle.scenario.specs.Print.{IsNextText}
+use Rattle.scenario.specs.Print.{IsNextText, forwarding_text, closing_text}
 
 -- the node's state with the names that are bound
 pub record Scene : Type 0 where
@@ -80,21 +79,25 @@ pub record WasOpened (network : Network) (s : Scene) (name : List ℕ) (reply : 
   pub step : Step network s.state Open reply t.state
   pub names : t.names ≡ record s.names { of_followers = names_opened s.names.of_followers name reply }
 
--- for what the follower of this number was told the instruction is the one that is due
-abbrev pub IsNextFor : State → ℕ → Instruction → Type 0
-IsNextFor s id instruction = (told : List Block) → told_by s.followers id ≡ Some told
-    → IsNextInstruction s.chain told instruction
-
--- a block is due for the follower of this number
-abbrev pub HasDue : State → ℕ → Type 0
-HasDue s id = (told : List Block) × (b : Block) × (told_by s.followers id ≡ Some told) × IsDue s.chain told b
-
--- a follower that asked what comes next was answered so, by a step of the definitions. It is told exactly what is
--- due, and memory runs out only where a block is
-pub record WasTold (network : Network) (s : Scene) (id : ℕ) (reply : Reply) (t : Scene) : Type 0 where
+-- a follower that asked what comes next was answered so, by a step of the definitions. Memory runs out only where a
+-- block comes next
+pub record WasInstructed (network : Network) (s : Scene) (id : ℕ) (reply : Reply) (t : Scene) : Type 0 where
   pub step : Step network s.state (Next id) reply t.state
-  pub next : (instruction : Instruction) → reply ≡ Instructed instruction → IsNextFor s.state id instruction
   pub due : reply ≡ OutOfMemory → HasDue s.state id
+  pub names : t.names ≡ s.names
+
+-- a follower that was to be set to one of these points was answered so, by a step of the definitions, for which no
+-- memory is asked
+pub record WasForwarded (network : Network) (s : Scene) (id : ℕ) (points : List Point) (reply : Reply) (t : Scene)
+    : Type 0 where
+  pub step : Step network s.state (Forward id points) reply t.state
+  pub enough : reply ≢ OutOfMemory
+  pub names : t.names ≡ s.names
+
+-- the closing of a follower was answered so, by a step of the definitions, for which no memory is asked
+pub record WasClosed (network : Network) (s : Scene) (id : ℕ) (reply : Reply) (t : Scene) : Type 0 where
+  pub step : Step network s.state (Close id) reply t.state
+  pub enough : reply ≢ OutOfMemory
   pub names : t.names ≡ s.names
 
 -- an event with its reply, as the one entry of a history
@@ -102,7 +105,7 @@ abbrev pub entry : Event → Reply → List Entry
 entry event reply = record { event = event; reply = reply } ∷ []
 
 -- From one scene a line that means this prints so, and leaves the other; these are its event and the reply that is
--- printed, if it has an event. Each event may be answered that memory ran out, which is a step too.
+-- printed, if it has an event. That memory ran out is a step too, where it may be answered.
 abbrev pub Acts : Network → Scene → Meaning → (out : List ℕ) → List Entry → Scene → Type 0
 Acts network s (Defines definition) out entries t =
     (out ≡ []) × (entries ≡ []) × (t.state ≡ s.state) × AreNamesAfter s.names definition t.names
@@ -114,8 +117,13 @@ Acts network s (ForgesBlock name slot) out entries t = (answer : ForgeAnswer) ×
     × (out ≡ forging_text name (forge_answer_text answer)) × (entries ≡ [])
 Acts network s (OpensFollower name) out entries t = (reply : Reply) × WasOpened network s name reply t
     × (out ≡ opening_text name reply) × (entries ≡ entry Open reply)
-Acts network s (TellsFollower name id) out entries t = (reply : Reply) × WasTold network s id reply t
+Acts network s (TellsFollower name id) out entries t = (reply : Reply) × WasInstructed network s id reply t
     × IsNextText s.names.of_bytes name reply out × (entries ≡ entry (Next id) reply)
+Acts network s (ForwardsFollower name id points) out entries t = (reply : Reply)
+    × WasForwarded network s id points reply t
+    × (out ≡ forwarding_text s.names.of_bytes name reply) × (entries ≡ entry (Forward id points) reply)
+Acts network s (ClosesFollower name id) out entries t = (reply : Reply) × WasClosed network s id reply t
+    × (out ≡ closing_text name reply) × (entries ≡ entry (Close id) reply)
 Acts network s PrintsTip out entries t = (out ≡ tip_text s.names.of_bytes (tip_point s.state.chain)) × (entries ≡ [])
     × (t ≡ s)
 Acts network s PrintsMempool out entries t = (out ≡ mempool_text s.names.of_txs s.state.mempool) × (entries ≡ [])
@@ -141,8 +149,8 @@ Prints network number before s (line ∷ lines) out history t = (first rest : Li
     × (out ≡ first ++ rest) × (history ≡ entries ++ later)
 
 -- Lines from the beginning of a script are obeyed and print so. The chain theorem holds of their events with the
--- replies that are printed: they are a legal history, it leaves the state whose tip and followers are printed, the
--- selected chain is valid, and none is longer.
+-- replies that are printed: they are a legal history, it leaves the state whose tip, mempool and followers are printed,
+-- the selected chain is valid, and none is longer, the mempool is valid on it, and each follower follows it.
 pub record AreObeyed (network : Network) (lines : List (List ℕ)) (out : List ℕ) : Type 0 where
   pub scene : Scene
   pub history : List Entry

@@ -4,17 +4,20 @@ ghost use Rattle.std.specs.Prelude.{◌≡◌, ◌++◌, ℕ, List, OnOk, Some};
 ghost use Rattle.model.specs.Block.{SpellsBlock, block_text, block_hash_of};
 ghost use Rattle.ident.specs.PointView.{point_of};
 ghost use Rattle.chain_core.specs.Views.{instruction_of, arrive_reply_of, submit_reply_of, open_reply_of};
-ghost use Rattle.chain_core.specs.Views.{next_reply_of};
+ghost use Rattle.chain_core.specs.Views.{next_reply_of, forward_reply_of, close_reply_of};
 ghost use Rattle.script.specs.Names.{AllNames, printed_name};
 ghost use Rattle.script.specs.RequestView.{AreNamed};
 ghost use Rattle.scenario.specs.Print.{arrival_text, opening_reply_text, opening_text, point_name, IsInstructionText};
 ghost use Rattle.scenario.specs.Print.{IsNextReplyText, IsNextText, tip_text, unspent_text};
 ghost use Rattle.scenario.specs.Print.{submission_reply_text, submission_text, forging_text};
-ghost use Rattle.scenario.specs.Print.{tx_names_text, mempool_text};
+ghost use Rattle.scenario.specs.Print.{tx_names_text, mempool_text, forwarding_reply_text, forwarding_text};
+ghost use Rattle.scenario.specs.Print.{closing_reply_text, closing_text};
 ghost use Rattle.scenario.specs.ForgeView.{code_answer_text};
 
 use block::CheckedBlock;
-use chain_core::{ArriveReply, FollowerId, ForgeFault, Instruction, NextFault, OpenFault};
+use chain_core::{
+    ArriveReply, FollowerId, ForgeFault, Instruction, NextFault, OpenFault, UnknownFollower,
+};
 use ident::Point;
 use mempool::{Mempool, SubmitReply};
 use script::{Form, Names};
@@ -247,6 +250,62 @@ pub fn print_next(
     line.extend_from_slice(name)?;
     line.extend_from_slice(b": ")?;
     print_next_reply(line, names, reply)?;
+    line.push(b'\n')?;
+    Ok(())
+}
+
+/// What a follower is answered that was to be set to a point.
+fn forwarding_reply<'a>(names: &'a Names, reply: Result<Option<Point>, UnknownFollower>) -> &'a [u8]
+    ensures { (all : AllNames) → AreNamed names.entry.now all
+        → result.now ≡ forwarding_reply_text all.of_bytes (forward_reply_of reply) }
+{
+    match reply {
+        Ok(Some(point)) => point_name(names, &point),
+        Ok(None) => b"none".as_slice(),
+        Err(UnknownFollower {}) => b"refused UnknownFollower".as_slice(),
+    }
+}
+
+/// Appends what the line `forward` prints.
+pub fn print_forwarding(
+    line: &mut Vec<u8>,
+    names: &Names,
+    name: &[u8],
+    reply: Result<Option<Point>, UnknownFollower>,
+) -> Result<(), AllocError>
+    ensures { OnOk result ((all : AllNames) → AreNamed names.now all → line.new.items ≡ line.old.items
+        ++ forwarding_text all.of_bytes name.now (forward_reply_of reply)) }
+{
+    line.extend_from_slice(b"forward ")?;
+    line.extend_from_slice(name)?;
+    line.extend_from_slice(b": ")?;
+    line.extend_from_slice(forwarding_reply(names, reply))?;
+    line.push(b'\n')?;
+    Ok(())
+}
+
+/// What the closing of a follower is answered.
+fn closing_reply(reply: Result<(), UnknownFollower>) -> &'static [u8]
+    ensures { result.now ≡ closing_reply_text (close_reply_of reply) }
+{
+    match reply {
+        Ok(()) => b"ok".as_slice(),
+        Err(UnknownFollower {}) => b"refused UnknownFollower".as_slice(),
+    }
+}
+
+/// Appends what the line `close` prints.
+pub fn print_closing(
+    line: &mut Vec<u8>,
+    name: &[u8],
+    reply: Result<(), UnknownFollower>,
+) -> Result<(), AllocError>
+    ensures { OnOk result (line.new.items ≡ line.old.items ++ closing_text name.now (close_reply_of reply)) }
+{
+    line.extend_from_slice(b"close ")?;
+    line.extend_from_slice(name)?;
+    line.extend_from_slice(b": ")?;
+    line.extend_from_slice(closing_reply(reply))?;
     line.push(b'\n')?;
     Ok(())
 }

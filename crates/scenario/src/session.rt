@@ -1,14 +1,15 @@
 //! The node with the names of a script.
 
-ghost use Rattle.std.specs.Prelude.{◌≡◌, ◌+◌, ◌≤◌, [], None, Some, IfOk, IfErr, OnOk, length, option_map};
+ghost use Rattle.std.specs.Prelude.{◌≡◌, ◌+◌, ◌≤◌, [], None, Some, IfOk, IfErr, OnOk, length, map, option_map};
 ghost use Rattle.model.specs.Cbor.{text_of};
 ghost use Rattle.model.specs.Transaction.{Transaction, item_of_transaction};
 ghost use Rattle.model.specs.History.{State, Arrive, Submit, Step};
 ghost use Rattle.chain_core.specs.Held.{Stands};
+ghost use Rattle.ident.specs.PointView.{point_of};
 ghost use Rattle.chain_core.specs.Views.{arrive_reply_of, submit_reply_of};
 ghost use Rattle.script.specs.Names.{AllNames, Bound, bound_to};
 ghost use Rattle.script.specs.Meaning.{Arrives, ForgesBlock, OpensFollower, PrintsMempool, PrintsTip, PrintsUtxo};
-ghost use Rattle.script.specs.Meaning.{SubmitsTx, TellsFollower};
+ghost use Rattle.script.specs.Meaning.{SubmitsTx, TellsFollower, ForwardsFollower, ClosesFollower};
 ghost use Rattle.script.specs.Meaning.{formed, is_late_line, Means, parse_within};
 ghost use Rattle.script.specs.RequestView.{AreNamed, HasFollowerRoom};
 ghost use Rattle.script.specs.Text.{script_size_limit};
@@ -16,11 +17,12 @@ ghost use Rattle.scenario.specs.Run.{Scene, opening_scene, script_network};
 ghost use Rattle.scenario.specs.SessionView.{Forges, Holds, IsDone, IsObeyed};
 
 use crate::print::{
-    print_arrival, print_forging, print_mempool, print_next, print_opening, print_submission,
-    print_tip, print_utxo,
+    print_arrival, print_closing, print_forging, print_forwarding, print_mempool, print_next,
+    print_opening, print_submission, print_tip, print_utxo,
 };
 use chain_core::{ArriveReply, Core, FollowerId, ForgeFault};
 use genesis::Genesis;
+use ident::Point;
 use mempool::SubmitReply;
 use script::{Form, LinePlace, Name, Names, Request, Stop};
 use std::alloc::{AllocError, Global};
@@ -228,6 +230,35 @@ impl Session {
         }
     }
 
+    /// The follower of a number is set to the first of the points that is on the selected chain. The room for what it
+    /// prints is taken first.
+    fn forward(&mut self, name: Name<'_>, id: u64, points: &[Point]) -> Result<Vec<u8>, Stop>
+        ensures obeyed { (s : Scene) → Holds self.old s → IsDone (script_network self.old.core.genesis) s
+            (ForwardsFollower name.entry.text.now id (map point_of points.now)) result self.new }
+        ensures genesis { self.new.core.genesis ≡ self.old.core.genesis }
+    {
+        let mut line = line_room(self.alloc, name)?;
+        let reply = self.core.forward(FollowerId { number: id }, points);
+        match print_forwarding(&mut line, &self.names, name.text, reply) {
+            Ok(()) => Ok(line),
+            Err(AllocError) => Err(Stop::OutOfMemory),
+        }
+    }
+
+    /// The follower of a number is closed. The room for what it prints is taken first.
+    fn close(&mut self, name: Name<'_>, id: u64) -> Result<Vec<u8>, Stop>
+        ensures obeyed { (s : Scene) → Holds self.old s → IsDone (script_network self.old.core.genesis) s
+            (ClosesFollower name.entry.text.now id) result self.new }
+        ensures genesis { self.new.core.genesis ≡ self.old.core.genesis }
+    {
+        let mut line = line_room(self.alloc, name)?;
+        let reply = self.core.close(FollowerId { number: id });
+        match print_closing(&mut line, name.text, reply) {
+            Ok(()) => Ok(line),
+            Err(AllocError) => Err(Stop::OutOfMemory),
+        }
+    }
+
     /// The question where the selected chain ends.
     fn tip(&self) -> Result<Vec<u8>, Stop>
         ensures { (s : Scene) → Holds self.now s
@@ -292,6 +323,8 @@ impl Session {
             Ok(Request::Forge { name, slot }) => self.forge(name, slot),
             Ok(Request::Open { name }) => self.open(name),
             Ok(Request::Next { name, id }) => self.next(name, id),
+            Ok(Request::Forward { name, id, points }) => self.forward(name, id, &points),
+            Ok(Request::Close { name, id }) => self.close(name, id),
             Ok(Request::Tip) => self.tip(),
             Ok(Request::Mempool) => self.mempool(),
             Ok(Request::Utxo) => self.utxo(),

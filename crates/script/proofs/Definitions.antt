@@ -1,5 +1,8 @@
--- What is defined by a line, and what comes of a part.
+-- What is defined by a line, what comes of a part, and of points that were not found.
 use Rattle.std.proofs.Common.{◌≡◌, ℕ, Bool, true, false, cond, map, IsTrue, List, Option, Some, None, is_some, Result, Ok, Err, refl, sym, ◌∙◌, subst}
+use Rattle.ident.specs.PointView.{point_of}
+use Rattle.ident.specs.declared.point.Point.{Point as CodePoint}
+use Rattle.model.specs.Chain.{Point}
 use Rattle.model.specs.Script.{Script, SpellsScript}
 use Rattle.model.specs.Transaction.{Transaction, Address}
 use Rattle.value.specs.Parts.{AssetQuantity}
@@ -19,8 +22,8 @@ use Rattle.script.specs.declared.open_tx.OpenTx as code
 use Rattle.script.specs.Names.{OpenTx, AllNames, Bound, bound_to}
 use Rattle.script.specs.Adding.{IsAdded, AreGathered, AreFound}
 use Rattle.tx.proofs.ForCallers.{same_list}
-use Rattle.script.specs.Line.{Parent}
-use Rattle.script.specs.Meaning.{Meaning, Defines, BindsScript, Continues, MeansScriptIf, Base, meaning_by, continued, where_known, where_built, binds_bytes}
+use Rattle.script.specs.Line.{NamedPlace}
+use Rattle.script.specs.Meaning.{Meaning, Defines, ForwardsFollower, BindsScript, Continues, MeansScriptIf, Base, meaning_by, continued, where_known, where_built, binds_bytes}
 use Rattle.script.specs.Meaning.{are_some, base_after, block_meaning, block_on, bound_block, built, txs_named}
 use Rattle.script.specs.RequestView.{AreNamed, Asked, AsksFor, IsOpen, IsMaking}
 
@@ -133,7 +136,7 @@ only_not_built false bound name fault is = unwrapped NotBuilt fault is
     unwrapped a b e = cc
 
 -- the transactions of a block were not gathered
-pub txs_refused : (names : AllNames) (c : Names) (name : List ℕ) (parent : Parent) (slot : ℕ) (words : List (List ℕ)) (base : Base) (stop : Stop) → base_after names.of_bytes parent ≡ Some base → bound_to name names.of_bytes ≡ None
+pub txs_refused : (names : AllNames) (c : Names) (name : List ℕ) (parent : NamedPlace) (slot : ℕ) (words : List (List ℕ)) (base : Base) (stop : Stop) → base_after names.of_bytes parent ≡ Some base → bound_to name names.of_bytes ≡ None
     → true ≡ is_some (txs_named names words) → AreGathered {X = Transaction} (λ tx. tx) (txs_named names words) (Err stop) → (stop ≡ OutOfMemory → IsTrue (are_some words)) → AreNamed c names
     → AsksFor names (block_meaning names name parent slot words) (are_some words) (Err stop) c
 txs_refused names c name parent slot words base (Fault fault) known free some (unknown, none) late named = (rw (known, none, unknown) refl, named)
@@ -144,9 +147,20 @@ txs_refused names c name parent slot words base OutOfMemory known free some gath
     built_so (Some all) is some fault means = only_not_built _ (bound_block (block_on base slot all)) name fault (rw (known, is, free) at means)
 
 -- a block whose transactions were gathered
-pub block_built : (names : AllNames) (name : List ℕ) (parent : Parent) (slot : ℕ) (words : List (List ℕ)) (base : Base) (txs : List Transaction) (bound : Bound) → base_after names.of_bytes parent ≡ Some base → bound_to name names.of_bytes ≡ None
+pub block_built : (names : AllNames) (name : List ℕ) (parent : NamedPlace) (slot : ℕ) (words : List (List ℕ)) (base : Base) (txs : List Transaction) (bound : Bound) → base_after names.of_bytes parent ≡ Some base → bound_to name names.of_bytes ≡ None
     → txs_named names words ≡ Some (map (λ (tx : Transaction). tx) txs) → built base slot txs ≡ Ok bound → block_meaning names name parent slot words ≡ Ok (binds_bytes name bound)
 block_built names name parent slot words base txs bound known free gathered is = rw (known, gathered, same_list txs, free, is) refl
+
+-- ---- followers
+
+-- the points of a follower that is known were not found
+pub points_refused : (names : AllNames) (c : Names) (name : List ℕ) (id : ℕ) (found : Option ℕ) (wanted : Option (List Point)) (stop : Stop) → found ≡ Some id → AreFound {X = CodePoint} point_of wanted (Err stop) → AreNamed c names
+    → AsksFor names (where_known found (λ n. where_known wanted (λ points. Ok (ForwardsFollower name n points)))) false (Err stop) c
+points_refused names c name id found wanted (Fault fault) is (unknown, none) named = (rw (is, none, unknown) refl, named)
+points_refused names c name id found None OutOfMemory is some named = cc
+points_refused names c name id found (Some points) OutOfMemory is some named = rw is (λ fault means. cc)
+
+-- ---- lines that have a meaning
 
 -- what has a meaning lacks no fault
 pub asks_late : (names : AllNames) (meaning : Meaning) (said : Result Meaning LineFault) (late : Bool) (r : Result Request Stop) (new : Names) → AsksFor names (Ok meaning) false r new → said ≡ Ok meaning → AsksFor names said late r new

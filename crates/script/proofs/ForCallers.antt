@@ -1,7 +1,7 @@
 -- What crates above cite of this one's proofs, and no other file: a line that has a meaning has no fault.
 use Rattle.std.proofs.Common.{◌≡◌, ℕ, Bool, true, false, List, Option, Some, None, is_some, Result, Ok, Err, sym, ◌∙◌}
 use Rattle.script.specs.declared.fault.LineFault.{LineFault}
-use Rattle.script.specs.Line.{Line, Nothing, DefineKey, DefineScript, BeginTx, AddPart, EndTx, DefineBlock, DefineRaw, Arrive, SubmitTx, ForgeBlock, OpenFollower, AskNext, AskTip, AskMempool, AskUtxo}
+use Rattle.script.specs.Line.{Line, Nothing, DefineKey, DefineScript, BeginTx, AddPart, EndTx, DefineBlock, DefineRaw, Arrive, SubmitTx, ForgeBlock, OpenFollower, AskNext, AskForward, CloseFollower, AskTip, AskMempool, AskUtxo}
 use Rattle.script.specs.Names.{AllNames, OpenTx, bound_to}
 use Rattle.script.specs.Meaning.{Meaning, Means, MeansIfLine, MeansLine, MeansOutside, MeansScriptIf, parse_within}
 
@@ -26,6 +26,8 @@ never_outside number names (SubmitTx name) m fault is also = no_both _ m fault i
 never_outside number names (ForgeBlock name slot) m fault is also = no_both _ m fault is also
 never_outside number names (OpenFollower name) m fault is also = no_both _ m fault is also
 never_outside number names (AskNext name) m fault is also = no_both _ m fault is also
+never_outside number names (AskForward name places) m fault is also = no_both _ m fault is also
+never_outside number names (CloseFollower name) m fault is also = no_both _ m fault is also
 never_outside number names AskTip m fault is also = no_both _ m fault is also
 never_outside number names AskMempool m fault is also = no_both _ m fault is also
 never_outside number names AskUtxo m fault is also = no_both _ m fault is also

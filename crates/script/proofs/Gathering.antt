@@ -1,13 +1,14 @@
--- Assets and transactions that lines name, one after the other.
+-- Assets, transactions and points that lines name, one after the other.
 use Rattle.std.proofs.Common.{◌≡◌, ℕ, ◌<◌, IsTrue, List, [], ◌∷◌, ◌++◌, length, map, drop, Option, Some, None, is_some, option_map, refl, sym, ◌∙◌, ap, append_assoc, append-nil, arith}
+use Rattle.model.specs.Chain.{Point}
 use Rattle.model.specs.Script.{Script, script_hash_of}
 use Rattle.model.specs.Transaction.{Transaction}
 use Rattle.value.specs.Parts.{AssetQuantity}
 use Rattle.script.specs.Text.{first_word}
-use Rattle.script.specs.Line.{NamedAsset}
+use Rattle.script.specs.Line.{NamedAsset, NamedPlace, said_place, said_places}
 use Rattle.script.specs.AssetView.{first_of}
-use Rattle.script.specs.Names.{AllNames, bound_to}
-use Rattle.script.specs.Meaning.{assets_of, asset_of, are_some, with_known, with_tx, txs_named}
+use Rattle.script.specs.Names.{AllNames, Binding, bound_to}
+use Rattle.script.specs.Meaning.{assets_of, asset_of, are_some, point_at, points_at, with_one, txs_named}
 
 -- ---- measures
 
@@ -19,20 +20,25 @@ pub fewer_words : (words : List (List ℕ)) (word : List ℕ) → first_word wor
 fewer_words [] word is = cc
 fewer_words (x ∷ xs) word is = omega arith
 
+pub fewer_places : (words : List (List ℕ)) (place : NamedPlace) → option_map said_place (first_word words) ≡ Some place → length (drop 1 words) < length words
+fewer_places [] place is = cc
+fewer_places (x ∷ xs) place is = omega arith
+
 -- a word is there, so there are some
 pub some_before : (words : List (List ℕ)) (word : List ℕ) → first_word words ≡ Some word → IsTrue (are_some words)
 some_before [] word is = cc
 some_before (x ∷ xs) word is = refl
+
+-- one more that is known
+with_first : {X : Type 0} (x : X) (others : Option (List X)) → with_one (Some x) others ≡ option_map (λ (rest : List X). x ∷ rest) others
+with_first x None = refl
+with_first x (Some others) = refl
 
 -- ---- assets
 
 -- what an asset is whose script is known
 abbrev pub found_asset : NamedAsset ℕ → Script → AssetQuantity ℕ
 found_asset a script = record { policy = script_hash_of script; name = a.name; quantity = a.quantity }
-
-with_one : (asset : AssetQuantity ℕ) (others : Option (List (AssetQuantity ℕ))) → with_known (Some asset) others ≡ option_map (λ (rest : List (AssetQuantity ℕ)). asset ∷ rest) others
-with_one asset None = refl
-with_one asset (Some others) = refl
 
 -- a first asset that is known
 pub next_asset_known : (names : AllNames) (assets : List (NamedAsset ℕ)) (a : NamedAsset ℕ) (script : Script) → first_of assets ≡ Some a → bound_to a.script names.of_scripts ≡ Some script
@@ -41,7 +47,7 @@ next_asset_known names [] a script is known = cc
 next_asset_known names (x ∷ xs) a script is known =
     let same : x ≡ a = some_is x a is in
     let found : asset_of names x ≡ Some (found_asset a script) = rw same (rw known refl) in
-    rw found (with_one (found_asset a script) (assets_of names xs))
+    rw found (with_first (found_asset a script) (assets_of names xs))
   where
     some_is : (x y : NamedAsset ℕ) → Some x ≡ Some y → x ≡ y
     some_is x y e = cc
@@ -63,10 +69,6 @@ no_assets_left names [] none = refl
 no_assets_left names (x ∷ xs) none = cc
 
 -- ---- transactions
-
-with_first : (tx : Transaction) (others : Option (List Transaction)) → with_tx (Some tx) others ≡ option_map (λ (rest : List Transaction). tx ∷ rest) others
-with_first tx None = refl
-with_first tx (Some others) = refl
 
 pub next_tx_known : (names : AllNames) (words : List (List ℕ)) (word : List ℕ) (tx : Transaction) → first_word words ≡ Some word → bound_to word names.of_txs ≡ Some tx
     → txs_named names words ≡ option_map (λ (rest : List Transaction). tx ∷ rest) (txs_named names (drop 1 words))
@@ -92,6 +94,36 @@ next_tx_unknown names (x ∷ xs) word is unknown =
 pub no_words_left : (names : AllNames) (words : List (List ℕ)) → first_word words ≡ None → txs_named names words ≡ Some []
 no_words_left names [] none = refl
 no_words_left names (x ∷ xs) none = cc
+
+-- ---- points
+
+-- a first place whose point is known
+pub next_point_known : (names : List Binding) (words : List (List ℕ)) (place : NamedPlace) (point : Point) → option_map said_place (first_word words) ≡ Some place → point_at names place ≡ Some point
+    → points_at names (said_places words) ≡ option_map (λ (rest : List Point). point ∷ rest) (points_at names (said_places (drop 1 words)))
+next_point_known names [] place point is known = cc
+next_point_known names (x ∷ xs) place point is known =
+    let same : said_place x ≡ place = same_place (said_place x) place is in
+    let found : point_at names (said_place x) ≡ Some point = ap (point_at names) same ∙ known in
+    ap (λ (first : Option Point). with_one first (points_at names (said_places xs))) found ∙ with_first point (points_at names (said_places xs))
+  where
+    same_place : (a b : NamedPlace) → Some a ≡ Some b → a ≡ b
+    same_place a b e = cc
+
+-- one whose point isn't
+pub next_point_unknown : (names : List Binding) (words : List (List ℕ)) (place : NamedPlace) → option_map said_place (first_word words) ≡ Some place → point_at names place ≡ None → points_at names (said_places words) ≡ None
+next_point_unknown names [] place is unknown = cc
+next_point_unknown names (x ∷ xs) place is unknown =
+    let same : said_place x ≡ place = same_place (said_place x) place is in
+    let none : point_at names (said_place x) ≡ None = ap (point_at names) same ∙ unknown in
+    ap (λ (first : Option Point). with_one first (points_at names (said_places xs))) none
+  where
+    same_place : (a b : NamedPlace) → Some a ≡ Some b → a ≡ b
+    same_place a b e = cc
+
+-- no place
+pub no_places_left : (names : List Binding) (words : List (List ℕ)) → option_map said_place (first_word words) ≡ None → points_at names (said_places words) ≡ Some []
+no_places_left names [] none = refl
+no_places_left names (x ∷ xs) none = cc
 
 -- ---- what is gathered
 

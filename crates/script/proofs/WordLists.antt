@@ -90,3 +90,16 @@ is_named false word name is = cc
 pub not_named : (b : Bool) (word : List ℕ) → None ≡ cond b (Some word) None → b ≡ false
 not_named true word none = cc
 not_named false word none = refl
+
+-- ---- words that are all read so
+
+same_words : (a b : List (List ℕ)) → (let x : Option (List (List ℕ)) = Some a in x) ≡ Some b → a ≡ b
+same_words a b e = cc
+
+pub are_all : (b : Bool) (words same : List (List ℕ)) → Some same ≡ cond b (Some words) None → (b ≡ true) × (same ≡ words)
+are_all true words same is = (refl, same_words same words is)
+are_all false words same is = cc
+
+pub not_all : (b : Bool) (words : List (List ℕ)) → None ≡ cond b (Some words) None → b ≡ false
+not_all true words none = cc
+not_all false words none = refl

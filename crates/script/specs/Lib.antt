@@ -2,6 +2,7 @@ pub mod Text
 pub mod Line
 pub mod PartView
 pub mod AssetView
+pub mod PlaceView
 pub mod LineView
 pub mod Answer
 pub mod WordsView

@@ -1,5 +1,5 @@
 -- What a line of a script says, by itself.
-use Rattle.std.specs.Prelude.{ℕ, zero, suc, ◌^◌, nat_lt, ℤ, pos, negsuc, Bool, true, false, List, [], ◌∷◌}
+use Rattle.std.specs.Prelude.{ℕ, zero, suc, ◌^◌, nat_lt, ℤ, pos, negsuc, Bool, true, false, ◌||◌, List, [], ◌∷◌, map}
 use Rattle.std.specs.Prelude.{Option, Some, None, option_map, unwrap_or, Result, Ok, Err, ◌==◌, if◌then◌else◌}
 use Rattle.std.specs.Prelude.{bytes_eq, codes}
 use Rattle.std.specs.List.{list_all}
@@ -9,10 +9,10 @@ use Rattle.script.specs.declared.line.Form.{Form}
 use Rattle.script.specs.declared.line.Form.TheVariants.{Whole, Cut, Extended}
 use Rattle.script.specs.Text.{content_of, is_printable, words_of, is_name, parse_number}
 
--- what a block goes on from
-pub data Parent : Type 0 where
-  Genesis : Parent
-  After : List ℕ → Parent
+-- a place on a chain: genesis, or the block of a name
+pub data NamedPlace : Type 0 where
+  Genesis : NamedPlace
+  AtBlock : List ℕ → NamedPlace
 
 -- what unlocks an output: the key or the script of a name
 pub data Owner : Type 0 where
@@ -40,8 +40,9 @@ pub data Part : Type 0 where
 
 -- a line: nothing, a key or a script of a name, a transaction of a name that begins, a part of it, its end, a block of
 -- a name, on a parent, in a slot, with transactions, bytes of a name, an arrival, a submission, a block of a name to
--- forge in a slot, a follower to open, the question what a follower is told next, where the selected chain ends, what
--- waits in the mempool, or what is unspent on the chain
+-- forge in a slot, a follower to open, the question what a follower is told next, a follower to set to the first of
+-- some places that is on the selected chain, a follower to close, the question where that chain ends, what waits in the
+-- mempool, or what is unspent on the chain
 pub data Line : Type 0 where
   Nothing : Line
   DefineKey : (name bytes : List ℕ) → Line
@@ -49,13 +50,15 @@ pub data Line : Type 0 where
   BeginTx : (name : List ℕ) → Line
   AddPart : Part → Line
   EndTx : Line
-  DefineBlock : (name : List ℕ) → Parent → (slot : ℕ) → (txs : List (List ℕ)) → Line
+  DefineBlock : (name : List ℕ) → (parent : NamedPlace) → (slot : ℕ) → (txs : List (List ℕ)) → Line
   DefineRaw : (name bytes : List ℕ) → Line
   Arrive : Form → (name : List ℕ) → Line
   SubmitTx : (name : List ℕ) → Line
   ForgeBlock : (name : List ℕ) → (slot : ℕ) → Line
   OpenFollower : (name : List ℕ) → Line
   AskNext : (name : List ℕ) → Line
+  AskForward : (name : List ℕ) → List NamedPlace → Line
+  CloseFollower : (name : List ℕ) → Line
   AskTip : Line
   AskMempool : Line
   AskUtxo : Line
@@ -80,11 +83,23 @@ word_of Extended = codes "arrive-ext"
 abbrev pub where_name : List ℕ → Option Line → Option Line
 where_name word said = if is_name word then said else None
 
-abbrev pub parse_parent : List ℕ → Option Parent
-parse_parent word =
-    if bytes_eq word (codes "genesis") then Some Genesis
-    else if is_name word then Some (After word)
-    else None
+-- whether a word says a place: it is `genesis`, or a name
+abbrev pub is_place : List ℕ → Bool
+is_place word = bytes_eq word (codes "genesis") || is_name word
+
+-- the place that it says
+abbrev pub said_place : List ℕ → NamedPlace
+said_place word = if bytes_eq word (codes "genesis") then Genesis else AtBlock word
+
+abbrev pub parse_place : List ℕ → Option NamedPlace
+parse_place word = if is_place word then Some (said_place word) else None
+
+-- the places that words say, one each, in this order
+abbrev pub said_places : List (List ℕ) → List NamedPlace
+said_places words = map said_place words
+
+abbrev pub parse_places : List (List ℕ) → Option (List NamedPlace)
+parse_places words = if list_all is_place words then Some (said_places words) else None
 
 -- the bytes that hexadecimal digits say, if there are digits and their number is even
 abbrev pub decoded : Result (List ℕ) FromHexError → Option (List ℕ)
@@ -175,6 +190,7 @@ abbrev pub named_line : (word name : List ℕ) → Option Line
 named_line word name =
     if bytes_eq word (codes "open") then where_name name (Some (OpenFollower name))
     else if bytes_eq word (codes "next") then where_name name (Some (AskNext name))
+    else if bytes_eq word (codes "close") then where_name name (Some (CloseFollower name))
     else if bytes_eq word (codes "submit") then where_name name (Some (SubmitTx name))
     else if bytes_eq word (codes "tx") then where_name name (Some (BeginTx name))
     else if bytes_eq word (codes "fee") then number_part SetFee name
@@ -210,7 +226,7 @@ pair_line word first second =
     else None
 
 -- a block of these parts, where each of them is there
-abbrev pub block_of_parts : List ℕ → Option Parent → Option ℕ → (txs : List (List ℕ)) → Option Line
+abbrev pub block_of_parts : List ℕ → Option NamedPlace → Option ℕ → (txs : List (List ℕ)) → Option Line
 block_of_parts name None slot txs = None
 block_of_parts name (Some parent) None txs = None
 block_of_parts name (Some parent) (Some slot) txs =
@@ -234,19 +250,31 @@ mint_line script name quantity (word ∷ words) = None
 abbrev pub long_line : (word first second third : List ℕ) → (rest : List (List ℕ)) → Option Line
 long_line word first second third rest =
     if bytes_eq word (codes "block") then
-    where_name first (block_of_parts first (parse_parent second) (parse_number third) rest)
+    where_name first (block_of_parts first (parse_place second) (parse_number third) rest)
     else if bytes_eq word (codes "out") then
     pay_of_parts (parse_owner first second) (parse_number third) (parse_assets rest)
     else if bytes_eq word (codes "mint") then mint_line first second third rest
     else None
 
+-- what a first word says with those that come after it, by their number
+abbrev pub said_with : (word : List ℕ) → List (List ℕ) → Option Line
+said_with word [] = word_line word
+said_with word (name ∷ []) = named_line word name
+said_with word (first ∷ second ∷ []) = pair_line word first second
+said_with word (first ∷ second ∷ third ∷ rest) = long_line word first second third rest
+
+-- ---- lines of any number of words
+
+-- what comes after `forward`: a name, and one place or more
+abbrev pub forward_line : List (List ℕ) → Option Line
+forward_line [] = None
+forward_line (name ∷ []) = None
+forward_line (name ∷ word ∷ words) = where_name name (option_map (AskForward name) (parse_places (word ∷ words)))
+
 -- what the words of a line say
 abbrev pub said_by : List (List ℕ) → Option Line
 said_by [] = None
-said_by (word ∷ []) = word_line word
-said_by (word ∷ name ∷ []) = named_line word name
-said_by (word ∷ first ∷ second ∷ []) = pair_line word first second
-said_by (word ∷ first ∷ second ∷ third ∷ rest) = long_line word first second third rest
+said_by (word ∷ words) = if bytes_eq word (codes "forward") then forward_line words else said_with word words
 
 -- an empty line or a comment says nothing
 abbrev pub line_of_content : List ℕ → Option Line

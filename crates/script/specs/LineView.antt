@@ -1,15 +1,10 @@
 -- What a line of the code stands for.
-use Rattle.script.specs.declared.line.Parent.{Parent}
-use Rattle.script.specs.declared.line.Parent.TheVariants as parent
 use Rattle.script.specs.declared.line.Line.{Line}
 use Rattle.script.specs.declared.line.Line.TheVariants as line
 use Rattle.script.specs.Line as spec
 use Rattle.script.specs.PartView.{part_of}
+use Rattle.script.specs.PlaceView.{place_of}
 use Rattle.script.specs.WordsView.{words_left}
-
-abbrev pub parent_of : Parent → spec.Parent
-parent_of parent.Genesis = spec.Genesis
-parent_of (parent.After name) = spec.After name.text.now
 
 abbrev pub line_of : Line → spec.Line
 line_of line.Nothing = spec.Nothing
@@ -19,13 +14,15 @@ line_of (line.Tx name) = spec.BeginTx name.text.now
 line_of (line.Part part) = spec.AddPart (part_of part)
 line_of line.End = spec.EndTx
 line_of (line.Block name parent slot transactions) =
-    spec.DefineBlock name.text.now (parent_of parent) slot (words_left transactions.words)
+    spec.DefineBlock name.text.now (place_of parent) slot (words_left transactions.words)
 line_of (line.Raw name digits) = spec.DefineRaw name.text.now (spec.said_bytes digits.text.now)
 line_of (line.Arrive form name) = spec.Arrive form name.text.now
 line_of (line.Submit name) = spec.SubmitTx name.text.now
 line_of (line.Forge name slot) = spec.ForgeBlock name.text.now slot
 line_of (line.Open name) = spec.OpenFollower name.text.now
 line_of (line.Next name) = spec.AskNext name.text.now
+line_of (line.Forward name points) = spec.AskForward name.text.now (spec.said_places (words_left points.words))
+line_of (line.Close name) = spec.CloseFollower name.text.now
 line_of line.Tip = spec.AskTip
 line_of line.Mempool = spec.AskMempool
 line_of line.Utxo = spec.AskUtxo

@@ -20,12 +20,12 @@ use Rattle.script.specs.declared.fault.LineFault.TheVariants.{BadLine, UnknownNa
 use Rattle.script.specs.declared.line.Form.{Form}
 use Rattle.script.specs.declared.line.Form.TheVariants.{Whole, Cut, Extended}
 use Rattle.script.specs.Text.{script_size_limit}
-use Rattle.script.specs.Line.{Parent, Genesis, After, Owner, OwnedByKey, OwnedByScript, NamedAsset, Part, SpendGrant}
-use Rattle.script.specs.Line.{Spend, Pay}
+use Rattle.script.specs.Line.{NamedPlace, Genesis, AtBlock, Owner, OwnedByKey, OwnedByScript, NamedAsset, Part}
+use Rattle.script.specs.Line.{SpendGrant, Spend, Pay}
 use Rattle.script.specs.Line.{SetFee, SetStart, SetEnd, MintAsset, SignBy, Supply, Line, Nothing, DefineKey}
 use Rattle.script.specs.Line.{DefineScript, BeginTx}
 use Rattle.script.specs.Line.{AddPart, EndTx, DefineBlock, DefineRaw, Arrive, SubmitTx, ForgeBlock, OpenFollower}
-use Rattle.script.specs.Line.{AskNext, AskTip, AskMempool, AskUtxo}
+use Rattle.script.specs.Line.{AskNext, AskForward, CloseFollower, AskTip, AskMempool, AskUtxo}
 use Rattle.script.specs.Line.{parse_line, is_quantity}
 use Rattle.script.specs.Names.{Named, Bound, Binding, OpenTx, AllNames, bound_to}
 
@@ -40,8 +40,8 @@ pub data Definition : Type 0 where
   Finishes : OpenTx → Definition
 
 -- what a line does: it defines something, bytes arrive, a transaction is submitted, a block of a name is forged in a
--- slot, a follower is opened, the follower of a number is told what comes next, the tip is printed, what waits in the
--- mempool, or what is unspent
+-- slot, a follower is opened, the follower of a number is told what comes next, is set to the first of some points that
+-- is on the selected chain, or is closed, the tip is printed, what waits in the mempool, or what is unspent
 pub data Meaning : Type 0 where
   Defines : Definition → Meaning
   Arrives : Form → (name bytes : List ℕ) → Meaning
@@ -49,6 +49,8 @@ pub data Meaning : Type 0 where
   ForgesBlock : (name : List ℕ) → (slot : ℕ) → Meaning
   OpensFollower : (name : List ℕ) → Meaning
   TellsFollower : (name : List ℕ) → (id : ℕ) → Meaning
+  ForwardsFollower : (name : List ℕ) → (id : ℕ) → (points : List Point) → Meaning
+  ClosesFollower : (name : List ℕ) → (id : ℕ) → Meaning
   PrintsTip : Meaning
   PrintsMempool : Meaning
   PrintsUtxo : Meaning
@@ -80,6 +82,12 @@ abbrev pub meaning_by : {X : Type 0} → (X → Meaning) → Result X LineFault 
 meaning_by mean (Ok x) = Ok (mean x)
 meaning_by mean (Err fault) = Err fault
 
+-- one more, where it and all others are known
+abbrev pub with_one : {X : Type 0} → Option X → Option (List X) → Option (List X)
+with_one None others = None
+with_one (Some x) None = None
+with_one (Some x) (Some others) = Some (x ∷ others)
+
 -- ---- keys
 
 -- a key has 32 bytes
@@ -94,13 +102,6 @@ abbrev pub spends : (id : List ℕ) → (index : ℕ) → Draft → Result Draft
 spends id index d =
     if nat_lt index (2 ^ 16) then where_built (with_input (record { transaction = id; index = index }) d)
     else Err NotBuilt
-
--- one more asset, where all are known
-abbrev pub with_known : {Q : Type 0} → Option (AssetQuantity Q) → Option (List (AssetQuantity Q))
-    → Option (List (AssetQuantity Q))
-with_known None others = None
-with_known (Some asset) None = None
-with_known (Some asset) (Some others) = Some (asset ∷ others)
 
 module _ (names : AllNames) where
   -- what unlocks the outputs of an owner
@@ -121,7 +122,7 @@ module _ (names : AllNames) where
 
   abbrev pub assets_of : List (NamedAsset ℕ) → Option (List (AssetQuantity ℕ))
   assets_of [] = Some []
-  assets_of (asset ∷ others) = with_known (asset_of asset) (assets_of others)
+  assets_of (asset ∷ others) = with_one (asset_of asset) (assets_of others)
 
   -- a draft with a part, or the first fault
   abbrev pub part_meaning : Part → Draft → Result Draft LineFault
@@ -141,6 +142,26 @@ module _ (names : AllNames) where
   part_meaning (Supply name) d =
       where_known (bound_to name names.of_scripts) (λ script. where_built (with_script script d))
 
+-- ---- places
+
+-- the point before the first block
+abbrev pub genesis_point : Point
+genesis_point = record { number = 0; hash = replicate 32 0 }
+
+-- the point of the block of a name. A name that isn't bound to a block of a `block` or `forge` line has none
+abbrev pub block_point : List Binding → (name : List ℕ) → Option Point
+block_point names name = option_and_then (λ b. b.place) (bound_to name names)
+
+-- the point of a place
+abbrev pub point_at : List Binding → NamedPlace → Option Point
+point_at names Genesis = Some genesis_point
+point_at names (AtBlock name) = block_point names name
+
+-- the points of these places, in this order
+abbrev pub points_at : List Binding → List NamedPlace → Option (List Point)
+points_at names [] = Some []
+points_at names (place ∷ others) = with_one (point_at names place) (points_at names others)
+
 -- ---- blocks
 
 -- what a block may go on from: how many blocks there are up to here, and the hash of the last one
@@ -151,21 +172,15 @@ pub record Base : Type 0 where
 abbrev pub base_at : Point → Base
 base_at place = record { number = place.number; hash = Some place.hash }
 
--- the parent of a block. A name that isn't bound to a block of a `block` line is no parent
-abbrev pub base_after : List Binding → Parent → Option Base
+-- the parent of a block
+abbrev pub base_after : List Binding → NamedPlace → Option Base
 base_after names Genesis = Some (record { number = 0; hash = None })
-base_after names (After name) = option_map base_at (option_and_then (λ b. b.place) (bound_to name names))
-
--- one more transaction, where all are known
-abbrev pub with_tx : Option Transaction → Option (List Transaction) → Option (List Transaction)
-with_tx None others = None
-with_tx (Some tx) None = None
-with_tx (Some tx) (Some others) = Some (tx ∷ others)
+base_after names (AtBlock name) = option_map base_at (block_point names name)
 
 -- the transactions of these names, in this order
 abbrev pub txs_named : AllNames → List (List ℕ) → Option (List Transaction)
 txs_named names [] = Some []
-txs_named names (name ∷ others) = with_tx (bound_to name names.of_txs) (txs_named names others)
+txs_named names (name ∷ others) = with_one (bound_to name names.of_txs) (txs_named names others)
 
 -- the block of these transactions that goes on from here, whose header names the hash of its body
 abbrev pub block_on : Base → ℕ → List Transaction → Block
@@ -197,7 +212,7 @@ built base slot txs =
 abbrev pub binds_bytes : List ℕ → Bound → Meaning
 binds_bytes name bound = Defines (BindsBytes (record { name = name; bound = bound }))
 
-abbrev pub block_meaning : AllNames → List ℕ → Parent → ℕ → List (List ℕ) → Result Meaning LineFault
+abbrev pub block_meaning : AllNames → List ℕ → NamedPlace → ℕ → List (List ℕ) → Result Meaning LineFault
 block_meaning names name parent slot txs =
     where_known (base_after names.of_bytes parent) (λ base. where_known (txs_named names txs)
     (λ all. where_free (bound_to name names.of_bytes) (meaning_by (binds_bytes name) (built base slot all))))
@@ -249,6 +264,11 @@ meaning_outside number names (OpenFollower name) =
     where_free (bound_to name names.of_followers) (Ok (OpensFollower name))
 meaning_outside number names (AskNext name) =
     where_known (bound_to name names.of_followers) (λ id. Ok (TellsFollower name id))
+meaning_outside number names (AskForward name places) =
+    where_known (bound_to name names.of_followers) (λ id. where_known (points_at names.of_bytes places)
+    (λ points. Ok (ForwardsFollower name id points)))
+meaning_outside number names (CloseFollower name) =
+    where_known (bound_to name names.of_followers) (λ id. Ok (ClosesFollower name id))
 meaning_outside number names AskTip = Ok PrintsTip
 meaning_outside number names AskMempool = Ok PrintsMempool
 meaning_outside number names AskUtxo = Ok PrintsUtxo

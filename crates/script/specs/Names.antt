@@ -16,7 +16,7 @@ pub record Named (A : Type 0) : Type 0 where
 abbrev pub bound_to : {A : Type 0} → List ℕ → List (Named A) → Option A
 bound_to name names = option_map (λ b. b.bound) (find (λ b. bytes_eq name b.name) names)
 
--- bytes that have a name, and where they are those of a `block` line the block's place on its chain
+-- bytes that have a name, and where they are those of a `block` or `forge` line the block's place on its chain
 pub record Bound : Type 0 where
   pub bytes : List ℕ
   pub place : Option Point

@@ -1,5 +1,6 @@
 -- What all names of the code stand for, and what a line asks for where they are bound.
-use Rattle.std.specs.Prelude.{◌≡◌, ℕ, Bool, IsTrue, List, Option, Some, None, Result, Ok, Err}
+use Rattle.std.specs.Prelude.{◌≡◌, ℕ, Bool, IsTrue, List, map, Option, Some, None, Result, Ok, Err}
+use Rattle.ident.specs.PointView.{point_of}
 use Rattle.model.specs.Transaction.{Transaction}
 use Rattle.draft.specs.View.{Stands}
 use Rattle.script.specs.declared.fault.LineFault.{LineFault}
@@ -17,7 +18,7 @@ use Rattle.script.specs.FollowerNamesView.{AreFollowersNamed, HasRoom}
 use Rattle.script.specs.KnownView.{AreKnown}
 use Rattle.script.specs.Line.{Line}
 use Rattle.script.specs.Meaning.{Meaning, Defines, Definition, Arrives, SubmitsTx, ForgesBlock, OpensFollower}
-use Rattle.script.specs.Meaning.{TellsFollower, PrintsTip, PrintsMempool, PrintsUtxo}
+use Rattle.script.specs.Meaning.{TellsFollower, ForwardsFollower, ClosesFollower, PrintsTip, PrintsMempool, PrintsUtxo}
 use Rattle.script.specs.Meaning.{AreNamesAfter, MeansOutside, MeansLine, is_late}
 
 -- the code holds this transaction in the making
@@ -65,6 +66,9 @@ IsRequest names code (request.Forge name slot) meaning = (meaning ≡ ForgesBloc
 IsRequest names code (request.Open name) meaning = (meaning ≡ OpensFollower name.text.now)
     × (bound_to name.text.now names.of_followers ≡ None) × HasFollowerRoom code name.text.now × AreNamed code names
 IsRequest names code (request.Next name id) meaning = (meaning ≡ TellsFollower name.text.now id) × AreNamed code names
+IsRequest names code (request.Forward name id points) meaning =
+    (meaning ≡ ForwardsFollower name.text.now id (map point_of points.items)) × AreNamed code names
+IsRequest names code (request.Close name id) meaning = (meaning ≡ ClosesFollower name.text.now id) × AreNamed code names
 IsRequest names code request.Tip meaning = (meaning ≡ PrintsTip) × AreNamed code names
 IsRequest names code request.Mempool meaning = (meaning ≡ PrintsMempool) × AreNamed code names
 IsRequest names code request.Utxo meaning = (meaning ≡ PrintsUtxo) × AreNamed code names

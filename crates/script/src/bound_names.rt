@@ -20,7 +20,7 @@ pub struct Bound {
 /// All names, and the first name of each block.
 #[derive(Drop)]
 pub struct BoundNames {
-    alloc: Global,
+    pub(crate) alloc: Global,
     by_name: BTreeMap<Vec<u8>, Bound>,
     by_hash: BTreeMap<BlockHash, Vec<u8>>,
 }

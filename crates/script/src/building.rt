@@ -3,14 +3,14 @@
 ghost use Rattle.std.specs.Prelude.{◌≡◌, List, option_map};
 ghost use Rattle.script.specs.Names.{Binding};
 ghost use Rattle.script.specs.NamesView.{AreBound, bound_of};
-ghost use Rattle.script.specs.LineView.{parent_of};
+ghost use Rattle.script.specs.PlaceView.{place_of};
 ghost use Rattle.script.specs.Meaning.{base_after, built};
 ghost use Rattle.script.specs.BaseView.{base_of};
 ghost use Rattle.script.specs.Answer.{Answers};
 
 use crate::bound_names::{Bound, BoundNames};
 use crate::fault::LineFault;
-use crate::line::Parent;
+use crate::place_words::NamedPlace;
 use crate::stop::Stop;
 use block::NoText;
 use ident::{BlockHash, Point};
@@ -25,16 +25,16 @@ pub struct Base {
 }
 
 /// The parent of a block, if it is known.
-pub fn base_after(names: &BoundNames, parent: Parent<'_>) -> Option<Base>
+pub fn base_after(names: &BoundNames, parent: NamedPlace<'_>) -> Option<Base>
     ensures { (bound : List Binding) → AreBound names.now bound
-        → option_map base_of result ≡ base_after bound (parent_of parent.entry) }
+        → option_map base_of result ≡ base_after bound (place_of parent.entry) }
 {
     match parent {
-        Parent::Genesis => Some(Base {
+        NamedPlace::Genesis => Some(Base {
             number: 0,
             hash: None,
         }),
-        Parent::After(name) => {
+        NamedPlace::Block(name) => {
             let bound = names.get(name.text)?;
             let place = bound.place?;
             Some(Base {

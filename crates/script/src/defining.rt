@@ -1,7 +1,7 @@
 //! Lines that define what a name is bound to.
 
 ghost use Rattle.std.specs.Prelude.{◌≡◌, None, Ok, Some, true, false, is_some};
-ghost use Rattle.script.specs.LineView.{parent_of};
+ghost use Rattle.script.specs.PlaceView.{place_of};
 ghost use Rattle.script.specs.Line.{said_bytes};
 ghost use Rattle.script.specs.Names.{AllNames, OpenTx as Making, bound_to};
 ghost use Rattle.script.specs.NamesView.{bound_of};
@@ -14,11 +14,11 @@ use crate::bound_names::Bound;
 use crate::building::{base_after, build};
 use crate::digits::Digits;
 use crate::fault::LineFault;
-use crate::line::Parent;
 use crate::name::Name;
 use crate::name_words::NameWords;
 use crate::names::Names;
 use crate::open_tx::OpenTx;
+use crate::place_words::NamedPlace;
 use crate::request::Request;
 use crate::stop::Stop;
 use cbor::CborFault;
@@ -110,12 +110,12 @@ impl Names {
     pub(crate) fn define_block<'a>(
         &mut self,
         name: Name<'a>,
-        parent: Parent<'_>,
+        parent: NamedPlace<'_>,
         slot: u64,
         transactions: NameWords<'_>,
     ) -> Result<Request<'a>, Stop>
         ensures { (names : AllNames) → AreNamed self.old names → AsksFor names
-            (block_meaning names name.entry.text.now (parent_of parent.entry) slot
+            (block_meaning names name.entry.text.now (place_of parent.entry) slot
             (words_left transactions.entry.words)) (are_some (words_left transactions.entry.words)) result self.new }
     {
         let Some(base) = base_after(&self.bytes, parent) else {

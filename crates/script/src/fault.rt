@@ -9,14 +9,14 @@ pub enum LineFault {
     /// or, told at the end of the script in the line of its `tx`, a transaction has no `end`.
     #[error("BadLine")]
     BadLine,
-    /// A name is not bound in the kind that is wanted, or not by a `block` line where a block is wanted.
+    /// A name is not bound in the kind that is wanted, or not by a `block` or `forge` line where a block is wanted.
     #[error("UnknownName")]
     UnknownName,
     /// The name that the line would bind is bound already in its kind.
     #[error("NameTaken")]
     NameTaken,
-    /// No key, native script, transaction or block has this content: a part stands there twice, or a number, a length or
-    /// the nesting is out of range.
+    /// No key, native script, transaction or block has this content: a part stands there twice, or a number, a length
+    /// or the nesting is out of range.
     #[error("NotBuilt")]
     NotBuilt,
 }

@@ -21,6 +21,8 @@ mod number;
 mod obeying;
 mod open_tx;
 mod part;
+mod place_words;
+mod points;
 mod request;
 mod stop;
 mod tx_names;

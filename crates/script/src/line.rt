@@ -2,13 +2,14 @@
 
 ghost use Rattle.std.specs.Prelude.{◌≡◌, Some, option_map};
 ghost use Rattle.draft.specs.SignerView.{is_good};
-ghost use Rattle.script.specs.Line.{parse_line, said_by, form_of, word_of, where_name, parse_parent};
+ghost use Rattle.script.specs.Line.{parse_line, said_by, said_with, form_of, word_of, where_name, parse_place};
 ghost use Rattle.script.specs.Line.{word_line, arrive_line, named_line, spend_line, pair_line, mint_line, long_line};
-ghost use Rattle.script.specs.Line.{OpenFollower, AskNext, SubmitTx, BeginTx, AddPart, SignBy, Supply, forge_line};
+ghost use Rattle.script.specs.Line.{OpenFollower, AskNext, CloseFollower, SubmitTx, BeginTx, AddPart, SignBy, Supply};
+ghost use Rattle.script.specs.Line.{forge_line, forward_line};
 ghost use Rattle.script.specs.Line.{block_of_parts, pay_of_parts, parse_owner, parse_assets};
 ghost use Rattle.script.specs.Text.{parse_number};
 ghost use Rattle.script.specs.WordsView.{words_left};
-ghost use Rattle.script.specs.LineView.{line_of, parent_of};
+ghost use Rattle.script.specs.LineView.{line_of};
 
 use crate::asset_words::AssetWords;
 use crate::digits::Digits;
@@ -16,6 +17,7 @@ use crate::name::Name;
 use crate::name_words::NameWords;
 use crate::number::parse_number;
 use crate::part::{AssetName, Owner, Part, Quantity};
+use crate::place_words::{NamedPlace, PlaceWords};
 use crate::words::{self, Words};
 use draft::Signing;
 
@@ -58,26 +60,6 @@ impl Form {
     }
 }
 
-/// What a block goes on from.
-#[derive(Clone, Copy)]
-pub enum Parent<'a> {
-    Genesis,
-    After(Name<'a>),
-}
-
-impl<'a> Parent<'a> {
-    /// The parent that a word says.
-    fn of_word(word: &'a [u8]) -> Option<Parent<'a>>
-        ensures { option_map parent_of result ≡ parse_parent word.entry.now }
-    {
-        if word == b"genesis".as_slice() {
-            return Some(Parent::Genesis);
-        }
-        let name = Name::of_word(word)?;
-        Some(Parent::After(name))
-    }
-}
-
 /// What a line says.
 #[derive(Clone, Copy)]
 pub enum Line<'a> {
@@ -104,7 +86,7 @@ pub enum Line<'a> {
     /// A block of transactions.
     Block {
         name: Name<'a>,
-        parent: Parent<'a>,
+        parent: NamedPlace<'a>,
         slot: u64,
         transactions: NameWords<'a>,
     },
@@ -133,6 +115,15 @@ pub enum Line<'a> {
     },
     /// What is the follower of a name told next?
     Next {
+        name: Name<'a>,
+    },
+    /// A follower is to be set to the first of some places that is on the selected chain.
+    Forward {
+        name: Name<'a>,
+        points: PlaceWords<'a>,
+    },
+    /// A follower is closed.
+    Close {
         name: Name<'a>,
     },
     /// Where does the selected chain end?
@@ -185,6 +176,14 @@ fn next_line<'a>(name: &'a [u8]) -> Option<Line<'a>>
     Some(Line::Next { name })
 }
 
+/// The line in which a follower is closed.
+fn close_line<'a>(name: &'a [u8]) -> Option<Line<'a>>
+    ensures { option_map line_of result ≡ where_name name.entry.now (Some (CloseFollower name.entry.now)) }
+{
+    let name = Name::of_word(name)?;
+    Some(Line::Close { name })
+}
+
 /// The line in which a transaction is submitted.
 fn submit_line<'a>(name: &'a [u8]) -> Option<Line<'a>>
     ensures { option_map line_of result ≡ where_name name.entry.now (Some (SubmitTx name.entry.now)) }
@@ -226,6 +225,8 @@ fn named_line<'a>(word: &[u8], name: &'a [u8]) -> Option<Line<'a>>
         open_line(name)
     } else if word == b"next".as_slice() {
         next_line(name)
+    } else if word == b"close".as_slice() {
+        close_line(name)
     } else if word == b"submit".as_slice() {
         submit_line(name)
     } else if word == b"tx".as_slice() {
@@ -301,11 +302,11 @@ fn block_line<'a>(
     transactions: Words<'a>,
 ) -> Option<Line<'a>>
     ensures { option_map line_of result ≡ where_name name.entry.now
-        (block_of_parts name.entry.now (parse_parent parent.entry.now) (parse_number slot.now)
+        (block_of_parts name.entry.now (parse_place parent.entry.now) (parse_number slot.now)
         (words_left transactions.entry)) }
 {
     let name = Name::of_word(name)?;
-    let parent = Parent::of_word(parent)?;
+    let parent = NamedPlace::of_word(parent)?;
     let slot = parse_number(slot)?;
     let transactions = NameWords::of(transactions)?;
     Some(Line::Block {
@@ -376,22 +377,43 @@ fn long_line<'a>(
     }
 }
 
-/// What the words of a line say.
-fn said_by(mut words: Words<'_>) -> Option<Line<'_>>
-    ensures { option_map line_of result ≡ said_by (words_left words.entry) }
+/// The line that a first word says with those that come after it.
+fn said_with<'a>(word: &[u8], mut words: Words<'a>) -> Option<Line<'a>>
+    ensures { option_map line_of result ≡ said_with word.now (words_left words.entry) }
 {
     let first = words.next_word();
     let second = words.next_word();
     let third = words.next_word();
-    let fourth = words.next_word();
-    match (first, second, third, fourth) {
-        (Some(word), None, _, _) => word_line(word),
-        (Some(word), Some(name), None, _) => named_line(word, name),
-        (Some(word), Some(first), Some(second), None) => pair_line(word, first, second),
-        (Some(word), Some(first), Some(second), Some(third)) => long_line(
-            word, first, second, third, words,
-        ),
-        _ => None,
+    match (first, second, third) {
+        (None, _, _) => word_line(word),
+        (Some(name), None, _) => named_line(word, name),
+        (Some(first), Some(second), None) => pair_line(word, first, second),
+        (Some(first), Some(second), Some(third)) => long_line(word, first, second, third, words),
+    }
+}
+
+/// The line in which a follower is set to a place, of the words that come after the first.
+fn forward_line(mut words: Words<'_>) -> Option<Line<'_>>
+    ensures { option_map line_of result ≡ forward_line (words_left words.entry) }
+{
+    let first = words.next_word()?;
+    if words.is_empty() {
+        return None;
+    }
+    let name = Name::of_word(first)?;
+    let points = PlaceWords::of(words)?;
+    Some(Line::Forward { name, points })
+}
+
+/// What the words of a line say.
+fn said_by(mut words: Words<'_>) -> Option<Line<'_>>
+    ensures { option_map line_of result ≡ said_by (words_left words.entry) }
+{
+    let word = words.next_word()?;
+    if word == b"forward".as_slice() {
+        forward_line(words)
+    } else {
+        said_with(word, words)
     }
 }
 

@@ -152,7 +152,8 @@ impl Names {
     /// Obeys a line: a definition is made, and of each other line it is answered what it asks of the node. Err `Fault`
     /// with the first of its faults, which leaves the names as they were; `OutOfMemory` only where it has none, but
     /// that a native script, a transaction's output or mint, or a block of transactions may be [`LineFault::NotBuilt`].
-    /// Takes time in proportion to the line and to what it defines, and to the logarithm of the number of names.
+    /// Takes time in proportion to the line and to what it defines, and for each of its names to the logarithm of the
+    /// number of names.
     ///
     /// ```text
     /// names.obey(LinePlace { number: 1, before: 0 }, b"block A1 genesis 1\n")?; // Request::Nothing

@@ -2,19 +2,21 @@
 
 ghost use Rattle.std.specs.Prelude.{◌≡◌, None, Some, false};
 ghost use Rattle.script.specs.LineView.{line_of};
-ghost use Rattle.script.specs.Meaning.{ForgesBlock, OpensFollower, SubmitsTx, TellsFollower, arrival_meaning};
-ghost use Rattle.script.specs.Meaning.{is_late, meaning_inside};
+ghost use Rattle.script.specs.Meaning.{ForgesBlock, OpensFollower, SubmitsTx, TellsFollower, ForwardsFollower};
+ghost use Rattle.script.specs.Meaning.{ClosesFollower, arrival_meaning, is_late, meaning_inside, points_at};
 ghost use Rattle.script.specs.Meaning.{where_free, where_known};
 ghost use Rattle.script.specs.Names.{AllNames, OpenTx, bound_to};
 ghost use Rattle.script.specs.PartView.{part_of};
-ghost use Rattle.script.specs.Line.{AddPart};
+ghost use Rattle.script.specs.Line.{AddPart, said_places};
 ghost use Rattle.script.specs.RequestView.{AreNamed, AsksFor, AsksOutside};
+ghost use Rattle.script.specs.WordsView.{words_left};
 
 use crate::fault::LineFault;
 use crate::line::{Form, Line};
 use crate::name::Name;
 use crate::names::Names;
 use crate::part::Part;
+use crate::place_words::PlaceWords;
 use crate::request::Request;
 use crate::stop::Stop;
 
@@ -83,6 +85,32 @@ impl Names {
         }
     }
 
+    /// A line that sets a follower to a place. All that it names is known before memory is asked for.
+    fn ask_forward<'a>(&self, name: Name<'a>, places: PlaceWords<'_>) -> Result<Request<'a>, Stop>
+        ensures { (names : AllNames) → AreNamed self.now names → AsksFor names
+            (where_known (bound_to name.entry.text.now names.of_followers) (λ id. where_known
+            (points_at names.of_bytes (said_places (words_left places.entry.words)))
+            (λ points. Ok (ForwardsFollower name.entry.text.now id points)))) false result self.now }
+    {
+        let Some(id) = self.followers.get(name.text) else {
+            return Err(Stop::Fault(LineFault::UnknownName));
+        };
+        let points = self.bytes.points_at(places)?;
+        Ok(Request::Forward { name, id, points })
+    }
+
+    /// A line that closes a follower.
+    fn ask_closing<'a>(&self, name: Name<'a>) -> Result<Request<'a>, Stop>
+        ensures { (names : AllNames) → AreNamed self.now names → AsksFor names
+            (where_known (bound_to name.entry.text.now names.of_followers)
+            (λ id. Ok (ClosesFollower name.entry.text.now id))) false result self.now }
+    {
+        match self.followers.get(name.text) {
+            Some(id) => Ok(Request::Close { name, id }),
+            None => Err(Stop::Fault(LineFault::UnknownName)),
+        }
+    }
+
     /// A part is added to the transaction in the making.
     fn add_part<'a>(&mut self, part: Part<'_>) -> Result<Request<'a>, Stop>
         ensures { (names : AllNames) → AreNamed self.old names → (made : OpenTx) → names.making ≡ Some made
@@ -138,6 +166,8 @@ impl Names {
             Line::Forge { name, slot } => self.ask_forging(name, slot),
             Line::Open { name } => self.ask_opening(name),
             Line::Next { name } => self.ask_next(name),
+            Line::Forward { name, points } => self.ask_forward(name, points),
+            Line::Close { name } => self.ask_closing(name),
             Line::Tip => Ok(Request::Tip),
             Line::Mempool => Ok(Request::Mempool),
             Line::Utxo => Ok(Request::Utxo),

@@ -2,22 +2,48 @@
 
 use crate::line::Form;
 use crate::name::Name;
+use ident::Point;
 
 /// What a line asks of the node, once its definition is made. Its names are parts of the line.
-#[derive(Clone, Copy, Debug)]
+#[derive(Debug, Drop)]
 pub enum Request<'a> {
     /// Nothing: the line is empty, a comment or a definition.
     Nothing,
     /// The bytes of a name arrive.
-    Arrive { form: Form, name: Name<'a> },
+    Arrive {
+        form: Form,
+        name: Name<'a>,
+    },
     /// The transaction of a name is submitted.
-    Submit { name: Name<'a> },
+    Submit {
+        name: Name<'a>,
+    },
     /// A block is forged in a slot. Its name is free.
-    Forge { name: Name<'a>, slot: u64 },
+    Forge {
+        name: Name<'a>,
+        slot: u64,
+    },
     /// A follower is opened. Its name is free, and has its room.
-    Open { name: Name<'a> },
+    Open {
+        name: Name<'a>,
+    },
     /// What is the follower of this name and number told next?
-    Next { name: Name<'a>, id: u64 },
+    Next {
+        name: Name<'a>,
+        id: u64,
+    },
+    /// The follower of this name and number is to be set to the first of these points that is on the selected chain.
+    /// They stand in the order of the line's words.
+    Forward {
+        name: Name<'a>,
+        id: u64,
+        points: Vec<Point>,
+    },
+    /// The follower of this name and number is closed.
+    Close {
+        name: Name<'a>,
+        id: u64,
+    },
     /// Where does the selected chain end?
     Tip,
     /// What waits in the mempool?

@@ -5,7 +5,8 @@ use mathlib.Core.Path.{refl}
 use Rattle.std.specs.Coded.{Coded, coded_ℕ, coded_bool, coded×, code_by}
 use Rattle.model.specs.Genesis.{Genesis}
 use Rattle.model.specs.Journal.{Journal}
-use Rattle.model.specs.Codes.{coded_genesis, coded_journal}
+use Rattle.model.specs.Codes.{coded_genesis}
+use Rattle.model.specs.JournalCodes.{coded_journal}
 use Rattle.shared.specs.Heights.{Role, Deals, Calls, Carries, Spent, SeatView}
 
 -- a role as two numbers, and back

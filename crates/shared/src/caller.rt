@@ -15,7 +15,7 @@ pub struct Caller<B: Room> {
 
 impl<B: Room> Model for Caller<B> {
     ghost use Rattle.model.specs.Journal.{Knowledge};
-    ghost use Rattle.model.specs.Codes.{coded_knowledge};
+    ghost use Rattle.model.specs.JournalCodes.{coded_knowledge};
 
     ghost Value = { Knowledge };
 

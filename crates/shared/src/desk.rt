@@ -29,7 +29,7 @@ pub struct Desk<S: SigScheme, B: Room> {
 
 impl<S: SigScheme, B: Room> Model for Desk<S, B> {
     ghost use Rattle.model.specs.Journal.{Journal};
-    ghost use Rattle.model.specs.Codes.{coded_journal};
+    ghost use Rattle.model.specs.JournalCodes.{coded_journal};
 
     ghost Value = { Journal };
 

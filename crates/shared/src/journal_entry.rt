@@ -16,7 +16,7 @@ pub struct JournalEntry<S: SigScheme> {
 
 impl<S: SigScheme> Model for JournalEntry<S> {
     ghost use Rattle.model.specs.Journal as model;
-    ghost use Rattle.model.specs.Codes.{coded_journal_entry};
+    ghost use Rattle.model.specs.JournalCodes.{coded_journal_entry};
 
     ghost Value = { model.JournalEntry };
 

@@ -3,7 +3,9 @@
 use super::fixture::{make, new_core, run_all};
 use chain_core::{
     ArriveReply, Core, FollowerId, Instruction, NextFault, OpenFault, RawEvent, Reply,
+    UnknownFollower,
 };
+use ident::Point;
 use std::alloc::Global;
 use std::process::Abort;
 use std::test::Fail;
@@ -32,14 +34,26 @@ fn opens_so_many(rt: &impl Abort, core: &mut Core<TestScheme>, count: u64) {
     assert!(rt; is_unknown(core, count));
 }
 
+/// The follower of this number is closed, and its number given again.
+fn gives_again(rt: &impl Abort, core: &mut Core<TestScheme>, number: u64) {
+    let id = FollowerId { number };
+    assert!(rt; core.close(id) == Ok(()));
+    assert!(rt; core.close(id) == Err(UnknownFollower {}));
+    assert!(rt; is_unknown(core, number));
+    assert!(rt; open(core) == Ok(id));
+    assert!(rt; open(core) == Err(OpenFault::TooManyFollowers));
+}
+
 #[test]
 fn follower_ids(rt: HostRuntime) -> Result<(), Fail> {
     let mut core = new_core(rt.alloc())?;
     opens_so_many(&rt, &mut core, 1024);
+    gives_again(&rt, &mut core, 5);
     Ok(())
 }
 
-/// A question of a follower that is not open, its opening, an arrival, and two questions.
+/// A question of a follower that is not open, its opening, an arrival, two questions, and that it is set to genesis and
+/// closed.
 fn events_of(alloc: Global, text: Vec<u8>) -> Result<Vec<RawEvent>, Fail> {
     let id = FollowerId { number: 0 };
     Ok(Vec::from_array(
@@ -50,6 +64,8 @@ fn events_of(alloc: Global, text: Vec<u8>) -> Result<Vec<RawEvent>, Fail> {
             RawEvent::Arrive(text),
             RawEvent::Next(id),
             RawEvent::Next(id),
+            RawEvent::Forward(id, Vec::from_array(alloc, [Point::genesis()])?),
+            RawEvent::Close(id),
         ],
     )?)
 }
@@ -63,6 +79,8 @@ fn is_told(replies: &[Reply<TestScheme>], text: &[u8]) -> bool {
             Reply::Arrive(Ok(ArriveReply::Kept { back: 0, added: 1 })),
             Reply::Next(Ok(Some(Instruction::AddBlock(told)))),
             Reply::Next(Ok(None)),
+            Reply::Forward(Ok(Some(Point { number: 0, .. }))),
+            Reply::Close(Ok(())),
         ] => opened.number == 0 && told.bytes() == text,
         _ => false,
     }

@@ -21,8 +21,10 @@ fn tell_follower<R: Print>(
     core: &mut Core<TestScheme>,
     follower: FollowerId,
 ) -> Result<(), Fail> {
-    if let Some(Instruction::AddBlock(block)) = core.next(follower)? {
-        println!(rt; "put on block {}", block.number())?;
+    match core.next(follower)? {
+        Some(Instruction::AddBlock(block)) => println!(rt; "put on block {}", block.number())?,
+        Some(Instruction::RollBack(point)) => println!(rt; "go back to block {}", point.number)?,
+        None => println!(rt; "nothing is new")?,
     }
     Ok(())
 }

@@ -11,7 +11,7 @@ use Rattle.model.specs.Mempool.{picked}
 use Rattle.mempool.specs.Picking.{IsSpelled}
 use Rattle.block.specs.View.{bytes_of}
 use Rattle.block.specs.Written.{full_block}
-use Rattle.chain_core.proofs.ToldChains.{if_err}
+use Rattle.chain_core.proofs.Results.{if_err}
 use Rattle.chain_core.specs.ChainDbs.{IsWhole}
 use Rattle.chain_core.specs.ForgedBlocks.{IsForgeFault}
 use Rattle.chain_core.specs.declared.forging.ForgeFault.TheVariants as fault

@@ -1,20 +1,9 @@
-use Rattle.std.proofs.Common.{◌≡◌, Bool, true, false, cond, List, ℕ, Option, Some, None, refl}
+use Rattle.std.proofs.Common.{refl}
 use Rattle.std.specs.List.{list_all}
 use Rattle.script.specs.Text.{is_name}
 use Rattle.script.specs.WordsView.{words_left}
-use Rattle.script.proofs.WordLists.{is_named, not_named}
+use Rattle.script.proofs.WordLists.{are_all, is_named, not_all, not_named}
 use Rattle.script.proofs.line.block_line.Goals as goal
-
-same_words : (a b : List (List ℕ)) → (let x : Option (List (List ℕ)) = Some a in x) ≡ Some b → a ≡ b
-same_words a b e = cc
-
-are_named : (b : Bool) (words names : List (List ℕ)) → Some names ≡ cond b (Some words) None → (b ≡ true) × (names ≡ words)
-are_named true words names is = (refl, same_words names words is)
-are_named false words names is = cc
-
-not_all_named : (b : Bool) (words : List (List ℕ)) → None ≡ cond b (Some words) None → b ≡ false
-not_all_named true words none = cc
-not_all_named false words none = refl
 
 pub returns-in_err-name : goal.returns-in_err-name
 returns-in_err-name c =
@@ -34,11 +23,11 @@ returns-in_err-slot c =
 pub returns-in_err-transactions : goal.returns-in_err-transactions
 returns-in_err-transactions c =
     let named = is_named (is_name c.args.name.now) c.args.name.now c.in_ok-name.name.text.now c.in_ok-name.ensures in
-    let unnamed = not_all_named (list_all is_name (words_left c.args.transactions)) (words_left c.args.transactions) c.in_err-transactions.ensures in
+    let unnamed = not_all (list_all is_name (words_left c.args.transactions)) (words_left c.args.transactions) c.in_err-transactions.ensures in
     rw (c.from_residual-in_err-transactions.ensures, named.0, ← c.in_ok-parent.ensures, ← c.in_ok-slot.ensures, unnamed) refl
 
 pub returns : goal.returns
 returns c =
     let named = is_named (is_name c.args.name.now) c.args.name.now c.in_ok-name.name.text.now c.in_ok-name.ensures in
-    let all = are_named (list_all is_name (words_left c.args.transactions)) (words_left c.args.transactions) (words_left c.in_ok-transactions.transactions.words) c.in_ok-transactions.ensures in
+    let all = are_all (list_all is_name (words_left c.args.transactions)) (words_left c.args.transactions) (words_left c.in_ok-transactions.transactions.words) c.in_ok-transactions.ensures in
     rw (named.0, ← c.in_ok-parent.ensures, ← c.in_ok-slot.ensures, all.0, named.1, all.1) refl

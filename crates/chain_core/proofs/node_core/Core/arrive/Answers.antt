@@ -1,17 +1,18 @@
-use Rattle.std.proofs.Common.{None, sym, subst}
+use Rattle.std.proofs.Common.{◌≡◌, ◌-◌, ◌∙◌, None, length, sym, ap, subst, rules}
 use Rattle.block.specs.Read.{IsRead}
 use Rattle.model.specs.Block.{Block}
 use Rattle.model.specs.Ledger.{network_of}
 use Rattle.model.specs.History.{State}
+use Rattle.followers.specs.Places.{moved_places}
 use Rattle.chain_core.specs.ChainDbs.{HasState}
-use Rattle.chain_core.specs.Views.{followers_of, refusal_of}
+use Rattle.chain_core.specs.Views.{refusal_of}
 use Rattle.chain_core.proofs.Arrivals.{at_rest, rests, is_ready, IsJudgedAt, refused_arrival, none_applies, kept_arrival}
-use Rattle.chain_core.proofs.ToldChains.{on_err}
+use Rattle.chain_core.proofs.Results.{on_err}
 use Rattle.chain_core.proofs.node_core.Core.arrive.Goals as goal
 
 pub returns-in-Some-clause-step : goal.returns-in-Some-clause-step
 returns-in-Some-clause-step g c =
-    refused_arrival (network_of c.self.inside.genesis g.S.SigScheme.verifies) c.self.inside.chain_db (followers_of c.self.inside.followers.items) c.args.self.now c.args.bytes.now c.in-Ok.found (refusal_of c.in-Some.refusal) c.self.view_is c.in-Ok.ensures.ok
+    refused_arrival (network_of c.self.inside.genesis g.S.SigScheme.verifies) c.self.inside.chain_db c.self.inside.followers c.args.self.now c.args.bytes.now c.in-Ok.found (refusal_of c.in-Some.refusal) c.self.view_is c.in-Ok.ensures.ok
     (λ s has. c.in-Some.ensures (network_of c.self.inside.genesis g.S.SigScheme.verifies) s c.in-Ok.found c.self.invariant.whole has c.bytes.ensures (c.point.ensures.number, c.point.ensures.hash))
 
 pub add-requires-clause-ready : goal.add-requires-clause-ready
@@ -27,12 +28,13 @@ pub returns-clause-step : goal.returns-clause-step
 returns-clause-step g c =
     let judged : IsJudgedAt c.self.inside.genesis c.self.inside.chain_db c.in_ok-block.block None = subst (λ (b : Block). IsJudgedAt c.self.inside.genesis c.self.inside.chain_db b None) (sym c.in_ok-block.ensures) (λ (s : State) (has : HasState c.self.inside.genesis c.self.inside.chain_db s). c.in_default.ensures (network_of c.self.inside.genesis g.S.SigScheme.verifies) s c.in-Ok.found c.self.invariant.whole has c.bytes.ensures (c.point.ensures.number, c.point.ensures.hash)) in
     let read : IsRead c.in_ok-block.block c.args.bytes.now = subst (λ (b : Block). IsRead b c.args.bytes.now) (sym c.in_ok-block.ensures) c.in-Ok.ensures.ok in
-    kept_arrival (network_of c.self.inside.genesis g.S.SigScheme.verifies) c.self.inside.chain_db c.add.new.self (followers_of c.self.inside.followers.items) c.args.self.now c.args.bytes.now c.in_ok-block.block c.in_ok-change.change c.self.view_is read judged c.in_ok-change.ensures.ok
+    kept_arrival (network_of c.self.inside.genesis g.S.SigScheme.verifies) c.self.inside.chain_db c.add.new.self c.self.inside.followers c.moved.new.self c.args.self.now c.args.bytes.now c.in_ok-block.block c.in_ok-change.change c.self.view_is read judged c.in_ok-change.ensures.ok
+    (c.moved.ensures ∙ ap (λ n. moved_places (n - c.in_ok-change.change.added) c.self.inside.followers) (let size : c.len.result ≡ length c.add.new.self.chain.items = search rules in size))
 
 pub returns-in_err-block-clause-memory : goal.returns-in_err-block-clause-memory
 returns-in_err-block-clause-memory g c =
-    on_err c.from_residual.result _ (λ b spells empty. none_applies c.self.inside.genesis c.self.inside.chain_db (followers_of c.self.inside.followers.items) c.args.self.now c.args.bytes.now c.in-Ok.found c.self.view_is c.in-Ok.ensures.ok (λ s has. c.in_default.ensures (network_of c.self.inside.genesis g.S.SigScheme.verifies) s c.in-Ok.found c.self.invariant.whole has c.bytes.ensures (c.point.ensures.number, c.point.ensures.hash)))
+    on_err c.from_residual.result _ (λ b spells empty. none_applies c.self.inside.genesis c.self.inside.chain_db c.self.inside.followers c.args.self.now c.args.bytes.now c.in-Ok.found c.self.view_is c.in-Ok.ensures.ok (λ s has. c.in_default.ensures (network_of c.self.inside.genesis g.S.SigScheme.verifies) s c.in-Ok.found c.self.invariant.whole has c.bytes.ensures (c.point.ensures.number, c.point.ensures.hash)))
 
 pub returns-in_err-change-clause-memory : goal.returns-in_err-change-clause-memory
 returns-in_err-change-clause-memory g c =
-    on_err c.from_residual-in_err-change.result _ (λ b spells empty. none_applies c.self.inside.genesis c.self.inside.chain_db (followers_of c.self.inside.followers.items) c.args.self.now c.args.bytes.now c.in-Ok.found c.self.view_is c.in-Ok.ensures.ok (λ s has. c.in_default.ensures (network_of c.self.inside.genesis g.S.SigScheme.verifies) s c.in-Ok.found c.self.invariant.whole has c.bytes.ensures (c.point.ensures.number, c.point.ensures.hash)))
+    on_err c.from_residual-in_err-change.result _ (λ b spells empty. none_applies c.self.inside.genesis c.self.inside.chain_db c.self.inside.followers c.args.self.now c.args.bytes.now c.in-Ok.found c.self.view_is c.in-Ok.ensures.ok (λ s has. c.in_default.ensures (network_of c.self.inside.genesis g.S.SigScheme.verifies) s c.in-Ok.found c.self.invariant.whole has c.bytes.ensures (c.point.ensures.number, c.point.ensures.hash)))

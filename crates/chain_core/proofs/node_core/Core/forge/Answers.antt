@@ -7,7 +7,6 @@ use Rattle.model.specs.History.{State}
 use Rattle.model.specs.Forging.{ArrivesNext}
 use Rattle.chain_core.specs.ChainDbs.{IsWhole}
 use Rattle.chain_core.specs.Held.{Held, Stands}
-use Rattle.chain_core.specs.Views.{followers_of}
 use Rattle.chain_core.specs.ForgedBlocks.{IsForgedAs, IsForgeFault}
 use Rattle.chain_core.proofs.ForgedTexts.{put_on_next}
 use Rattle.chain_core.proofs.node_core.Core.forge.Goals as goal
@@ -39,5 +38,5 @@ returns-clause-arrives g c =
     IfOk-weaker c.forge.result
     (λ f. (genesis : Genesis) → IsGenesis genesis → IsWhole (network_of genesis v) a.chain_db → IsForgedAs (network_of genesis v) a.chain_db.chain.items a.chain_db.mempool.waiting.txs c.args.slot f.bytes.items f.point)
     (λ f. (s : State) → Stands c.args.self.now s → (b : Block) → SpellsBlock b f.bytes.items → ArrivesNext (network_of c.args.self.now.genesis v) s b f.bytes.items)
-    (λ f p. put_on_next (network_of a.genesis v) a.chain_db (followers_of a.followers.items) c.args.self.now c.args.slot f.bytes.items f.point c.supply-supply.ensures.ranges c.self.invariant.whole c.len-live.ensures.read c.self.view_is (p a.genesis c.supply-supply.ensures.ranges c.self.invariant.whole))
+    (λ f p. put_on_next (network_of a.genesis v) a.chain_db a.followers c.args.self.now c.args.slot f.bytes.items f.point c.supply-supply.ensures.ranges c.self.invariant.whole c.len-live.ensures.read c.self.view_is (p a.genesis c.supply-supply.ensures.ranges c.self.invariant.whole))
     c.forge.ensures.forged

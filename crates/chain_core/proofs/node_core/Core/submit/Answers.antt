@@ -1,5 +1,4 @@
 use Rattle.model.specs.Ledger.{network_of}
-use Rattle.chain_core.specs.Views.{followers_of}
 use Rattle.chain_core.proofs.Arrivals.{submitted}
 use Rattle.chain_core.proofs.node_core.Core.submit.Goals as goal
 
@@ -8,5 +7,5 @@ invariant_of-self g c = record { whole = c.submit.ensures.whole c.self.inside.ge
 
 pub returns-clause-step : goal.returns-clause-step
 returns-clause-step g c =
-    submitted (network_of c.self.inside.genesis g.S.SigScheme.verifies) c.self.inside.chain_db c.submit.new.self (followers_of c.self.inside.followers.items) c.args.self.now c.args.bytes.now c.submit.result
+    submitted (network_of c.self.inside.genesis g.S.SigScheme.verifies) c.self.inside.chain_db c.submit.new.self c.self.inside.followers c.args.self.now c.args.bytes.now c.submit.result
     c.self.view_is c.self.invariant.whole c.submit.ensures.ok c.submit.ensures.chain c.submit.ensures.store c.submit.ensures.err

@@ -8,7 +8,6 @@ use Rattle.model.specs.Ledger.{network_of}
 use Rattle.mempool.specs.View.{reply_of}
 use Rattle.chain_core.specs.Held.{Held}
 use Rattle.chain_core.specs.ChainDbs.{IsWhole, IsTaken}
-use Rattle.chain_core.specs.Views.{followers_of}
 use Rattle.chain_core.proofs.Arrivals.{submitted}
 use Rattle.chain_core.proofs.node_core.Core.submit_checked.Goals as goal
 
@@ -20,7 +19,7 @@ returns-clause-step g c = λ bytes spelled.
     let verifies = g.S.SigScheme.verifies in
     let old = c.self.inside.chain_db in
     let new = c.submit_checked.new.self in
-    submitted (network_of c.self.inside.genesis verifies) old new (followers_of c.self.inside.followers.items) c.args.self.now bytes c.submit_checked.result c.self.view_is c.self.invariant.whole
+    submitted (network_of c.self.inside.genesis verifies) old new c.self.inside.followers c.args.self.now bytes c.submit_checked.result c.self.view_is c.self.invariant.whole
     (IfOk-weaker c.submit_checked.result (λ reply. (genesis : Genesis) → IsWhole (network_of genesis verifies) old → (bytes : List ℕ) → SpellsTransaction c.args.tx bytes → IsTaken (network_of genesis verifies) old bytes (reply_of reply) new)
     (λ reply. (genesis : Genesis) → IsWhole (network_of genesis verifies) old → IsTaken (network_of genesis verifies) old bytes (reply_of reply) new) (λ reply p. λ genesis whole. p genesis whole bytes spelled) c.submit_checked.ensures.ok)
     c.submit_checked.ensures.chain c.submit_checked.ensures.store c.submit_checked.ensures.err

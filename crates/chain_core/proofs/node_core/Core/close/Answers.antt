@@ -1,0 +1,8 @@
+use Rattle.blockstore.specs.Stored.{blocks_of}
+use Rattle.chain_core.proofs.FollowerCalls.{closed}
+use Rattle.chain_core.proofs.node_core.Core.close.Goals as goal
+
+pub returns-clause-step : goal.returns-clause-step
+returns-clause-step g c =
+    closed g.S.SigScheme.verifies c.self.inside.genesis (blocks_of c.self.inside.chain_db.store) c.self.inside.chain_db.chain.items c.self.inside.chain_db.mempool.waiting.txs c.self.inside.followers c.close.new.self c.args.id.number c.args.self.now c.close.result
+    c.self.view_is c.close.ensures.ok c.close.ensures.unknown c.close.ensures.err

@@ -1,0 +1,50 @@
+//! Places on the chain.
+
+ghost use Rattle.std.specs.Prelude.{◌≡◌, ◌↔◌, IsTrue, map, option_map, take};
+ghost use Rattle.model.specs.Chain.{tip_point};
+ghost use Rattle.model.specs.Follower.{IsOn, IsFirstOn};
+ghost use Rattle.ident.specs.PointView.{point_of};
+
+use block::CheckedBlock;
+use ident::Point;
+use witness_pool::SigScheme;
+
+/// Where these blocks end: the point of the last one, or the genesis point.
+pub fn end_of<S: SigScheme>(chain: &[CheckedBlock<S>]) -> Point
+    ensures { point_of result ≡ tip_point chain.now }
+{
+    match chain.last() {
+        Some(block) => block.point(),
+        None => Point::genesis(),
+    }
+}
+
+/// Where the first so many blocks of the chain end, or all where there are fewer.
+pub fn point_at<S: SigScheme>(chain: &[CheckedBlock<S>], length: u64) -> Point
+    ensures { point_of result ≡ tip_point (take length chain.now) }
+{
+    if length < chain.len() as u64 {
+        end_of(&chain[..length as usize])
+    } else {
+        end_of(chain)
+    }
+}
+
+/// Whether the point is on the chain.
+fn is_on<S: SigScheme>(chain: &[CheckedBlock<S>], point: &Point) -> bool
+    ensures { IsTrue result ↔ IsOn chain.now (point_of point.now) }
+{
+    point_at(chain, point.number) == *point
+}
+
+/// The first of the points that is on the chain. A look-up by number for each.
+pub fn first_on<S: SigScheme>(chain: &[CheckedBlock<S>], points: &[Point]) -> Option<Point>
+    ensures { IsFirstOn chain.now (map point_of points.now) (option_map point_of result) }
+{
+    for point in points {
+        if is_on(chain, point) {
+            return Some(*point);
+        }
+    }
+    None
+}

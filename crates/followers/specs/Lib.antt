@@ -1,0 +1,5 @@
+pub mod Places
+pub mod PlaceCodes
+pub mod Standing
+pub mod Calls
+pub mod Inside

@@ -1,0 +1,34 @@
+-- Where followers stand, in blocks, and what each call makes of it.
+use Rattle.std.specs.Prelude.{ℕ, ◌+◌, min, nat_lt, List, Option, Some, None, map, option_map, if◌then◌else◌}
+use Rattle.followers.specs.declared.place.Place.{Place}
+use Rattle.followers.specs.declared.place.Step.{Step}
+use Rattle.followers.specs.declared.place.Step.TheVariants.{Add, RollBack}
+
+-- for each number the place of its follower, and None where no follower of that number is open
+abbrev pub Places : Type 0
+Places = List (Option Place)
+
+-- at the end of so many blocks
+abbrev pub standing : ℕ → Place
+standing n = record { told = n; agreed = n }
+
+-- of what was agreed the selected chain has so many blocks at most
+abbrev pub moved_place : ℕ → Place → Place
+moved_place common place = record { told = place.told; agreed = min place.agreed common }
+
+-- beside a selected chain of this length: back where less is agreed than was told, else the next block, else nothing
+abbrev pub step_of : (height : ℕ) → Place → Option Step
+step_of height place =
+    if nat_lt place.agreed place.told then Some (RollBack place.agreed)
+    else if nat_lt place.told height then Some (Add place.told)
+    else None
+
+abbrev pub stepped_place : (height : ℕ) → Place → Place
+stepped_place height place =
+    if nat_lt place.agreed place.told then standing place.agreed
+    else if nat_lt place.told height then standing (place.told + 1)
+    else place
+
+-- of each follower
+abbrev pub moved_places : ℕ → Places → Places
+moved_places common places = map (option_map (moved_place common)) places

@@ -1,0 +1,31 @@
+//! Why a call on a follower is refused.
+
+use std::alloc::AllocFailed;
+use thiserror::Error;
+
+/// Why no follower is opened.
+#[derive(Clone, Copy, Debug, Drop, PartialEq, Eq, Error)]
+pub enum OpenFault {
+    /// There are 1,024 open followers.
+    #[error("too many followers")]
+    TooManyFollowers,
+    /// Memory ran out.
+    #[error("out of memory")]
+    OutOfMemory,
+}
+
+impl<T: Drop> From<AllocFailed<T>> for OpenFault {
+    ghost use Rattle.std.specs.Prelude.{◌≡◌};
+    ghost use Rattle.followers.specs.declared.fault.OpenFault.TheVariants.{OutOfMemory};
+
+    ghost from_gives = { λ _ e. e ≡ OutOfMemory };
+
+    fn from(_error: AllocFailed<T>) -> OpenFault {
+        OpenFault::OutOfMemory
+    }
+}
+
+/// No follower of that number is open.
+#[derive(Clone, Copy, Debug, Drop, PartialEq, Eq, Error)]
+#[error("unknown follower")]
+pub struct UnknownFollower {}

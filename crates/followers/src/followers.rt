@@ -1,0 +1,175 @@
+//! The open followers.
+
+ghost use Rattle.std.specs.Prelude.{◌≡◌, option_map};
+ghost use Rattle.model.specs.Follower.{free_id};
+ghost use Rattle.followers.specs.Places.{moved_place};
+
+use crate::fault::{OpenFault, UnknownFollower};
+use crate::follower_id::{FollowerId, MAX_FOLLOWERS};
+use crate::place::{Place, Step};
+use std::alloc::Global;
+use std::marker::Model;
+
+/// The least number that is free.
+fn free_number(places: &[Option<Place>]) -> usize
+    ensures { result ≡ free_id places.now }
+{
+    for number in 0..places.len() {
+        if places[number].is_none() {
+            return number;
+        }
+    }
+    places.len()
+}
+
+/// Where a follower stands once the selected chain has only so many of the blocks that it had, if one is open.
+fn moved_if_open(place: Option<Place>, common: u64) -> Option<Place>
+    ensures { result ≡ option_map (moved_place common) place }
+{
+    match place {
+        Some(place) => Some(place.moved(common)),
+        None => None,
+    }
+}
+
+/// The open followers, at most 1,024. Each takes the room of two numbers and no block; the room of one that was closed
+/// is kept for the next.
+#[derive(Drop)]
+pub struct Followers {
+    places: Vec<Option<Place>>,
+}
+
+impl Model for Followers {
+    ghost use Rattle.followers.specs.Places.{Places};
+    ghost use Rattle.followers.specs.PlaceCodes.{coded_places};
+
+    ghost Value = { Places };
+
+    ghost coded = { coded_places };
+
+    ghost use Rattle.followers.specs.Inside.{places_of};
+
+    ghost view = { places_of };
+}
+
+impl Followers {
+    ghost use Rattle.std.specs.Prelude.{◌≡◌, ◌↔◌, [], None, Some, IfOk, IfErr, OnOk, OnErr, IsTrue};
+    ghost use Rattle.model.specs.Follower.{follower_of};
+    ghost use Rattle.followers.specs.declared.place.Place.{Place as Standing};
+    ghost use Rattle.followers.specs.Places.{step_of, moved_places};
+    ghost use Rattle.followers.specs.Calls.{IsOpened, IsOpenFault, IsStepped, IsForwarded, IsClosed};
+
+    /// No follower is open. Takes no memory.
+    pub fn new(alloc: Global) -> Followers
+        ensures { result ≡ [] }
+    {
+        Followers {
+            places: Vec::new(alloc),
+        }
+    }
+
+    /// Opens a follower of the least number that is free. It stands at genesis. Where there are 1,024, or memory runs
+    /// out, nothing changes. Looks at each lower number once.
+    pub fn open(&mut self) -> Result<FollowerId, OpenFault>
+        ensures ok { IfOk result (λ id. IsOpened self.old id.number self.new) }
+        ensures fault { IfErr result (IsOpenFault self.old) }
+        ensures err { OnErr result (self.new ≡ self.old) }
+    {
+        let number = free_number(&self.places);
+        if number >= MAX_FOLLOWERS {
+            return Err(OpenFault::TooManyFollowers);
+        }
+        let place = Some(Place::standing(0));
+        if number < self.places.len() {
+            self.places[number] = place;
+        } else {
+            self.places.push(place)?;
+        }
+        Ok(FollowerId {
+            number: number as u64,
+        })
+    }
+
+    /// Where the follower of this number stands, if it is open.
+    fn place(&self, id: FollowerId) -> Option<Place>
+        ensures { result ≡ follower_of self.now id.number }
+    {
+        if id.number < self.places.len() as u64 {
+            self.places[id.number as usize]
+        } else {
+            None
+        }
+    }
+
+    /// Whether a follower of this number is open. In constant time, and takes no memory.
+    pub fn is_open(&self, id: FollowerId) -> bool
+        ensures { IsTrue result ↔ ((place : Standing) × (follower_of self.now id.number ≡ Some place)) }
+    {
+        self.place(id).is_some()
+    }
+
+    /// What the follower of this number is told next, beside a selected chain of so many blocks. Nothing changes. In
+    /// constant time, and takes no memory.
+    pub fn due(&self, id: FollowerId, height: u64) -> Result<Option<Step>, UnknownFollower>
+        ensures ok { IfOk result (λ step. (place : Standing) × (follower_of self.now id.number ≡ Some place)
+            × (step ≡ step_of height place)) }
+        ensures unknown { OnErr result (follower_of self.now id.number ≡ None) }
+    {
+        match self.place(id) {
+            Some(place) => Ok(place.step(height)),
+            None => Err(UnknownFollower {}),
+        }
+    }
+
+    /// Tells the follower of this number what comes next, beside a selected chain of so many blocks. Where none is open
+    /// nothing changes. In constant time, and takes no memory.
+    pub fn next(&mut self, id: FollowerId, height: u64) -> Result<Option<Step>, UnknownFollower>
+        ensures ok { IfOk result (λ step. IsStepped self.old id.number height step self.new) }
+        ensures unknown { OnErr result (follower_of self.old id.number ≡ None) }
+        ensures err { OnErr result (self.new ≡ self.old) }
+    {
+        let Some(place) = self.place(id) else {
+            return Err(UnknownFollower {});
+        };
+        self.places[id.number as usize] = Some(place.stepped(height));
+        Ok(place.step(height))
+    }
+
+    /// Sets the follower of this number to the end of the first so many blocks of the selected chain. Where none is
+    /// open nothing changes. In constant time, and takes no memory.
+    pub fn forward(&mut self, id: FollowerId, length: u64) -> Result<(), UnknownFollower>
+        ensures ok { OnOk result (IsForwarded self.old id.number length self.new) }
+        ensures unknown { OnErr result (follower_of self.old id.number ≡ None) }
+        ensures err { OnErr result (self.new ≡ self.old) }
+    {
+        if self.place(id).is_none() {
+            return Err(UnknownFollower {});
+        }
+        self.places[id.number as usize] = Some(Place::standing(length));
+        Ok(())
+    }
+
+    /// Closes the follower of this number, which is then free. Where none is open nothing changes. In constant time,
+    /// and takes no memory.
+    pub fn close(&mut self, id: FollowerId) -> Result<(), UnknownFollower>
+        ensures ok { OnOk result (IsClosed self.old id.number self.new) }
+        ensures unknown { OnErr result (follower_of self.old id.number ≡ None) }
+        ensures err { OnErr result (self.new ≡ self.old) }
+    {
+        if self.place(id).is_none() {
+            return Err(UnknownFollower {});
+        }
+        self.places[id.number as usize] = None;
+        Ok(())
+    }
+
+    /// Another chain is selected, which has so many blocks in common with the old one. Looks at each follower once, and
+    /// takes no memory.
+    pub fn moved(&mut self, common: u64)
+        ensures { self.new ≡ moved_places common self.old }
+    {
+        for number in 0..self.places.len() {
+            self.places[number] = moved_if_open(self.places[number], common);
+        }
+    }
+}

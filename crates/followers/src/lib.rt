@@ -1,0 +1,25 @@
+//! The open followers of a chain, each as two lengths: of the chain that it was told, and of what the selected chain
+//! still has of that. No block is kept here: which blocks they are, the selected chain and what a client was told say.
+//!
+//! ```text
+//! let id = followers.open()?; // it stands at genesis
+//! match followers.next(id, chain.len())? {
+//!     Some(Step::Add { after }) => .., // the block behind the first so many
+//!     Some(Step::RollBack { to }) => .., // to the end of the first so many
+//!     None => .., // it was told the whole chain
+//! }
+//! followers.moved(common); // of the old chain the new one has so many blocks
+//! ```
+#![tactic(auto)]
+
+mod fault;
+mod follower_id;
+mod followers;
+mod laws;
+mod place;
+
+pub use fault::{OpenFault, UnknownFollower};
+pub use follower_id::{FollowerId, MAX_FOLLOWERS};
+pub use followers::Followers;
+pub use laws::lengths_stand_for_followers;
+pub use place::Step;

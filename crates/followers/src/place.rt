@@ -1,0 +1,66 @@
+//! Where a follower stands, and what comes next for it.
+
+ghost use Rattle.std.specs.Prelude.{◌≡◌};
+ghost use Rattle.followers.specs.Places.{standing, moved_place, step_of, stepped_place};
+
+/// Where a follower stands, in blocks: how many it was told, and how many of these the selected chain still has.
+#[derive(Clone, Copy, Debug)]
+pub struct Place {
+    pub told: u64,
+    pub agreed: u64,
+}
+
+/// What a follower is told next, in blocks of the selected chain.
+#[derive(Clone, Copy, Debug, PartialEq, Eq)]
+pub enum Step {
+    /// To put on the block behind the first so many.
+    Add { after: u64 },
+    /// To go back to the end of the first so many.
+    RollBack { to: u64 },
+}
+
+impl Place {
+    /// The end of so many blocks.
+    pub fn standing(length: u64) -> Place
+        ensures { result ≡ standing length }
+    {
+        Place {
+            told: length,
+            agreed: length,
+        }
+    }
+
+    /// The selected chain has only so many of the blocks that it had.
+    pub fn moved(self, common: u64) -> Place
+        ensures { result ≡ moved_place common self }
+    {
+        Place {
+            told: self.told,
+            agreed: self.agreed.min(common),
+        }
+    }
+
+    /// What comes next beside a selected chain of this length.
+    pub fn step(self, height: u64) -> Option<Step>
+        ensures { result ≡ step_of height self }
+    {
+        if self.agreed < self.told {
+            Some(Step::RollBack { to: self.agreed })
+        } else if self.told < height {
+            Some(Step::Add { after: self.told })
+        } else {
+            None
+        }
+    }
+
+    /// Where it stands once that was carried out.
+    pub fn stepped(self, height: u64) -> Place
+        ensures { result ≡ stepped_place height self }
+    {
+        match self.step(height) {
+            None => self,
+            Some(Step::RollBack { to }) => Place::standing(to),
+            Some(Step::Add { after }) => Place::standing(after + 1),
+        }
+    }
+}
