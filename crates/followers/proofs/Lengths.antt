@@ -1,15 +1,15 @@
 -- The lengths stand for the followers of the definitions.
-use Rattle.std.proofs.Common.{◌≡◌, ℕ, zero, suc, ◌+◌, ◌<◌, ◌≤◌, List, [], ◌∷◌, ◌++◌, length, take, map, min, Option, Some, None, Bool, true, false, refl, sym, ap, subst, ◌∙◌, arith}
-use Rattle.std.specs.Prelude.{slice_get, slice_set, nat_lt, option_map, if◌then◌else◌}
+use Rattle.std.proofs.Common.{◌≡◌, ℕ, zero, suc, ◌+◌, ◌≤◌, List, [], ◌∷◌, ◌++◌, length, take, min, Some, None, Bool, true, false, refl, sym, ap, subst, ◌∙◌, arith}
+use Rattle.std.specs.Prelude.{slice_get, slice_set, nat_lt, if◌then◌else◌}
 use Rattle.std.proofs.lemmas.Bool.{ltb-true, ltb-false}
 use Rattle.std.proofs.lemmas.List.{length-append, length-take, length-take-le, take_all}
-use Rattle.model.specs.Block.{Block, block_text}
+use Rattle.model.specs.Block.{Block}
 use Rattle.model.specs.Chain.{BeginsWith, tip_point}
-use Rattle.model.specs.Follower.{Follower, Followers, follower_of, free_id, with_first_free, with_opened, standing_at, AreMoved, IsMoved, IsNext, Instruction, Stay, AddBlock, RollBack}
+use Rattle.model.specs.Follower.{Follower, Followers, follower_of, free_id, with_first_free, with_opened, standing_at, AreMoved, IsMoved, IsNext, Instruction}
 use Rattle.model.specs.History.{IsCommonLength}
 use Rattle.model.proofs.Chains.{begins_with_whole}
 use Rattle.model.proofs.Changes.{taken_with}
-use Rattle.model.proofs.FollowerSteps.{begins_take, begins_not_longer, begins_through, begins_all, common_of_length, told_is_agreed}
+use Rattle.model.proofs.FollowerSteps.{begins_take, begins_through, common_of_length, told_is_agreed}
 use Rattle.followers.specs.declared.place.Place.{Place}
 use Rattle.followers.specs.declared.place.Step.TheVariants as step
 use Rattle.followers.specs.Places.{Places, standing, moved_place, moved_places, step_of, stepped_place}

@@ -1,3 +1,4 @@
 pub mod Numbers
+pub mod Frees
 pub mod Lengths
 pub mod ForCallers

@@ -1,25 +1,6 @@
--- Numbers that are free, and places that are gone through one by one.
-use Rattle.std.proofs.Common.{◌≡◌, ℕ, zero, suc, ◌+◌, ◌<◌, ◌≤◌, List, [], ◌∷◌, ◌++◌, length, take, drop, map, Option, Some, None, true, false, slice_index_or, slice_set, refl, sym, ap, ◌∙◌, arith}
-use Rattle.std.specs.Prelude.{is_some}
+-- A new follower at the least free number, and places that are gone through one by one.
+use Rattle.std.proofs.Common.{◌≡◌, ℕ, zero, suc, ◌+◌, ◌<◌, ◌≤◌, List, [], ◌∷◌, ◌++◌, length, take, drop, map, Option, Some, None, slice_index_or, slice_set, refl, ap, ◌∙◌, arith}
 use Rattle.model.specs.Follower.{free_id, with_first_free}
-
-pub free_here : {X : Type 0} (ps : List (Option X)) (i : ℕ) → i < length ps → is_some (slice_index_or ps i None) ≡ false → free_id (drop i ps) ≡ 0
-free_here [] i below is = absurd (omega arith)
-free_here (None ∷ ps) zero below is = refl
-free_here (Some p ∷ ps) zero below is = absurd (let e : true ≡ false = is in cc)
-free_here (p ∷ ps) (suc i) below is = free_here ps i (omega arith) is
-
-pub free_later : {X : Type 0} (ps : List (Option X)) (i : ℕ) → i < length ps → is_some (slice_index_or ps i None) ≡ true → free_id (drop i ps) ≡ suc (free_id (drop (suc i) ps))
-free_later [] i below is = absurd (omega arith)
-free_later (None ∷ ps) zero below is = absurd (let e : false ≡ true = is in cc)
-free_later (Some p ∷ ps) zero below is = refl
-free_later (p ∷ ps) (suc i) below is = free_later ps i (omega arith) is
-
-pub free_nowhere : {X : Type 0} (ps : List (Option X)) (i : ℕ) → length ps ≤ i → free_id (drop i ps) ≡ 0
-free_nowhere [] zero past = refl
-free_nowhere [] (suc i) past = refl
-free_nowhere (p ∷ ps) zero past = absurd (omega arith)
-free_nowhere (p ∷ ps) (suc i) past = free_nowhere ps i (omega arith)
 
 -- a new one at a free number that there is, and behind them all
 pub first_free_set : {X : Type 0} (ps : List (Option X)) (new : X) → free_id ps < length ps → slice_set ps (free_id ps) (Some new) ≡ with_first_free new ps

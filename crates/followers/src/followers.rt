@@ -1,26 +1,15 @@
 //! The open followers.
 
 ghost use Rattle.std.specs.Prelude.{◌≡◌, option_map};
-ghost use Rattle.model.specs.Follower.{free_id};
 ghost use Rattle.followers.specs.Places.{moved_place};
 
 use crate::fault::{OpenFault, UnknownFollower};
 use crate::follower_id::{FollowerId, MAX_FOLLOWERS};
 use crate::place::{Place, Step};
 use std::alloc::Global;
+use std::cmp::Reverse;
+use std::collections::BinaryHeap;
 use std::marker::Model;
-
-/// The least number that is free.
-fn free_number(places: &[Option<Place>]) -> usize
-    ensures { result ≡ free_id places.now }
-{
-    for number in 0..places.len() {
-        if places[number].is_none() {
-            return number;
-        }
-    }
-    places.len()
-}
 
 /// Where a follower stands once the selected chain has only so many of the blocks that it had, if one is open.
 fn moved_if_open(place: Option<Place>, common: u64) -> Option<Place>
@@ -32,11 +21,13 @@ fn moved_if_open(place: Option<Place>, common: u64) -> Option<Place>
     }
 }
 
-/// The open followers, at most 1,024. Each takes the room of two numbers and no block; the room of one that was closed
-/// is kept for the next.
+/// The open followers, at most 1,024. Each takes the room of a few numbers and of no block; the room of one that was
+/// closed is kept for the next.
 #[derive(Drop)]
 pub struct Followers {
     places: Vec<Option<Place>>,
+    /// The numbers of places in which none is open, the least first, with room for all of them.
+    free: BinaryHeap<Reverse<u64>>,
 }
 
 impl Model for Followers {
@@ -47,9 +38,11 @@ impl Model for Followers {
 
     ghost coded = { coded_places };
 
-    ghost use Rattle.followers.specs.Inside.{places_of};
+    ghost use Rattle.followers.specs.Inside.{places_of, IsInOrder};
 
     ghost view = { places_of };
+
+    ghost invariant = { IsInOrder };
 }
 
 impl Followers {
@@ -65,26 +58,28 @@ impl Followers {
     {
         Followers {
             places: Vec::new(alloc),
+            free: BinaryHeap::new(alloc),
         }
     }
 
     /// Opens a follower of the least number that is free. It stands at genesis. Where there are 1,024, or memory runs
-    /// out, nothing changes. Looks at each lower number once.
+    /// out, nothing changes. Takes time that grows with the logarithm of how many numbers are free.
     pub fn open(&mut self) -> Result<FollowerId, OpenFault>
         ensures ok { IfOk result (λ id. IsOpened self.old id.number self.new) }
         ensures fault { IfErr result (IsOpenFault self.old) }
         ensures err { OnErr result (self.new ≡ self.old) }
     {
-        let number = free_number(&self.places);
+        let place = Some(Place::standing(0));
+        if let Some(Reverse(number)) = self.free.pop() {
+            self.places[number as usize] = place;
+            return Ok(FollowerId { number });
+        }
+        let number = self.places.len();
         if number >= MAX_FOLLOWERS {
             return Err(OpenFault::TooManyFollowers);
         }
-        let place = Some(Place::standing(0));
-        if number < self.places.len() {
-            self.places[number] = place;
-        } else {
-            self.places.push(place)?;
-        }
+        self.free.reserve(number + 1)?;
+        self.places.push(place)?;
         Ok(FollowerId {
             number: number as u64,
         })
@@ -149,8 +144,8 @@ impl Followers {
         Ok(())
     }
 
-    /// Closes the follower of this number, which is then free. Where none is open nothing changes. In constant time,
-    /// and takes no memory.
+    /// Closes the follower of this number, which is then free. Where none is open nothing changes. Takes time that grows
+    /// with the logarithm of how many numbers are free, and no memory.
     pub fn close(&mut self, id: FollowerId) -> Result<(), UnknownFollower>
         ensures ok { OnOk result (IsClosed self.old id.number self.new) }
         ensures unknown { OnErr result (follower_of self.old id.number ≡ None) }
@@ -160,6 +155,9 @@ impl Followers {
             return Err(UnknownFollower {});
         }
         self.places[id.number as usize] = None;
+        if self.free.push(Reverse(id.number)).is_err() {
+            unreachable!();
+        }
         Ok(())
     }
 
