@@ -1,12 +1,10 @@
 -- What a scan finds in a store, and what becomes of a store and of the live blocks that it holds.
-use Rattle.std.proofs.Common.{◌≡◌, ◌≢◌, ◌↔◌, ℕ, ◌<◌, ◌≤◌, Bool, true, false, cond, List, [], ◌∷◌, ◌++◌, length, map, Contains, Option, refl, sym, ap, subst, ◌∙◌, arith, inl, inr}
+use Rattle.std.proofs.Common.{◌≡◌, ◌≢◌, ◌↔◌, ℕ, ◌<◌, ◌≤◌, Bool, true, cond, List, [], ◌∷◌, ◌++◌, length, map, Contains, refl, sym, ap, subst, ◌∙◌, arith, inl, inr}
 use Rattle.std.specs.List.{AllByRecursion, filter}
-use Rattle.std.specs.Prelude.{nat_lt, All, MatchOption, Some, None, Result, Ok, Err, IfOk}
-use Rattle.std.specs.Global.{Vec}
-use Rattle.std.proofs.Common.{Bor}
+use Rattle.std.specs.Prelude.{nat_lt}
 use Rattle.std.proofs.lemmas.Bool.{cases_lt, lt-ltb, ltb-true}
 use Rattle.std.proofs.lemmas.List.{length-map, length-append}
-use Rattle.std.proofs.lemmas.List.Elements.{All-contains, Contains-append_left, Contains-push, Contains-push_cases}
+use Rattle.std.proofs.lemmas.List.Elements.{Contains-append_left, Contains-push, Contains-push_cases}
 use Rattle.block.specs.Read.{IsRead}
 use Rattle.model.specs.Block.{Block, SpellsBlock, block_hash_of, block_text}
 use Rattle.model.specs.Genesis.{Genesis}
@@ -17,13 +15,13 @@ use Rattle.model.proofs.Chains.{one_with_hash}
 use Rattle.model.proofs.LegalHistories.{narrower_distinct}
 use Rattle.model.proofs.BlockTexts.{one_block, block_text_is}
 use Rattle.blockstore.specs.Stored.{Stored, Store, unmarked, blocks_of, HasBlock, IsSet}
-use Rattle.blockstore.specs.Tests.{has_hash, names, is_past, marked_at}
+use Rattle.blockstore.specs.Tests.{is_past, marked_at}
 use Rattle.blockstore.specs.Insertion.{IsKnown, IsClash, IsFull, IsInserted}
-use Rattle.blockstore.specs.Answers.{HasNoneAt, IsAt, AreSuccessors, IsMarkedAt, IsMarkSet, IsCutTo}
+use Rattle.blockstore.specs.Answers.{HasNoneAt, IsAt, IsMarkedAt, IsMarkSet, IsCutTo}
 use Rattle.blockstore.specs.Live.{HoldsLive, GainsLive, FollowsChain, KeepsLive}
 use Rattle.blockstore.proofs.Lists.{map_filter, map_same, map_push, all_filter, all_map, distinct_filter, distinct_push, no_longer}
 use Rattle.model.proofs.Sets.{same_count, distinct_by_count}
-use Rattle.blockstore.proofs.Tests.{hash_is, hash_is_not, previous_is, previous_passes, is_marked, marked_is, same_block}
+use Rattle.blockstore.proofs.Tests.{is_marked, marked_is, same_block}
 
 abbrev pub block_of : Stored → Block
 block_of s = s.block
@@ -31,29 +29,6 @@ block_of s = s.block
 -- the stored blocks were read
 abbrev pub AreRead : List Stored → Type 0
 AreRead blocks = AllByRecursion (λ x. IsRead x.block (block_text x.block)) blocks
-
--- ---- answers
-
-pub none_at : (store : Store) (hash : List ℕ) → All (λ x. has_hash hash x ≡ false) store.blocks → HasNoneAt store hash
-none_at store hash all b member same =
-    let found = contains_before block_of store.blocks b member in
-    hash_is_not hash found.0 (All-contains (λ x. has_hash hash x ≡ false) store.blocks found.0 all found.1) (ap block_hash_of found.2 ∙ same)
-
-pub found_at : (store : Store) (hash : List ℕ) (x : Stored) → Contains store.blocks x → has_hash hash x ≡ true → IsAt store hash x
-found_at store hash x member passes = record { member = member; same = hash_is hash x passes }
-
--- what names a block before it is found by a filter
-pub are_successors : (store : Store) (previous : Option (List ℕ)) (found : List Stored) → IsSet store → found ≡ filter (names previous) store.blocks → AreSuccessors store previous found
-are_successors store previous found is_set is =
-    subst (AreSuccessors store previous) (sym is)
-    (record {
-      members = λ x. (
-        (λ member. let there = filter_member (names previous) store.blocks x member in (there.0, previous_is x.block.header.previous previous there.1)),
-        (λ there. contains_filter (names previous) store.blocks x there.0 (previous_passes x.block.header.previous previous there.1)),
-      );
-      once = let test : Block → Bool = λ b. names previous (unmarked b) in
-          subst HaveDistinctHashes (sym (map_filter block_of test store.blocks)) (distinct_filter test (blocks_of store) is_set.distinct);
-    })
 
 -- ---- a mark
 
@@ -100,7 +75,7 @@ live_marked store hash blocks is genesis kept chain live =
 
 -- ---- a cut
 
-past_blocks : (number : ℕ) (blocks : List Stored) → map block_of (filter (is_past number) blocks) ≡ filter (λ b. nat_lt number b.header.number) (map block_of blocks)
+pub past_blocks : (number : ℕ) (blocks : List Stored) → map block_of (filter (is_past number) blocks) ≡ filter (λ b. nat_lt number b.header.number) (map block_of blocks)
 past_blocks number blocks = map_filter block_of (λ b. nat_lt number b.header.number) blocks
 
 pub cut_to : (store : Store) (number : ℕ) (blocks : List Stored) → blocks ≡ filter (is_past number) store.blocks → IsCutTo store number (with_blocks store blocks)
@@ -268,20 +243,6 @@ live_more store b genesis kept chain live past = record {
 pub live_with : (store : Store) (b : Block) (blocks : List Stored) → blocks ≡ store.blocks ++ unmarked b ∷ [] → GainsLive store b (with_blocks store blocks)
 live_with store b blocks is genesis kept chain live past =
     subst (λ (xs : List Stored). HoldsLive genesis (b ∷ kept) chain (with_blocks store xs)) (sym is) (live_more store b genesis kept chain live past)
-
--- ---- what calls of the scan answer
-
-pub get_answer : (store : Store) (hash : List ℕ) (blocks : List Stored) (r : Option (Bor Stored)) → blocks ≡ store.blocks
-    → MatchOption r (All (λ x. has_hash hash x ≡ false) blocks) (λ found. Contains blocks found.now × (has_hash hash found.now ≡ true))
-    → MatchOption r (HasNoneAt store hash) (λ found. IsAt store hash found.now)
-get_answer store hash blocks None is all = none_at store hash (subst (All (λ x. has_hash hash x ≡ false)) is all)
-get_answer store hash blocks (Some found) is at = found_at store hash found.now (subst (λ (xs : List Stored). Contains xs found.now) is at.0) at.1
-
-pub successors_answer : {E : Type 0} (store : Store) (previous : Option (List ℕ)) (blocks : List Stored) (r : Result (Vec (Bor Stored)) E) → IsSet store → blocks ≡ store.blocks
-    → IfOk r (λ found. map (λ x. x.now) found.items ≡ filter (names previous) blocks) → IfOk r (λ found. AreSuccessors store previous (map (λ x. x.now) found.items))
-successors_answer store previous blocks (Ok found) is_set is are =
-    are_successors store previous (map (λ (x : Bor Stored). x.now) found.items) is_set (are ∙ ap (filter (names previous)) is)
-successors_answer store previous blocks (Err e) is_set is are = tt
 
 -- what was read from some bytes is what is read from its text
 pub read_again : (b : Block) (bytes : List ℕ) → IsRead b bytes → IsRead b (block_text b)

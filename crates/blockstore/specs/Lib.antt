@@ -5,3 +5,6 @@ pub mod HeldStore
 pub mod Insertion
 pub mod Answers
 pub mod Live
+pub mod Keys
+pub mod Shelves
+pub mod HeldShelf

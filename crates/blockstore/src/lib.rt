@@ -11,7 +11,8 @@
 #![tactic(auto)]
 
 mod insert_fault;
-mod scan;
+mod keys;
+mod shelf;
 mod store;
 mod stored_block;
 

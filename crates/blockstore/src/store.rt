@@ -11,7 +11,7 @@ ghost use Rattle.blockstore.specs.Answers.{HasNoneAt, IsAt, AreSuccessors, IsMar
 ghost use Rattle.blockstore.specs.Live.{HoldsNothing, GainsLive, FollowsChain, KeepsLive};
 
 use crate::insert_fault::InsertFault;
-use crate::scan;
+use crate::shelf::Shelf;
 use crate::stored_block::StoredBlock;
 use block::CheckedBlock;
 use ident::BlockHash;
@@ -20,13 +20,13 @@ use std::marker::Model;
 use witness_pool::SigScheme;
 
 /// The live blocks: those that may still come into a selected chain, whose numbers are past the immutable part of the
-/// selected one. They come in any order, and no two of them have one hash. Each call takes time that grows with the
-/// live blocks, and compares their hashes and numbers alone, unless it says otherwise.
+/// selected one. They come in any order, and no two of them have one hash. Each call takes a look-up, whose time grows
+/// with the logarithm of how many there are, unless it says otherwise.
 #[derive(Drop)]
 pub struct BlockStore<S: SigScheme> {
     alloc: Global,
     max_volatile: u64,
-    blocks: Vec<StoredBlock<S>>,
+    blocks: Shelf<S>,
 }
 
 impl<S: SigScheme> Model for BlockStore<S> {
@@ -52,7 +52,7 @@ impl<S: SigScheme> BlockStore<S> {
         BlockStore {
             alloc,
             max_volatile,
-            blocks: Vec::new(alloc),
+            blocks: Shelf::new(alloc),
         }
     }
 
@@ -71,7 +71,7 @@ impl<S: SigScheme> BlockStore<S> {
     pub fn is_empty(&self) -> bool
         ensures { IsTrue result ↔ (self.now.blocks ≡ []) }
     {
-        self.blocks.is_empty()
+        self.blocks.len() == 0
     }
 
     /// Whether there are as many live blocks as may be, in constant time.
@@ -89,11 +89,12 @@ impl<S: SigScheme> BlockStore<S> {
         ensures one { (b : Block) → IsRead b (block_text b) → IsKnown self.now b ↔ HasBlock self.now b }
         ensures set { IsSet self.now }
     {
-        scan::with_hash(&self.blocks, hash)
+        self.blocks.with_hash(hash)
     }
 
     /// The live blocks that name this one as the block before them, in no order that is promised: None asks for the
-    /// first blocks of chains. Copies no block. Err where there is no memory for the references.
+    /// first blocks of chains. Takes a look-up more for each of them, and copies no block. Err where there is no memory
+    /// for the references.
     pub fn successors(
         &self,
         previous: Option<BlockHash>,
@@ -101,7 +102,7 @@ impl<S: SigScheme> BlockStore<S> {
         ensures { IfOk result (λ found.
             AreSuccessors self.now (option_map bytes_of previous) (map (λ x. x.now) found.items)) }
     {
-        scan::after(self.alloc, &self.blocks, previous)
+        self.blocks.after(self.alloc, previous)
     }
 
     /// Takes the block in, without a mark. Err where one of the reasons applies, and then nothing changes. A mark will
@@ -124,7 +125,7 @@ impl<S: SigScheme> BlockStore<S> {
         if self.is_full() {
             return Err(InsertFault::VolatileFull);
         }
-        if self.blocks.push(StoredBlock::new(block)).is_err() {
+        if self.blocks.put(StoredBlock::new(block)).is_err() {
             return Err(InsertFault::OutOfMemory);
         }
         Ok(())
@@ -137,15 +138,15 @@ impl<S: SigScheme> BlockStore<S> {
         ensures set { IsSet self.new }
         ensures live { KeepsLive self.old self.new }
     {
-        scan::mark(&mut self.blocks, hash);
+        self.blocks.mark(hash);
     }
 
-    /// Takes out all blocks with a number up to this one. Takes no memory.
+    /// Takes out all blocks with a number up to this one: a look-up for each. Takes no memory.
     pub fn drop_up_to(&mut self, number: u64)
         ensures cut { IsCutTo self.old number self.new }
         ensures set { IsSet self.new }
         ensures live { FollowsChain self.old number self.new }
     {
-        scan::keep_past(&mut self.blocks, number);
+        self.blocks.keep_past(number);
     }
 }

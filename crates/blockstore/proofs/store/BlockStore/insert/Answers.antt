@@ -1,4 +1,4 @@
-use Rattle.std.proofs.Common.{◌≡◌, ◌∙◌, ◌++◌, ◌∷◌, [], ap, subst, sym, refl, Bool, false, true, cond, List}
+use Rattle.std.proofs.Common.{◌≡◌, ◌∙◌, ◌++◌, ◌∷◌, [], ap, subst, sym, refl, false, true, List}
 use Rattle.block.specs.Read.{IsRead}
 use Rattle.model.specs.Block.{block_text, block_hash_of}
 use Rattle.model.proofs.BlockTexts.{block_text_is}
@@ -6,7 +6,11 @@ use Rattle.blockstore.specs.Stored.{Stored, Store, IsSet, unmarked}
 use Rattle.blockstore.specs.Insertion.{IsAllowed, IsInserted, IsFull}
 use Rattle.blockstore.specs.Answers.{HasNoneAt}
 use Rattle.blockstore.specs.Live.{GainsLive}
-use Rattle.blockstore.proofs.Stores.{AreRead, read_again, known_is_live, known_at, unknown_at, clash_at, unknown, no_clash, with_blocks, inserted, set_with, read_with, live_with}
+use Rattle.blockstore.specs.Shelves.{IsSame}
+use Rattle.model.proofs.MappedLists.{contains_map}
+use Rattle.blockstore.proofs.KeySets.{on_ok, on_err}
+use Rattle.blockstore.proofs.Sames.{set_same, read_same, gains_same, inserted_same}
+use Rattle.blockstore.proofs.Stores.{block_of, AreRead, read_again, known_is_live, known_at, unknown_at, clash_at, unknown, no_clash, with_blocks, inserted, set_with, read_with, live_with}
 use Rattle.blockstore.proofs.store.BlockStore.insert.Goals as goal
 
 pub returns-then-has_text-clause-err : goal.returns-then-has_text-clause-err
@@ -59,6 +63,13 @@ returns-then-is_full-clause-one g c =
     let read_too : IsRead c.args.block (block_text c.args.block) = read_again c.args.block c.bytes-text.result.now c.bytes-text.ensures in
     known_is_live c.args.self.now c.args.block read read_too
 
+pub put-requires : goal.put-requires
+put-requires g c =
+    let old : Store = record { capacity = c.self.inside.max_volatile; blocks = c.self.inside.blocks } in
+    let none : HasNoneAt old (block_hash_of c.args.block) =
+    subst (HasNoneAt old) c.hash.ensures (subst (λ (s : Store). HasNoneAt s c.hash.result.bytes) (sym c.self.view_is) c.in_default.ensures.found) in
+    λ x member at. none x.block (contains_map block_of old.blocks x member) (at ∙ ap (λ (s : Stored). block_hash_of s.block) c.new.ensures)
+
 pub returns-then-is_err-clause-err : goal.returns-then-is_err-clause-err
 returns-then-is_err-clause-err g c =
     let read : AreRead c.args.self.now.blocks = subst (λ (s : Store). AreRead s.blocks) c.self.view_is c.self.invariant.read in
@@ -68,8 +79,7 @@ returns-then-is_err-clause-err g c =
       alone = no_clash c.args.self.now c.args.block c.hash.result.bytes c.hash.ensures c.in_default.ensures.found;
       room = λ full. let e : false ≡ true = c.if-is_full.ensures.1 full in absurd {A = ⊥} cc;
     } in
-    let items : List Stored = c.self.inside.blocks.items in
-    let same : c.push.new.self.items ≡ items = c.push.ensures.items ∙ ap (λ (t : Bool). cond t (items ++ c.new.result ∷ []) items) c.if-is_err.ensures.negation in
+    let same : c.put.new.self ≡ c.self.inside.blocks = on_err _ c.put.result c.if-is_err.ensures.value c.put.ensures.err in
     (allowed, ap (λ (xs : List Stored). record { capacity = c.self.inside.max_volatile; blocks = xs }) same ∙ c.self.view_is)
 
 pub returns-then-is_err-clause-one : goal.returns-then-is_err-clause-one
@@ -80,25 +90,25 @@ returns-then-is_err-clause-one g c =
 
 pub invariant_of-self-2 : goal.invariant_of-self-2
 invariant_of-self-2 g c =
-    let old : Store = record { capacity = c.self.inside.max_volatile; blocks = c.self.inside.blocks.items } in
-    let items : List Stored = c.self.inside.blocks.items in
-    let is : c.push.new.self.items ≡ items ++ unmarked c.args.block ∷ [] =
-    c.push.ensures.items ∙ (ap (λ (t : Bool). cond t (items ++ c.new.result ∷ []) items) c.if-is_err.ensures.negation ∙ ap (λ (x : Stored). items ++ x ∷ []) c.new.ensures) in
+    let old : Store = record { capacity = c.self.inside.max_volatile; blocks = c.self.inside.blocks } in
+    let more : List Stored = old.blocks ++ unmarked c.args.block ∷ [] in
+    let same : IsSame c.put.new.self more =
+    subst (λ (x : Stored). IsSame c.put.new.self (old.blocks ++ x ∷ [])) c.new.ensures (on_ok _ c.put.result c.if-is_err.ensures.value c.put.ensures.ok) in
     let read_too : IsRead c.args.block (block_text c.args.block) = read_again c.args.block c.bytes-text.result.now c.bytes-text.ensures in
     let none : HasNoneAt old (block_hash_of c.args.block) =
     subst (HasNoneAt old) c.hash.ensures (subst (λ (s : Store). HasNoneAt s c.hash.result.bytes) (sym c.self.view_is) c.in_default.ensures.found) in
     let room : IsFull old → ⊥ = λ full. let e : false ≡ true = c.if-is_full.ensures.1 (subst IsFull c.self.view_is full) in absurd {A = ⊥} cc in
     record {
-      is_set = set_with old c.args.block c.push.new.self.items is c.self.invariant.is_set none room;
-      read = read_with old c.args.block c.push.new.self.items is c.self.invariant.read read_too;
+      is_set = set_same old c.put.new.self more same (set_with old c.args.block more refl c.self.invariant.is_set none room);
+      read = read_same old c.put.new.self more same (read_with old c.args.block more refl c.self.invariant.read read_too);
     }
 
 pub returns-clause-ok : goal.returns-clause-ok
 returns-clause-ok g c =
-    let old : Store = record { capacity = c.self.inside.max_volatile; blocks = c.self.inside.blocks.items } in
-    let items : List Stored = c.self.inside.blocks.items in
-    let is : c.push.new.self.items ≡ items ++ unmarked c.args.block ∷ [] =
-    c.push.ensures.items ∙ (ap (λ (t : Bool). cond t (items ++ c.new.result ∷ []) items) c.if-is_err.ensures.negation ∙ ap (λ (x : Stored). items ++ x ∷ []) c.new.ensures) in
+    let old : Store = record { capacity = c.self.inside.max_volatile; blocks = c.self.inside.blocks } in
+    let more : List Stored = old.blocks ++ unmarked c.args.block ∷ [] in
+    let same : IsSame c.put.new.self more =
+    subst (λ (x : Stored). IsSame c.put.new.self (old.blocks ++ x ∷ [])) c.new.ensures (on_ok _ c.put.result c.if-is_err.ensures.value c.put.ensures.ok) in
     let read : AreRead c.args.self.now.blocks = subst (λ (s : Store). AreRead s.blocks) c.self.view_is c.self.invariant.read in
     let read_too : IsRead c.args.block (block_text c.args.block) = read_again c.args.block c.bytes-text.result.now c.bytes-text.ensures in
     let allowed : IsAllowed c.args.self.now c.args.block = record {
@@ -106,7 +116,7 @@ returns-clause-ok g c =
       alone = no_clash c.args.self.now c.args.block c.hash.result.bytes c.hash.ensures c.in_default.ensures.found;
       room = λ full. let e : false ≡ true = c.if-is_full.ensures.1 full in absurd {A = ⊥} cc;
     } in
-    (allowed, subst (λ (s : Store). IsInserted s c.args.block (with_blocks old c.push.new.self.items)) c.self.view_is (inserted old c.args.block c.push.new.self.items is))
+    (allowed, subst (λ (s : Store). IsInserted s c.args.block (with_blocks old c.put.new.self)) c.self.view_is (inserted_same old c.put.new.self more same c.args.block (inserted old c.args.block more refl)))
 
 pub returns-clause-one : goal.returns-clause-one
 returns-clause-one g c =
@@ -116,19 +126,19 @@ returns-clause-one g c =
 
 pub returns-clause-set : goal.returns-clause-set
 returns-clause-set g c =
-    let old : Store = record { capacity = c.self.inside.max_volatile; blocks = c.self.inside.blocks.items } in
-    let items : List Stored = c.self.inside.blocks.items in
-    let is : c.push.new.self.items ≡ items ++ unmarked c.args.block ∷ [] =
-    c.push.ensures.items ∙ (ap (λ (t : Bool). cond t (items ++ c.new.result ∷ []) items) c.if-is_err.ensures.negation ∙ ap (λ (x : Stored). items ++ x ∷ []) c.new.ensures) in
+    let old : Store = record { capacity = c.self.inside.max_volatile; blocks = c.self.inside.blocks } in
+    let more : List Stored = old.blocks ++ unmarked c.args.block ∷ [] in
+    let same : IsSame c.put.new.self more =
+    subst (λ (x : Stored). IsSame c.put.new.self (old.blocks ++ x ∷ [])) c.new.ensures (on_ok _ c.put.result c.if-is_err.ensures.value c.put.ensures.ok) in
     let none : HasNoneAt old (block_hash_of c.args.block) =
     subst (HasNoneAt old) c.hash.ensures (subst (λ (s : Store). HasNoneAt s c.hash.result.bytes) (sym c.self.view_is) c.in_default.ensures.found) in
     let room : IsFull old → ⊥ = λ full. let e : false ≡ true = c.if-is_full.ensures.1 (subst IsFull c.self.view_is full) in absurd {A = ⊥} cc in
-    set_with old c.args.block c.push.new.self.items is c.self.invariant.is_set none room
+    set_same old c.put.new.self more same (set_with old c.args.block more refl c.self.invariant.is_set none room)
 
 pub returns-clause-live : goal.returns-clause-live
 returns-clause-live g c =
-    let old : Store = record { capacity = c.self.inside.max_volatile; blocks = c.self.inside.blocks.items } in
-    let items : List Stored = c.self.inside.blocks.items in
-    let is : c.push.new.self.items ≡ items ++ unmarked c.args.block ∷ [] =
-    c.push.ensures.items ∙ (ap (λ (t : Bool). cond t (items ++ c.new.result ∷ []) items) c.if-is_err.ensures.negation ∙ ap (λ (x : Stored). items ++ x ∷ []) c.new.ensures) in
-    subst (λ (s : Store). GainsLive s c.args.block (with_blocks old c.push.new.self.items)) c.self.view_is (live_with old c.args.block c.push.new.self.items is)
+    let old : Store = record { capacity = c.self.inside.max_volatile; blocks = c.self.inside.blocks } in
+    let more : List Stored = old.blocks ++ unmarked c.args.block ∷ [] in
+    let same : IsSame c.put.new.self more =
+    subst (λ (x : Stored). IsSame c.put.new.self (old.blocks ++ x ∷ [])) c.new.ensures (on_ok _ c.put.result c.if-is_err.ensures.value c.put.ensures.ok) in
+    subst (λ (s : Store). GainsLive s c.args.block (with_blocks old c.put.new.self)) c.self.view_is (gains_same old c.put.new.self more same c.args.block (live_with old c.args.block more refl))

@@ -1,0 +1,43 @@
+-- The keys under which blocks are found beside their hashes, and their order.
+use Rattle.std.specs.Prelude.{◌≡◌, ◌<◌, ℕ, Bool, true, List, length, Some, slice_index}
+use Rattle.std.specs.Ordering.{nat_cmp, ordering_then}
+use Rattle.std.specs.Option.{option_cmp}
+use Rattle.std.specs.Cmp.Lexicographic.{slice_cmp}
+use Rattle.std.specs.declared.cmp.Ordering.{Ordering}
+use Rattle.std.specs.BTreeMap.{BTreeMap, get}
+use Rattle.model.specs.Block.{Block, block_hash_of}
+use Rattle.blockstore.specs.Stored.{Stored}
+use Rattle.blockstore.specs.declared.keys.Link.{Link}
+use Rattle.blockstore.specs.declared.keys.Age.{Age}
+
+-- hashes are ordered as bytes
+abbrev pub hash_cmp : List ℕ → List ℕ → Ordering
+hash_cmp a b = slice_cmp nat_cmp a b
+
+-- links by the block before, then by hash
+abbrev pub link_cmp : Link → Link → Ordering
+link_cmp a b = ordering_then (option_cmp (slice_cmp nat_cmp) a.previous b.previous) (slice_cmp nat_cmp a.hash b.hash)
+
+-- ages by number, then by hash
+abbrev pub age_cmp : Age → Age → Ordering
+age_cmp a b = ordering_then (nat_cmp a.number b.number) (slice_cmp nat_cmp a.hash b.hash)
+
+-- 32 bytes
+abbrev pub IsSized : List ℕ → Type 0
+IsSized hash = (length hash ≡ 32) × ((i : ℕ) → slice_index hash i < 256)
+
+-- the link names the block, and the one that it follows, if it follows one
+abbrev pub IsLinkOf : Block → Link → Type 0
+IsLinkOf b link = (link.previous ≡ b.header.previous) × (link.hash ≡ block_hash_of b) × IsSized link.hash
+
+-- the age names the block, and its number
+abbrev pub IsAgeOf : Block → Age → Type 0
+IsAgeOf b age = (age.number ≡ b.header.number) × (age.hash ≡ block_hash_of b)
+
+-- Just the blocks of a map have keys of this kind.
+pub record AreKeysOf {K : Type 0} (IsKey : Block → K → Type 0) (has : K → Bool)
+    (m : BTreeMap (List ℕ) Stored) : Type 0 where
+  pub kept : (hash : List ℕ) (x : Stored) → get hash_cmp m hash ≡ Some x
+      → (key : K) × (has key ≡ true) × IsKey x.block key
+  pub named : (key : K) → has key ≡ true
+      → (hash : List ℕ) × (x : Stored) × (get hash_cmp m hash ≡ Some x) × IsKey x.block key
