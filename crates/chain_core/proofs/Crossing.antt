@@ -3,6 +3,8 @@
 use denote.RattleType.{RattleType}
 use denote.Param.Send.{IsSend, sendable}
 use Rattle.std.proofs.Crossing.{crosses}
+use Rattle.std.proofs.collections.BTreeMap.TheSendSync as map
+use Rattle.std.proofs.collections.BTreeSet.TheSendSync as set
 use Rattle.std.proofs.collections.LinkedList.TheSendSync as list
 use Rattle.utxo_rules.proofs.ForCallers.{Utxo-send}
 use Rattle.mempool.proofs.ForCallers.{Mempool-send}
@@ -11,11 +13,14 @@ use Rattle.utxo_rules.proofs.params.Params.TheSendSync as params
 use Rattle.genesis.proofs.genesis.Genesis.TheSendSync as genesis
 use Rattle.followers.proofs.followers.Followers.TheSendSync as followers
 use Rattle.ledger.proofs.tip.Tip.TheSendSync as tip
+use Rattle.utxo_rules.specs.contracts.diff.Diff as Diff
 use Rattle.ledger.specs.contracts.ledger_state.LedgerState as LedgerState
+use Rattle.ledger.specs.contracts.block_diff.BlockDiff as BlockDiff
 use Rattle.ledgerdb.specs.contracts.ledger_db.LedgerDb as LedgerDb
 use Rattle.witness_pool.specs.declared.scheme.SigScheme.{Ghosts}
 use Rattle.block.proofs.ForCallers.{CheckedBlock-send}
 use Rattle.blockstore.specs.contracts.stored_block.StoredBlock as StoredBlock
+use Rattle.blockstore.specs.contracts.shelf.Shelf as Shelf
 use Rattle.blockstore.specs.contracts.store.BlockStore as BlockStore
 use Rattle.chain_core.specs.contracts.chain_db.ChainDb as ChainDb
 use Rattle.chain_core.specs.contracts.node_core.Core as Core
@@ -29,15 +34,30 @@ state_send =
     let t = tip.the_field_send in
     search (crosses, sendable) depth 20
 
+diff_send : IsSend (Diff.the_field).row
+diff_send = search (crosses, sendable) depth 60 fits 20000
+
+block_diff_send : IsSend (BlockDiff.the_field).row
+block_diff_send =
+    let d = diff_send in
+    let t = tip.the_field_send in
+    search (crosses, sendable) depth 20
+
 db_send : IsSend (LedgerDb.the_field).row
-db_send = let l = state_send in search (list.the_send, crosses, sendable) depth 20
+db_send =
+    let l = state_send in
+    let d = block_diff_send in
+    search (list.the_send, crosses, sendable) depth 20
 
 module _ (S : RattleType) (scheme : Ghosts S.Denot) where
   stored_send : IsSend (StoredBlock.the_field S scheme).row
   stored_send = let b = CheckedBlock-send S scheme in search (crosses, sendable) depth 20
 
+  shelf_send : IsSend (Shelf.the_field S scheme).row
+  shelf_send = let s = stored_send in search (map.the_send, set.the_send, crosses, sendable) depth 20
+
   store_send : IsSend (BlockStore.the_field S scheme).row
-  store_send = let s = stored_send in search (crosses, sendable) depth 20
+  store_send = let s = shelf_send in search (crosses, sendable) depth 20
 
   chain_db_send : IsSend (ChainDb.the_field S scheme).row
   chain_db_send =

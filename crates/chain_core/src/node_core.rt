@@ -90,10 +90,10 @@ impl<S: SigScheme> Core<S> {
     ///
     /// Reads and hashes the bytes once, and copies them once where they aren't refused. A refusal takes no memory, but
     /// for the transactions that are read before it is known. A block that extends the tip is judged once, and one of
-    /// a fork that is not longer isn't judged. The rest grows with the blocks of the chain, whose hashes are compared
-    /// once, and with the live blocks, whose hashes and numbers are compared a few times, and once more for each block
-    /// on the way to the new one and for each that goes on from it. Where the chain changes, each transaction of the
-    /// mempool is judged once. Each follower is looked at once.
+    /// a fork that is not longer isn't judged. A few look-ups among the live blocks, and one more for each block on the
+    /// way to the new one, for each that goes on from it and for each that becomes immutable. The hashes of the chain's
+    /// blocks are compared once. Where the chain changes, each transaction of the mempool is judged once. Each follower
+    /// is looked at once.
     pub fn arrive(&mut self, bytes: &[u8]) -> Result<ArriveReply, AllocError>
         // For every state of the definitions that the core stands for, this is a step to one that it then stands for.
         ensures step { (s : State) → Stands self.old s → (t : State)
@@ -232,7 +232,8 @@ impl<S: SigScheme> Core<S> {
     }
 
     /// Opens a follower of the least number that is free, 0 to 1,023. It was told nothing, and stands at genesis. Where
-    /// there are 1,024, or memory runs out, nothing changes. Looks at each lower number once.
+    /// there are 1,024, or memory runs out, nothing changes. Takes time that grows with the logarithm of
+    /// how many lower numbers are free.
     pub fn open(&mut self) -> Result<FollowerId, OpenFault>
         ensures step { (s : State) → Stands self.old s → (t : State)
             × Step (network_of self.old.genesis S.verifies) s Open (open_reply_of result) t

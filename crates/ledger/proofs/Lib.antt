@@ -1,3 +1,5 @@
 pub mod Faults
+pub mod ForCallers
 pub mod Openings
 pub mod Bodies
+pub mod Backwards

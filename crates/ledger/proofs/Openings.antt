@@ -1,5 +1,5 @@
 -- What the grants of a genesis leave to be spent, and how much lovelace that is.
-use Rattle.std.proofs.Common.{◌≡◌, ℕ, ◌+◌, ◌<◌, List, map, sym, ap, ◌∙◌, arith}
+use Rattle.std.proofs.Common.{◌≡◌, ◌<◌, List, map, sym, ap, ◌∙◌, arith}
 use Rattle.std.specs.FinMap as finite
 use Rattle.std.proofs.lemmas.Simd.{map-map}
 use Rattle.model.specs.Limits.{number_limit}

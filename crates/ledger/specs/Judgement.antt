@@ -1,15 +1,20 @@
 -- How blocks and their transactions are judged.
 use Rattle.std.specs.Prelude.{◌≡◌, ℕ, ◌<◌, ◌≤◌, Option, Some}
 use Rattle.model.specs.Signature.{Verifies}
-use Rattle.model.specs.Rules.{Reason}
+use Rattle.model.specs.Rules.{Params, Reason}
 use Rattle.model.specs.Block.{Block, body_size_of}
-use Rattle.model.specs.Chain.{Follows}
+use Rattle.model.specs.Chain.{Tip, Follows}
+use Rattle.model.specs.Ledger.{Ledger}
 use Rattle.model.specs.Applying.{LedgerState, BlockFault, fault_number, HasFault, IsFirstFault}
 use Rattle.utxo_rules.specs.View.{reason_of}
 use Rattle.ledger.specs.View.{fault_of}
 use Rattle.ledger.specs.declared.block_fault.ApplyFault.{ApplyFault}
 use Rattle.ledger.specs.declared.block_fault.ApplyFault.TheVariants.{Refused, OutOfMemory}
 use Rattle.ledger.specs.declared.block_fault.BlockFault.TheVariants.{WrongNumber, WrongPrev, SlotNotRising, BodyTooBig, TxFault}
+
+-- the state with these parts
+abbrev pub state_with : Params → Ledger → Tip → LedgerState
+state_with params ledger tip = record { params = params; ledger = ledger; tip = tip }
 
 -- the block follows the tip, and its body fits
 pub record Fits (s : LedgerState) (b : Block) : Type 0 where

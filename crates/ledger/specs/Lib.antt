@@ -1,3 +1,4 @@
 pub mod View
 pub mod Held
 pub mod Judgement
+pub mod BlockDiffs

@@ -3,7 +3,7 @@
 ghost use Rattle.std.specs.Prelude.{◌≡◌};
 ghost use Rattle.ledger.specs.declared.block_fault.ApplyFault.TheVariants.{Refused, OutOfMemory};
 
-use std::alloc::AllocError;
+use std::alloc::{AllocError, AllocFailed};
 use thiserror::Error;
 use utxo_rules::Reason;
 
@@ -51,6 +51,14 @@ impl From<AllocError> for ApplyFault {
     ghost from_gives = { λ _ e. e ≡ OutOfMemory };
 
     fn from(_error: AllocError) -> ApplyFault {
+        ApplyFault::OutOfMemory
+    }
+}
+
+impl<T: Drop> From<AllocFailed<T>> for ApplyFault {
+    ghost from_gives = { λ _ e. e ≡ OutOfMemory };
+
+    fn from(_error: AllocFailed<T>) -> ApplyFault {
         ApplyFault::OutOfMemory
     }
 }

@@ -10,12 +10,14 @@
 #![tactic(auto)]
 
 mod applying;
+mod block_diff;
 mod block_fault;
 mod ledger_state;
 mod opening;
 mod tip;
 mod transactions;
 
-pub use applying::apply_block;
+pub use applying::{apply_block, apply_block_diff, misfit_before};
+pub use block_diff::{BlockDiff, undo_block};
 pub use block_fault::{ApplyFault, BlockFault};
 pub use ledger_state::LedgerState;

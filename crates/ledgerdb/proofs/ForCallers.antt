@@ -28,8 +28,8 @@ module _ (network : Network) where
   prepared_valid chain blocks db prepared is within are =
       let root = without_last prepared.back chain in
       let from = own.back_state network chain db prepared.back is within in
-      valid_chain (root ++ blocks) _ (beside_last network root (state_back db prepared.back) blocks prepared.states from are)
+      valid_chain (root ++ blocks) _ (beside_last network root (state_back db prepared.back) blocks prepared.states from are.states)
 
   -- a fork prepares one state for each block
   pub prepared_count : (root blocks : List Block) (prepared : Prepared) → IsPreparedOf network root blocks prepared → count prepared ≡ length blocks
-  prepared_count root blocks prepared are = beside_length network root blocks prepared.states are
+  prepared_count root blocks prepared are = beside_length network root blocks prepared.states are.states

@@ -1,11 +1,13 @@
 -- Blocks that are applied one after the other, and the one that isn't.
-use Rattle.std.proofs.Common.{◌≡◌, ℕ, ◌+◌, ◌<◌, List, [], ◌∷◌, ◌++◌, length, take, get_or, sym, ap, subst, ◌∙◌}
+use Rattle.std.proofs.Common.{◌≡◌, ℕ, ◌+◌, ◌<◌, List, [], ◌∷◌, ◌++◌, length, take, get_or, sym, ap, subst, ◌∙◌, arith}
+use Rattle.std.specs.Prelude.{Some, slice_get, Result, Ok, Err, IfErr, IsErrAnd}
 use Rattle.std.proofs.lemmas.List.{take_more}
 use Rattle.model.specs.Signature.{Verifies}
 use Rattle.model.specs.Block.{Block}
 use Rattle.model.specs.Ledger.{Network}
 use Rattle.model.specs.Applying.{LedgerState, IsApplied, AreStates, last_state, IsStateOf}
 use Rattle.model.proofs.StatesAlong.{states_push, state_along}
+use Rattle.ledger.specs.Judgement.{IsApplyFault}
 use Rattle.ledger.specs.declared.block_fault.ApplyFault.{ApplyFault}
 use Rattle.ledger.specs.declared.block_fault.ApplyFault.TheVariants as apply
 use Rattle.ledgerdb.specs.Faults.{StopsAt, IsForkFault, StopsOnChain, IsFaultOnChain}
@@ -37,4 +39,28 @@ stops_on_chain network chain root blocks i fault is at = record {
 pub fault_on_chain : (network : Network) (chain : List Block) (root : LedgerState) (blocks : List Block) (fault : ForkFault) → IsStateOf network chain root → IsForkFault network.verifies root blocks fault
     → IsFaultOnChain network chain blocks fault
 fault_on_chain network chain root blocks (Refused i fault) is at = stops_on_chain network chain root blocks i (apply.Refused fault) is at
-fault_on_chain network chain root blocks OutOfMemory is at = (at.0, stops_on_chain network chain root blocks at.0 apply.OutOfMemory is at.1)
+fault_on_chain network chain root blocks OutOfMemory is at = λ some. let stops = at some in (stops.0, stops_on_chain network chain root blocks stops.0 apply.OutOfMemory is stops.1)
+
+-- the next block isn't applied, for this reason
+pub stops_here : (verifies : Verifies) (root now : LedgerState) (blocks : List Block) (i : ℕ) (states : List LedgerState) (b : Block) (fault : ApplyFault) → AreStates verifies root (take i blocks) states → last_state root states ≡ now
+    → i < length blocks → b ≡ get_or blocks i b → IsApplyFault verifies now b fault → StopsAt verifies root blocks i fault
+stops_here verifies root now blocks i states b fault are at within is stopped = record {
+  before = states;
+  applied = are;
+  block = b;
+  within = within;
+  here = sym is;
+  is_stopped = subst (λ (s : LedgerState). IsApplyFault verifies s b fault) (sym at) stopped;
+}
+
+-- the first block isn't applied, for this reason
+pub first_stops : (verifies : Verifies) (root : LedgerState) (blocks : List Block) (b : Block) (fault : ApplyFault) → Some b ≡ slice_get blocks 0 → IsApplyFault verifies root b fault → StopsAt verifies root blocks 0 fault
+first_stops verifies root [] b fault is stopped = absurd cc
+first_stops verifies root (x ∷ xs) b fault is stopped =
+    let same : x ≡ b = cc in
+    record { before = []; applied = tt; block = b; within = omega arith; here = same; is_stopped = stopped }
+
+-- an error that is passed on
+pub passed_on : {T E : Type 0} (r : Result T E) (e : E) (P : E → Type 0) → IsErrAnd r (λ x. x ≡ e) → P e → IfErr r P
+passed_on (Ok x) e P is holds = tt
+passed_on (Err x) e P is holds = subst P (sym is) holds

@@ -1,4 +1,4 @@
-pub mod Lasts
+pub mod Along
 pub mod Beside
 pub mod Databases
 pub mod Forks

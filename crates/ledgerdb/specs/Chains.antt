@@ -28,7 +28,8 @@ module _ (network : Network) where
     pub anchor : IsStateOf network older db.anchor
     pub states : AreStatesOf older blocks db.states
 
-  -- what a fork makes ready for blocks that come after a chain: beside each the state of that chain with the blocks up
-  -- to it
-  abbrev pub IsPreparedOf : List Block → List Block → Prepared → Type 0
-  IsPreparedOf root blocks prepared = AreStatesOf root blocks prepared.states
+  -- what a fork makes ready for blocks that come after a chain: the chain's state, and beside each block the state of
+  -- that chain with the blocks up to it
+  pub record IsPreparedOf (chain : List Block) (blocks : List Block) (prepared : Prepared) : Type 0 where
+    pub root : IsStateOf network chain prepared.root
+    pub states : AreStatesOf chain blocks prepared.states

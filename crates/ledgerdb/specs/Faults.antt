@@ -20,13 +20,13 @@ pub record StopsAt (verifies : Verifies) (root : LedgerState) (blocks : List Blo
   pub here : get_or blocks index block ≡ block
   pub is_stopped : IsApplyFault verifies (last_state root before) block fault
 
--- the first block that isn't applied, counted from 0, with its first fault; or want of memory at some block, which then
--- has none of the first four faults
+-- the first block that isn't applied, counted from 0, with its first fault; or want of memory, where there are blocks
+-- at one of them, which then has none of the first four faults
 abbrev pub IsForkFault : Verifies → LedgerState → List Block → ForkFault → Type 0
 IsForkFault verifies root blocks (Refused index fault) =
     StopsAt verifies root blocks index (apply.Refused fault)
 IsForkFault verifies root blocks OutOfMemory =
-    (index : ℕ) × StopsAt verifies root blocks index apply.OutOfMemory
+    0 < length blocks → (index : ℕ) × StopsAt verifies root blocks index apply.OutOfMemory
 
 -- the same of the state of a chain, and of the chain with the blocks before this place
 pub record StopsOnChain (network : Network) (root blocks : List Block) (index : ℕ) (fault : ApplyFault) : Type 0 where
@@ -41,4 +41,4 @@ abbrev pub IsFaultOnChain : Network → List Block → List Block → ForkFault 
 IsFaultOnChain network root blocks (Refused index fault) =
     StopsOnChain network root blocks index (apply.Refused fault)
 IsFaultOnChain network root blocks OutOfMemory =
-    (index : ℕ) × StopsOnChain network root blocks index apply.OutOfMemory
+    0 < length blocks → (index : ℕ) × StopsOnChain network root blocks index apply.OutOfMemory

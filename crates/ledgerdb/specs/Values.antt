@@ -10,9 +10,11 @@ pub record Database : Type 0 where
   pub anchor : LedgerState
   pub states : List LedgerState
 
--- how many blocks are rolled back, and the states of the blocks that stand in their place, the oldest first
+-- how many blocks are rolled back, the state that is left then, and the states of the blocks that stand in their place,
+-- the oldest first
 pub record Prepared : Type 0 where
   pub back : ℕ
+  pub root : LedgerState
   pub states : List LedgerState
 
 abbrev pub coded_database : Coded Database
@@ -25,9 +27,10 @@ coded_database =
 
 abbrev pub coded_prepared : Coded Prepared
 coded_prepared =
-    code_by (ℕ × List LedgerState) (coded× coded_ℕ (coded_list coded_ledger_state))
-    (λ prepared. (prepared.back, prepared.states))
-    (λ p. record { back = p.0; states = p.1 })
+    code_by (ℕ × (LedgerState × List LedgerState))
+    (coded× coded_ℕ (coded× coded_ledger_state (coded_list coded_ledger_state)))
+    (λ prepared. (prepared.back, (prepared.root, prepared.states)))
+    (λ p. record { back = p.0; root = p.1.0; states = p.1.1 })
     (λ _. refl)
 
 -- how many blocks may be rolled back

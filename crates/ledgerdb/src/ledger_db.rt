@@ -1,28 +1,28 @@
-//! The states of the last blocks of a chain.
+//! The state of a chain, and what its last blocks changed.
 
 use crate::applying::apply_all;
+use crate::diffs::{drop_newest, drop_oldest, nth_newest, undo_last};
 use crate::fork_fault::ForkFault;
 use crate::prepared::Prepared;
-use crate::states::{drop_newest, drop_oldest, newest, newest_but};
 use block::CheckedBlock;
-use ledger::LedgerState;
+use ledger::{BlockDiff, LedgerState, misfit_before};
 use std::alloc::{AllocError, Global};
 use std::collections::LinkedList;
 use std::marker::Model;
 use witness_pool::SigScheme;
 
-/// The most states that a list holds.
-const MOST_STATES: u64 = 0x7fff_ffff_ffff_ffff;
+/// The most differences that a list holds.
+const MOST_DIFFS: u64 = 0x7fff_ffff_ffff_ffff;
 
-/// The states of the last k blocks of a chain after an anchor, so that a fork from up to k blocks back can be judged
-/// without applying the chain anew (the Consensus and Storage Layer report, ledger database). States share what they
-/// have in common, so that each takes memory for what its block changed.
+/// The state of a chain and what each of its last k blocks changed, so that a fork from up to k blocks back can be
+/// judged without applying the chain anew (the Consensus and Storage Layer report, ledger database). One state is whole,
+/// the newest; those before it are had by undoing. Each block takes memory for what it changed.
 #[derive(Drop)]
 pub struct LedgerDb {
     alloc: Global,
     k: u64,
-    anchor: LedgerState,
-    states: LinkedList<LedgerState>,
+    state: LedgerState,
+    diffs: LinkedList<BlockDiff>,
 }
 
 impl Model for LedgerDb {
@@ -61,9 +61,9 @@ impl LedgerDb {
     {
         LedgerDb {
             alloc,
-            k: k.min(MOST_STATES),
-            anchor,
-            states: LinkedList::new(alloc),
+            k: k.min(MOST_DIFFS),
+            state: anchor,
+            diffs: LinkedList::new(alloc),
         }
     }
 
@@ -72,7 +72,7 @@ impl LedgerDb {
         ensures depth { result ≡ depth self.now }
         ensures within { result ≤ self.now.k }
     {
-        self.states.len()
+        self.diffs.len()
     }
 
     /// The newest state. Copies nothing, and takes no memory.
@@ -81,25 +81,26 @@ impl LedgerDb {
         ensures chain { (network : Network) (chain : List Block) →
             IsDatabaseOf network chain self.now → IsStateOf network chain result.now }
     {
-        newest(&self.anchor, &self.states)
+        &self.state
     }
 
-    /// The state `back` blocks ago, `back` at most the depth. Takes time that grows with `back`, and no memory. Err
-    /// where 2^63 copies share its outputs already.
+    /// The state `back` blocks ago, `back` at most the depth. Takes time and memory that grow with what these blocks
+    /// changed. Err where there is none.
     pub fn state_at(&self, back: usize) -> Result<LedgerState, AllocError>
         requires { back ≤ depth self.now }
         ensures state { IfOk result (λ state. state ≡ state_back self.now back) }
         ensures chain { IfOk result (λ state. (network : Network) (chain : List Block) →
             IsDatabaseOf network chain self.now → IsStateOf network (without_last back chain) state) }
     {
-        newest_but(&self.anchor, &self.states, back).try_clone()
+        undo_last(self.state.try_clone()?, &self.diffs, back)
     }
 
     /// What is needed to roll the last `back` blocks back, `back` at most the depth, and to put these blocks in their
-    /// place: the states that they make, each block applied once. Else the first block that isn't applied, counted from
-    /// 0, with its first fault; or OutOfMemory, where the blocks before some place are applied and the one at it has
-    /// none of the first four faults. The database stays. Takes the time to apply the blocks, and time that grows with
-    /// `back`.
+    /// place: the state that they leave and what each of them changes, each block applied once. Else the first block
+    /// that isn't applied, counted from 0, with its first fault; or OutOfMemory, where the blocks before some place are
+    /// applied and the one at it has none of the first four faults, or where there are no blocks and memory runs out
+    /// while others are rolled back. The database stays. Takes the time to apply the blocks, and time and memory that
+    /// grow with what the blocks rolled back changed.
     ///
     /// ```text
     /// match db.fork(2, &blocks) {
@@ -127,24 +128,42 @@ impl LedgerDb {
             IsDatabaseOf (network_of genesis S.verifies) chain self.now →
             IsFaultOnChain (network_of genesis S.verifies) (without_last back chain) blocks.now fault) }
     {
-        let root = newest_but(&self.anchor, &self.states, back);
-        let states = apply_all(self.alloc, root, blocks)?;
-        Ok(Prepared { back, states })
+        let root = match self.state_at(back) {
+            Ok(root) => root,
+            Err(_) => return Err(self.without_memory(back, blocks)),
+        };
+        let (state, diffs) = apply_all(self.alloc, root, blocks)?;
+        Ok(Prepared { back, state, diffs })
+    }
+
+    /// What is told of a fork where memory ran out while blocks were rolled back: the first fault of the first block
+    /// but for its transactions, which takes no state to be known.
+    fn without_memory<S: SigScheme>(&self, back: usize, blocks: &[CheckedBlock<S>]) -> ForkFault
+        requires { back ≤ depth self.now }
+        ensures { IsForkFault S.verifies (state_back self.now back) blocks.now result }
+    {
+        let Some(block) = blocks.first() else {
+            return ForkFault::OutOfMemory;
+        };
+        let diff = nth_newest(&self.diffs, back);
+        match misfit_before(&self.state, diff, block) {
+            Some(fault) => ForkFault::Refused(0, fault),
+            None => ForkFault::OutOfMemory,
+        }
     }
 
     /// The newest state once this fork is committed, which rolls back at most the depth. Copies nothing, and takes no
-    /// memory, and time that grows with the blocks rolled back.
+    /// memory.
     pub fn state_after<'a>(&'a self, prepared: &'a Prepared) -> &'a LedgerState
         requires { prepared.now.back ≤ depth self.now }
-        ensures state { result.now ≡ last_state (state_back self.now prepared.now.back) prepared.now.states }
+        ensures state { result.now ≡ last_state prepared.now.root prepared.now.states }
         // The same, said of the chain whose database it is.
         ensures chain { (network : Network) (chain blocks : List Block) →
             IsDatabaseOf network chain self.now →
             IsPreparedOf network (without_last prepared.now.back chain) blocks prepared.now →
             IsStateOf network (without_last prepared.now.back chain ++ blocks) result.now }
     {
-        let root = newest_but(&self.anchor, &self.states, prepared.back);
-        newest(root, &prepared.states)
+        &prepared.state
     }
 
     /// Rolls back as many blocks as the fork does, and puts its blocks in their place. At most k states stay after the
@@ -160,14 +179,11 @@ impl LedgerDb {
             IsDatabaseOf network (without_last prepared.back chain ++ blocks) self.new }
     {
         let k = self.k as usize;
-        let mut newer = prepared.states;
-        drop_newest(&mut self.states, prepared.back);
-        drop_oldest(
-            &mut self.anchor,
-            &mut self.states,
-            k.saturating_sub(newer.len()),
-        );
-        drop_oldest(&mut self.anchor, &mut newer, k);
-        self.states.append(&mut newer).unwrap();
+        let mut newer = prepared.diffs;
+        drop_newest(&mut self.diffs, prepared.back);
+        drop_oldest(&mut self.diffs, k.saturating_sub(newer.len()));
+        drop_oldest(&mut newer, k);
+        self.diffs.append(&mut newer).unwrap();
+        self.state = prepared.state;
     }
 }

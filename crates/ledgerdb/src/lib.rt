@@ -1,5 +1,5 @@
-//! The ledger database: the states of the last blocks of a chain, so that a fork from any of them can be judged without
-//! applying the chain anew.
+//! The ledger database: the state of a chain, and what each of its last blocks changed, so that a fork from any of them
+//! can be judged without applying the chain anew.
 //!
 //! ```text
 //! let mut db = LedgerDb::new(alloc, LedgerState::new(alloc, &genesis)?, genesis.k())?;
@@ -9,10 +9,10 @@
 #![tactic(auto)]
 
 mod applying;
+mod diffs;
 mod fork_fault;
 mod ledger_db;
 mod prepared;
-mod states;
 
 pub use fork_fault::ForkFault;
 pub use ledger_db::LedgerDb;

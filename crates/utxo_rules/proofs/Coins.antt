@@ -1,44 +1,84 @@
--- How a walk through the unspent outputs adds up their coins.
-use Rattle.std.proofs.Common.{◌≡◌, ℕ, suc, ◌+◌, ◌*◌, ◌≤◌, ◌<◌, List, [], ◌∷◌, length, map, refl, ap, arith}
-use Rattle.model.specs.Transaction.{Input, Output}
-use Rattle.model.specs.Utxo.{coin_of}
+-- How much lovelace pairs hold together when one is put in or taken out.
+use Rattle.std.proofs.Common.{◌≡◌, ℕ, ◌+◌, ◌-◌, ◌≤◌, Bool, true, false, cond, not, ◌&&◌, List, [], ◌∷◌, Option, Some, None, refl, sym, ap, subst, ◌∙◌, arith}
+use Rattle.std.specs.Prelude.{T}
+use Rattle.std.specs.FinMap.{find, put, is_sorted}
+use Rattle.std.specs.FinMap.Entries.{where_key, below_all, by_order}
+use Rattle.std.specs.Ordering.{eq_by_cmp, is_eq, is_lt}
+use Rattle.std.specs.declared.cmp.Ordering.{Ordering}
+use Rattle.std.specs.declared.cmp.Ordering.TheVariants.{Less, Equal, Greater}
+use Rattle.model.specs.Transaction.{Input, Output, input_cmp}
+use Rattle.model.proofs.Unspent.{same_from, inputs_total}
+use Rattle.std.specs.Cmp.{IsTotalOrder}
+use Rattle.persistent_map.specs.Order.{Rise, without}
+use Rattle.utxo_rules.specs.Inside.{coin_in, coin_at}
 
--- what these pairs hold together
-abbrev pub coin_in : List (Input × Output) → ℕ
-coin_in es = coin_of (map (λ e. e.1) es)
+first : (a b : Bool) → T (a && b) → T a
+first true b h = tt
+first false b h = absurd h
 
--- after so many steps: what was added and what is still to come are the whole; no step added 2 ^ 64, and each took one
-pub record IsPartAdded (all rest : List (Input × Output)) (steps coin : ℕ) : Type 0 where
-  pub whole : coin + coin_in rest ≡ coin_in all
-  pub few : coin ≤ steps * 18446744073709551616
-  pub left : steps + length rest ≡ length all
+second : (a b : Bool) → T (a && b) → T b
+second true b h = h
+second false b h = absurd h
 
-pub none_added : (all : List (Input × Output)) → IsPartAdded all all 0 0
-none_added all = record { whole = omega arith; few = omega arith; left = omega arith }
+less : (o : Ordering) → T (is_lt o) → o ≡ Less
+less Less h = refl
+less Equal h = absurd h
+less Greater h = absurd h
 
-pub one_added : (all rest new : List (Input × Output)) (steps coin amount : ℕ) (e : Input × Output) → rest ≡ e ∷ new → amount ≡ e.1.value.coin → amount < 18446744073709551616
-    → IsPartAdded all rest steps coin → IsPartAdded all new (steps + 1) (coin + amount)
-one_added all rest new steps coin amount e is same small part =
-    let here : coin_in rest ≡ e.1.value.coin + coin_in new = ap coin_in is in
-    let long : length rest ≡ suc (length new) = ap length is in
-    let whole = part.whole in let few = part.few in let left = part.left in
-    record {
-      whole = omega (arith, here, same, whole);
-      few = omega (arith, small, few);
-      left = omega (arith, long, left);
-    }
+-- an input below all of a list is not found in it
+below_none : (q : Input) (es : List (Input × Output)) → T (below_all input_cmp q es) → find input_cmp q es ≡ None
+below_none q [] h = refl
+below_none q (e ∷ es) h =
+    ap (λ (r : Ordering). cond (is_eq r) (Some e.1) (find input_cmp q es)) (less (input_cmp q e.0) (first (is_lt (input_cmp q e.0)) (below_all input_cmp q es) h))
+    ∙ below_none q es (second (is_lt (input_cmp q e.0)) (below_all input_cmp q es) h)
 
--- nothing comes too early
-pub not_yet : (all rest : List (Input × Output)) (steps coin : ℕ) → IsPartAdded all rest steps coin → rest ≡ [] → steps < length all → ⊥
-not_yet all rest steps coin part none lt = let long : length rest ≡ 0 = ap length none in let left = part.left in omega (arith, long, left, lt)
+-- an input below the first of a list that rises is below all
+below_more : (q : Input) (e : Input × Output) (es : List (Input × Output)) → input_cmp q e.0 ≡ Less → T (below_all input_cmp e.0 es) → find input_cmp q es ≡ None
+below_more q e [] lt h = refl
+below_more q e (f ∷ fs) lt h =
+    let after : input_cmp q f.0 ≡ Less = IsTotalOrder.trans inputs_total q e.0 f.0 lt (less (input_cmp e.0 f.0) (first (is_lt (input_cmp e.0 f.0)) (below_all input_cmp e.0 fs) h)) in
+    ap (λ (r : Ordering). cond (is_eq r) (Some f.1) (find input_cmp q fs)) after
+    ∙ below_more q e fs lt (second (is_lt (input_cmp e.0 f.0)) (below_all input_cmp e.0 fs) h)
 
-empty_at_end : (rest : List (Input × Output)) → length rest ≡ 0 → rest ≡ []
-empty_at_end [] none = refl
-empty_at_end (e ∷ es) none = absurd cc
+put_in : (k : Input) (o : Output) (es : List (Input × Output)) → T (is_sorted input_cmp es) → coin_in (put input_cmp k o es) + coin_at (find input_cmp k es) ≡ coin_in es + o.value.coin
+put_in k o [] h = omega arith
+put_in k o (e ∷ es) h =
+    elim (input_cmp k e.0) as (λ r. input_cmp k e.0 ≡ r →
+    coin_in (by_order r ((k, o) ∷ e ∷ es) ((e.0, o) ∷ es) (e ∷ put input_cmp k o es)) + coin_at (cond (is_eq r) (Some e.1) (find input_cmp k es)) ≡ coin_in (e ∷ es) + o.value.coin) [
+      | Less ↦ λ p.
+          let none : coin_at (find input_cmp k es) ≡ 0 = ap coin_at (below_more k e es p (first (below_all input_cmp e.0 es) (is_sorted input_cmp es) h)) in
+          omega (arith, none)
+      | Equal ↦ λ p. omega arith
+      | Greater ↦ λ p. let rest = put_in k o es (second (below_all input_cmp e.0 es) (is_sorted input_cmp es) h) in omega (arith, rest)
+    ] refl
 
-pub all_added : (all rest : List (Input × Output)) (steps coin : ℕ) → length all ≤ steps → IsPartAdded all rest steps coin → coin ≡ coin_in all
-all_added all rest steps coin le part =
-    let left = part.left in
-    let none : rest ≡ [] = empty_at_end rest (omega (arith, left, le)) in
-    let nothing : coin_in rest ≡ 0 = ap coin_in none in
-    let whole = part.whole in omega (arith, nothing, whole)
+taken_out : (k : Input) (es : List (Input × Output)) → T (is_sorted input_cmp es) → coin_in (where_key input_cmp (λ x. not (eq_by_cmp input_cmp k x)) es) + coin_at (find input_cmp k es) ≡ coin_in es
+taken_out k [] h = refl
+taken_out k (e ∷ es) h =
+    let left : List (Input × Output) = where_key input_cmp (λ x. not (eq_by_cmp input_cmp k x)) es in
+    let rest : coin_in left + coin_at (find input_cmp k es) ≡ coin_in es = taken_out k es (second (below_all input_cmp e.0 es) (is_sorted input_cmp es) h) in
+    elim (eq_by_cmp input_cmp k e.0) as (λ b. eq_by_cmp input_cmp k e.0 ≡ b → coin_in (cond (not b) (e ∷ left) left) + coin_at (cond b (Some e.1) (find input_cmp k es)) ≡ coin_in (e ∷ es)) [
+      | true ↦ λ p.
+          let below : T (below_all input_cmp k es) = subst (λ (x : Input). T (below_all input_cmp x es)) (sym (same_from k e.0 p)) (first (below_all input_cmp e.0 es) (is_sorted input_cmp es) h) in
+          let none : coin_at (find input_cmp k es) ≡ 0 = ap coin_at (below_none k es below) in
+          omega (arith, none, rest)
+      | false ↦ λ p. omega (arith, rest)
+    ] refl
+
+-- what is held once a pair is put in
+pub put_counted : (k : Input) (o : Output) (es new : List (Input × Output)) (coin amount more old : ℕ) (found : Option Output) → Rise input_cmp es → coin ≡ coin_in es → amount ≡ o.value.coin → more ≡ coin + amount
+    → old ≡ coin_at found → found ≡ find input_cmp k es → new ≡ put input_cmp k o es → (old ≤ more) × (more - old ≡ coin_in new)
+put_counted k o es new coin amount more old found rise is holds sum at same put_is =
+    let whole = put_in k o es rise.rises in
+    let there : coin_at found ≡ coin_at (find input_cmp k es) = ap coin_at same in
+    let left : coin_in new ≡ coin_in (put input_cmp k o es) = ap coin_in put_is in
+    (omega (arith, is, holds, sum, at, there, whole), omega (arith, is, holds, sum, at, there, whole, left))
+
+-- what is held once a pair is taken out
+pub taken_counted : (k : Input) (es new : List (Input × Output)) (coin old : ℕ) (found : Option Output) → Rise input_cmp es → coin ≡ coin_in es → old ≡ coin_at found → found ≡ find input_cmp k es → new ≡ without input_cmp k es
+    → (old ≤ coin) × (coin - old ≡ coin_in new)
+taken_counted k es new coin old found rise is at same left_is =
+    let whole = taken_out k es rise.rises in
+    let there : coin_at found ≡ coin_at (find input_cmp k es) = ap coin_at same in
+    let left : coin_in new ≡ coin_in (without input_cmp k es) = ap coin_in left_is in
+    (omega (arith, is, at, there, whole), omega (arith, is, at, there, whole, left))

@@ -1,12 +1,15 @@
 -- For the crates above: errors that are told as others, how a loop puts in outputs that are counted from 0 on, and that
 -- unspent outputs may go to another thread.
-use Rattle.std.proofs.Common.{◌≡◌, ℕ, suc, ◌+◌, ◌<◌, ◌≤◌, List, [], ◌∷◌, length, drop, get_or, map, Result, Ok, Err, IfErr, refl, sym, ap, subst, ◌∙◌, arith}
+use Rattle.std.proofs.Common.{◌≡◌, ℕ, suc, ◌+◌, ◌<◌, ◌≤◌, true, List, [], ◌∷◌, length, drop, get_or, map, Result, Ok, Err, IfErr, refl, sym, ap, subst, ◌∙◌, arith}
 use Rattle.std.specs.Result.{IsErrAnd}
 use Rattle.std.specs.FinMap as finite
 use Rattle.std.proofs.lemmas.List.{drop_all}
 use Rattle.cbor.proofs.ForCallers.{drop_here}
-use Rattle.model.specs.Transaction.{Input, Output}
-use Rattle.model.specs.Utxo.{Utxo, place, pairs_from, with_pairs}
+use Rattle.model.specs.Transaction.{Input, Output, Transaction}
+use Rattle.model.specs.Utxo.{Utxo, place, pairs_from, with_pairs, utxo_after}
+use Rattle.model.specs.Rules.{has_free_places}
+use Rattle.utxo_rules.specs.Diffs.{Diff, diff_of, undone}
+use Rattle.utxo_rules.proofs.Restoring.{undone_to}
 pub use Rattle.utxo_rules.proofs.Crossing.{Utxo-send}
 
 -- what `?` makes of an error has what this one has
@@ -39,3 +42,7 @@ module _ {A : Type 0} (made : A → Output) (id : List ℕ) where
 
   pub all_placed : (old now : Utxo) (xs : List A) (i : ℕ) → length xs ≤ i → IsPartPlaced old now xs i → now ≡ with_pairs (pairs_left xs 0) old
   all_placed old now xs i le part = ap (λ (ps : List (Input × Output)). with_pairs ps now) (sym (no_pairs xs i le)) ∙ part
+
+-- Where its places were free, a transaction that is undone leaves what it was applied to.
+pub undone_same : (now old : Utxo) (d : Diff) (t : Transaction) → d ≡ diff_of old t → now ≡ utxo_after old t → has_free_places old t ≡ true → undone d now ≡ old
+undone_same now old d t is after free = undone_to (undone d now) now old d t refl is after free

@@ -7,3 +7,5 @@ pub mod Crossing
 pub mod ForCallers
 pub mod Pairs
 pub mod Ends
+pub mod Restoring
+pub mod Changing

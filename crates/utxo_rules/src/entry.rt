@@ -5,6 +5,7 @@ ghost use Rattle.tx.specs.View.{input_of, output_of};
 
 use ident::TxId;
 use std::marker::Model;
+use std::sync::Arc;
 use tx::{Input, Output};
 
 /// Where an output stands: the input that would spend it. Ordered by the bytes of the identifier, then by the index.
@@ -85,4 +86,24 @@ impl Unspent {
     {
         &self.output
     }
+}
+
+/// A place and the output that stood there, which other versions may share.
+#[derive(Drop)]
+pub struct Pair {
+    pub place: Place,
+    pub unspent: Arc<Unspent>,
+}
+
+impl Model for Pair {
+    ghost use Rattle.std.specs.Coded.{coded×};
+    ghost use Rattle.std.specs.Arc.{arc_value};
+    ghost use Rattle.model.specs.Transaction.{Input, Output};
+    ghost use Rattle.model.specs.Codes.{coded_input, coded_output};
+
+    ghost Value = { Input × Output };
+
+    ghost coded = { coded× coded_input coded_output };
+
+    ghost view = { λ p. (p.place, arc_value p.unspent) };
 }

@@ -2,14 +2,19 @@
 //!
 //! ```text
 //! check(alloc, &params, &utxo, slot, &tx)?; // the first reason against it, if there is one
-//! apply(&mut utxo, tx.tx())?;
+//! let diff = apply_diff(&mut utxo, tx.tx())?;
+//! undo(&mut utxo, &diff)?; // the same outputs as before
 //! ```
+//!
+//! [`applied`], [`applied_diff`] and [`undone`] do the same to outputs that are given away, and copy nothing that isn't
+//! shared.
 #![tactic(auto)]
 
-mod applied;
+mod applying;
 mod balance;
 mod check_fault;
 mod conditions;
+mod diff;
 mod entries;
 mod entry;
 mod hashes;
@@ -17,13 +22,16 @@ mod params;
 mod reason;
 mod rules;
 mod spent;
+mod undoing;
 mod utxo;
 mod witnesses;
 
-pub use applied::apply;
+pub use applying::{applied, applied_diff, apply, apply_diff};
 pub use check_fault::CheckFault;
+pub use diff::Diff;
 pub use entries::Entries;
 pub use params::Params;
 pub use reason::Reason;
 pub use rules::check;
+pub use undoing::{undo, undone};
 pub use utxo::Utxo;

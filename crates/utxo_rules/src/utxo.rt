@@ -1,13 +1,15 @@
 //! The unspent outputs.
 
-ghost use Rattle.std.specs.Prelude.{◌≡◌, ◌↔◌, IsTrue, IfOk, OnOk, OnErr};
+ghost use Rattle.std.specs.Prelude.{◌≡◌, ◌↔◌, [], IsTrue, IfOk, OnOk, OnErr};
 ghost use Rattle.std.specs.Option.{option_copied, option_map};
 ghost use Rattle.std.specs.FinMap as finite;
+ghost use Rattle.std.specs.Arc.{arc_value};
 ghost use Rattle.model.specs.Utxo.{outputs_of, coin_of};
 ghost use Rattle.tx.specs.View.{input_of, output_of};
+ghost use Rattle.utxo_rules.specs.Inside.{coin_at};
 
 use crate::entries::Entries;
-use crate::entry::{Place, Unspent};
+use crate::entry::{Pair, Place, Unspent};
 use persistent_map::PersistentMap;
 use std::alloc::{AllocError, Global};
 use std::marker::Model;
@@ -20,6 +22,8 @@ use tx::{Input, Output};
 pub struct Utxo {
     alloc: Global,
     map: PersistentMap<Place, Unspent>,
+    // what all outputs hold together, in lovelace
+    coin: u128,
 }
 
 impl Model for Utxo {
@@ -32,6 +36,10 @@ impl Model for Utxo {
     ghost coded = { finite.code coded_input coded_output };
 
     ghost view = { λ u. finite.from_sorted u.map };
+
+    ghost use Rattle.utxo_rules.specs.Inside.{IsCounted};
+
+    ghost invariant = { IsCounted };
 }
 
 impl Utxo {
@@ -42,6 +50,7 @@ impl Utxo {
         Utxo {
             alloc,
             map: PersistentMap::new(alloc),
+            coin: 0,
         }
     }
 
@@ -78,21 +87,11 @@ impl Utxo {
         }
     }
 
-    /// How much lovelace all of them hold together. Linear in their number. Err where memory runs out for the walk,
-    /// which takes some in proportion to the logarithm of that.
+    /// How much lovelace all of them hold together, in constant time and with no memory.
     pub fn coin(&self) -> Result<u128, AllocError>
         ensures { IfOk result (λ coin. coin ≡ coin_of (outputs_of self.now)) }
     {
-        let count = self.len();
-        let mut entries = self.iter();
-        let mut coin: u128 = 0;
-        // Each step adds less than 2^64, and there are fewer than 2^64, so that the sum fits.
-        for _ in 0..count {
-            if let Some((_, output)) = entries.next()? {
-                coin += u128::from(output.value.coin());
-            }
-        }
-        Ok(coin)
+        Ok(self.coin)
     }
 
     /// The same unspent outputs again, in constant time and with no memory. Err where 2^63 copies share them already.
@@ -102,6 +101,7 @@ impl Utxo {
         Ok(Utxo {
             alloc: self.alloc,
             map: self.map.try_clone()?,
+            coin: self.coin,
         })
     }
 
@@ -113,8 +113,7 @@ impl Utxo {
         ensures err { OnErr result (self.new ≡ self.old) }
     {
         let unspent = Arc::new(self.alloc, Unspent::of(output))?;
-        self.map.insert(Place::of(input), unspent)?;
-        Ok(())
+        self.put(Place::of(input), unspent)
     }
 
     /// Takes out the output that this input spends, if it stands there. Takes time in proportion to the logarithm of
@@ -124,7 +123,61 @@ impl Utxo {
         ensures ok { OnOk result (self.new ≡ finite.remove self.old (input_of input.now)) }
         ensures err { OnErr result (self.new ≡ self.old) }
     {
-        self.map.remove(&Place::of(input))?;
+        self.take(input)?;
         Ok(())
+    }
+
+    /// Room for pairs that are taken out.
+    pub(crate) fn no_pairs(&self) -> Vec<Pair>
+        ensures { result.items ≡ [] }
+    {
+        Vec::new(self.alloc)
+    }
+
+    /// The same as [`Utxo::insert`] for an output that other versions may share.
+    pub(crate) fn put(&mut self, place: Place, unspent: Arc<Unspent>) -> Result<(), AllocError>
+        ensures ok { OnOk result (self.new ≡ finite.insert self.old place (arc_value unspent)) }
+        ensures err { OnErr result (self.new ≡ self.old) }
+    {
+        // No outputs hold so much that their sum has no place.
+        let Some(more) = self.coin.checked_add(coin_of(&unspent)) else {
+            return Err(AllocError);
+        };
+        let old = self.map.insert(place, unspent)?;
+        self.coin = more - coin_at(&old);
+        Ok(())
+    }
+
+    /// The same as [`Utxo::remove`], and answers the pair that was taken out.
+    pub(crate) fn take(&mut self, input: &Input) -> Result<Option<Pair>, AllocError>
+        ensures found { IfOk result (λ taken.
+            taken ≡ option_map (λ o. (input_of input.now, o)) (finite.get self.old (input_of input.now))) }
+        ensures ok { OnOk result (self.new ≡ finite.remove self.old (input_of input.now)) }
+        ensures err { OnErr result (self.new ≡ self.old) }
+    {
+        let place = Place::of(input);
+        let taken = self.map.remove(&place)?;
+        self.coin -= coin_at(&taken);
+        match taken {
+            None => Ok(None),
+            Some(unspent) => Ok(Some(Pair { place, unspent })),
+        }
+    }
+}
+
+/// How much lovelace an output holds.
+fn coin_of(unspent: &Arc<Unspent>) -> u128
+    ensures { result ≡ (arc_value unspent.now).value.coin }
+{
+    u128::from(unspent.output().value.coin())
+}
+
+/// How much lovelace an output holds that may be there.
+fn coin_at(unspent: &Option<Arc<Unspent>>) -> u128
+    ensures { result ≡ coin_at (option_map arc_value unspent.now) }
+{
+    match unspent {
+        None => 0,
+        Some(unspent) => coin_of(unspent),
     }
 }

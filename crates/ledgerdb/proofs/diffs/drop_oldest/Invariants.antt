@@ -1,0 +1,6 @@
+use Rattle.std.proofs.Common.{◌≡◌, drop}
+use Rattle.ledgerdb.proofs.diffs.drop_oldest.Given as goal
+
+-- the newest ones are left
+abbrev pub invariant-loop : goal.invariant-loop
+invariant-loop l = l.diffs ≡ drop l.counter l.fn.diffs
