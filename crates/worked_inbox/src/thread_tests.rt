@@ -2,12 +2,11 @@
 
 ghost use Rattle.std.specs.Prelude.{◌≡◌};
 
+use super::inbox_tests::MEMORY;
 use inbox::{AdderEnd, Mailroom, Opened, PEERS, PeerEnd, finish};
-use std::alloc::{AllocError, Global};
 use std::marker::Brand;
 use std::process::Abort;
 use std::sync::Wait;
-use std::test::Fail;
 use std::thread;
 use std::thread::{Threads, join};
 
@@ -24,14 +23,15 @@ fn send_at_last<B: Mailroom, R: Wait>(rt: &R, peer: &mut PeerEnd<B>, bytes: Vec<
 }
 
 /// The number of each round, once for each peer, made before any thread starts.
-fn texts_of(alloc: Global, rounds: u8) -> Result<Vec<Vec<u8>>, AllocError> {
-    let mut texts = Vec::new(alloc);
+fn texts_of(rt: &(impl Abort + AllocGlobal), rounds: u8) -> Vec<Vec<u8>> {
+    let mut texts = Vec::new(rt.alloc());
     for round in 0..rounds {
         for _ in 0..PEERS {
-            texts.push(vec![in alloc; round]?)?;
+            let text = vec![in rt.alloc(); round].expect(rt, MEMORY);
+            texts.push(text).expect(rt, MEMORY);
         }
     }
-    Ok(texts)
+    texts
 }
 
 /// The peers send these texts in turn.
@@ -72,16 +72,15 @@ fn take_many<B: Mailroom, R: Wait + Abort>(
 }
 
 /// One thread sends for all peers and the other takes.
-fn crossed<B: Mailroom + Send + Sync, R: Threads + Wait + Abort + Sync>(
+fn crossed<B: Mailroom + Send + Sync, R: Threads + Wait + Abort + AllocGlobal + Sync>(
     rt: &R,
-    alloc: Global,
     opened: Opened,
-) -> Result<(), AllocError>
+)
     requires table { opened.table ≡ B.table }
     requires capacity { opened.capacity ≡ B.capacity }
 {
-    let texts = texts_of(alloc, 200)?;
-    let (peers, adder) = opened.named::<B>()?;
+    let texts = texts_of(rt, 200);
+    let (peers, adder) = opened.named::<B>().expect(rt, MEMORY);
     let (mut peers, mut adder) = join(
         rt,
         || -> [PeerEnd<B>; PEERS] { send_in_turn(rt, peers, texts) },
@@ -89,13 +88,12 @@ fn crossed<B: Mailroom + Send + Sync, R: Threads + Wait + Abort + Sync>(
     );
     assert!(rt; adder.take_last(rt, &mut peers).is_none());
     let finished = finish(peers, adder);
-    assert_eq!(rt; finished.sent, [200; PEERS]);
-    assert_eq!(rt; finished.taken, [200; PEERS]);
-    Ok(())
+    assert!(rt; finished.sent == [200; PEERS]);
+    assert!(rt; finished.taken == [200; PEERS]);
 }
 
 #[test]
-fn sent_from_another_thread(rt: HostRuntime) -> Result<(), Fail> {
-    let opened = Opened::new(rt.alloc(), 8).map_err(|_| "an inbox")?;
-    Ok(crossed::<Brand, _>(&rt, rt.alloc(), opened)?)
+fn sent_from_another_thread(rt: HostRuntime) {
+    let opened = Opened::new(rt.alloc(), 8).expect(&rt, "an inbox");
+    crossed::<Brand, _>(&rt, opened);
 }

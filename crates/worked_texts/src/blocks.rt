@@ -1,10 +1,10 @@
 //! Blocks without transactions: what is read of one, what is written, each bit flipped, and each beginning.
 
-use super::fixture::{check, spells};
+use super::fixture::{boxed, check, is_spelled};
 use block::{Block, Header, ReadFault, WriteFault, empty_body_hash, read, write_empty};
-use ident::{BlockHash, Point};
+use ident::BlockHash;
 use std::alloc::Global;
-use std::test::Fail;
+use std::process::Abort;
 
 /// The text of block 1 in slot 1, with no block before it and an empty body.
 pub const FIRST: [u8; 40] =
@@ -17,41 +17,29 @@ const FIRST_HASH: &str = "3b232b00fdf18aa5f2e408bd66e32ceb313459697b543131514949
 /// The SHA-256 digest of the byte 80.
 const EMPTY_HASH: &str = "76be8b528d0075f7aae98d6fa57a6d3c83ae480a8469e668d7b0af968995ac71";
 
-/// The block that the bytes are, or why they are none.
-pub fn read_block(alloc: Global, bytes: &[u8]) -> Result<Block, ReadFault> {
-    read(alloc, bytes)
-}
-
 /// Why bytes are no block, if they are none.
 pub fn fault_of(alloc: Global, bytes: &[u8]) -> Option<ReadFault> {
-    read_block(alloc, bytes).err()
+    read(alloc, bytes).err()
 }
 
-/// Whether a header is the first block's.
-fn is_first_header(header: &Header) -> bool {
-    let is_there = header.number == 1 && header.slot == 1 && header.previous.is_none();
-    is_there && spells(&[EMPTY_HASH], header.body_hash.as_bytes())
-}
-
-/// Whether a place on a chain is the first block's.
-fn is_first_point(point: Point) -> bool {
-    point.number == 1 && spells(&[FIRST_HASH], point.hash.as_bytes())
+/// The block that bytes are.
+pub fn block_of(rt: &(impl Abort + AllocGlobal), bytes: &[u8]) -> Box<Block> {
+    boxed(rt, read(rt.alloc(), bytes).expect(rt, "a block"))
 }
 
 #[test]
-fn first_block(rt: HostRuntime) -> Result<(), Fail> {
-    let block = read_block(rt.alloc(), &FIRST)?;
-    check(&rt, "header", is_first_header(block.header()));
-    check(&rt, "place", is_first_point(block.point()));
+fn first_block(rt: HostRuntime) {
+    let block = block_of(&rt, &FIRST);
+    let header = block.header();
+    check(&rt, "number", header.number == 1);
+    check(&rt, "slot", header.slot == 1);
+    check(&rt, "header", header.previous.is_none());
+    is_spelled(&rt, &[EMPTY_HASH], header.body_hash.as_bytes());
+    let point = block.point();
+    check(&rt, "place", point.number == 1);
+    is_spelled(&rt, &[FIRST_HASH], point.hash.as_bytes());
     check(&rt, "nothing before it", block.previous().is_none());
     check(&rt, "no transactions", block.is_empty());
-    Ok(())
-}
-
-/// A copy of the first block, which outlives it.
-fn copy_of_first(alloc: Global) -> Result<Block, Fail> {
-    let block = read_block(alloc, &FIRST)?;
-    Ok(block.try_clone()?)
 }
 
 /// The hash of the first block.
@@ -77,45 +65,21 @@ const LATE: &str = "82 841818 1b7fffffffffffffff \
     5820 3b232b00fdf18aa5f2e408bd66e32ceb313459697b54313151494910541c08aa \
     5820 76be8b528d0075f7aae98d6fa57a6d3c83ae480a8469e668d7b0af968995ac71 80";
 
-/// Whether a block is the first one.
-fn is_first(alloc: Global, block: &Block) -> bool {
-    match read_block(alloc, &FIRST) {
-        Ok(first) => *block == first && block.bytes() == FIRST.as_slice(),
-        Err(_) => false,
-    }
-}
-
-/// What is written of that header.
-fn late_text(alloc: Global, slot: u64) -> Result<Vec<u8>, WriteFault> {
-    write_empty(alloc, &late_header(slot))
-}
-
-/// The block of the latest slot.
-fn late_block(alloc: Global) -> Result<Block, Fail> {
-    let text = late_text(alloc, LAST_SLOT)?;
-    Ok(read_block(alloc, &text)?)
-}
-
+// In the latest slot a block is written and read, and in the next one it isn't written. A copy of the first block,
+// which outlives it, is that block, and another isn't.
 #[test]
-fn latest_slot(rt: HostRuntime) -> Result<(), Fail> {
-    let block = late_block(rt.alloc())?;
-    check(&rt, "text", spells(&[LATE], block.bytes()));
+fn written_and_compared(rt: HostRuntime) {
+    let text = write_empty(rt.alloc(), &late_header(LAST_SLOT)).expect(&rt, "a block");
+    let block = block_of(&rt, &text);
+    is_spelled(&rt, &[LATE], block.bytes());
     check(&rt, "header", *block.header() == late_header(LAST_SLOT));
-    check(&rt, "another block", !is_first(rt.alloc(), &block));
-    Ok(())
-}
-
-#[test]
-fn slot_too_late(rt: HostRuntime) {
-    let text = late_text(rt.alloc(), LAST_SLOT + 1);
-    check(&rt, "too late", matches!(text, Err(WriteFault::OutOfRange)));
-}
-
-#[test]
-fn equal_blocks(rt: HostRuntime) -> Result<(), Fail> {
-    let copy = copy_of_first(rt.alloc())?;
-    check(&rt, "a copy", is_first(rt.alloc(), &copy));
-    Ok(())
+    let late = write_empty(rt.alloc(), &late_header(LAST_SLOT + 1)).err();
+    check(&rt, "too late", late == Some(WriteFault::OutOfRange));
+    let copy = boxed(&rt, block_of(&rt, &FIRST).try_clone().expect(&rt, "a copy"));
+    let first = block_of(&rt, &FIRST);
+    check(&rt, "another block", *block != *first);
+    check(&rt, "a copy", *copy == *first);
+    check(&rt, "its text", copy.bytes() == FIRST.as_slice());
 }
 
 /// How many texts were malformed, had another body hash, were a block's, and had another fault.
@@ -155,31 +119,32 @@ fn every_bit_flipped(rt: HostRuntime) {
     }
     check(&rt, "malformed", counts.malformed == 54);
     check(&rt, "mismatched", counts.mismatched == 256);
-    check(&rt, "accepted", counts.accepted == 10 && counts.others == 0);
+    check(&rt, "accepted", counts.accepted == 10);
+    check(&rt, "others", counts.others == 0);
 }
 
-/// Whether each proper beginning of a text is malformed.
-pub fn has_no_beginning(alloc: Global, text: &[u8]) -> bool {
+/// Each proper beginning of a text is malformed.
+pub fn has_no_beginning(rt: &(impl Abort + AllocGlobal), text: &[u8]) {
     for end in 0..text.len() {
-        if fault_of(alloc, &text[..end]) != Some(ReadFault::Malformed) {
-            return false;
-        }
+        let fault = fault_of(rt.alloc(), &text[..end]);
+        check(rt, "a beginning", fault == Some(ReadFault::Malformed));
     }
-    true
 }
 
 #[test]
 fn cut_bytes(rt: HostRuntime) {
-    check(&rt, "beginnings", has_no_beginning(rt.alloc(), &FIRST));
+    has_no_beginning(&rt, &FIRST);
 }
 
 // Under `rt try --test --fail-alloc 1`, and 2, the first call has no memory, and the second answers.
 #[test]
-fn read_again_after_want_of_memory(rt: HostRuntime) -> Result<(), Fail> {
-    let block = match read_block(rt.alloc(), &FIRST) {
-        Err(ReadFault::OutOfMemory) => read_block(rt.alloc(), &FIRST)?,
-        answer => answer?,
+fn read_again_after_want_of_memory(rt: HostRuntime) {
+    let block = match read(rt.alloc(), &FIRST) {
+        Ok(block) => boxed(&rt, block),
+        Err(fault) => {
+            check(&rt, "memory", fault == ReadFault::OutOfMemory);
+            block_of(&rt, &FIRST)
+        }
     };
     check(&rt, "read", block.bytes() == FIRST.as_slice());
-    Ok(())
 }

@@ -1,14 +1,13 @@
 //! Transactions in the making: each part once, each part twice, and what comes of them.
 
-use super::fixture::{KEY_HASH, ONES, POLICY, TWOS, ZEROS, check};
+use super::fixture::{KEY_HASH, MEMORY, ONES, POLICY, TWOS, ZEROS, boxed, check};
 use super::scripts::nested;
-use super::transactions::{PAYING_BODY, is_spelled};
+use super::transactions::{PAYING_BODY, has_text};
 use super::verdicts::DIGEST;
 use draft::{Draft, DraftFault, Signing};
 use ident::{KeyHash, ScriptHash, TxId};
-use std::alloc::{AllocError, Global};
-use std::test::Fail;
-use tx::{Address, Credential, Input, Tx};
+use std::process::Abort;
+use tx::{Address, Credential, Input};
 use value::AssetQuantity;
 
 /// A part of a draft.
@@ -29,49 +28,34 @@ enum Part {
     Supply(usize),
 }
 
-/// A name of so many bytes.
-fn name(alloc: Global, size: usize) -> Result<Vec<u8>, AllocError> {
-    vec![in alloc; 7u8; size]
-}
-
 /// The policy of all assets.
 fn policy() -> ScriptHash {
     ScriptHash::of_script(b"\x82\x01\x80")
 }
 
-/// Assets under names of so many bytes, each with so much of it.
-fn assets(alloc: Global, told: &[(usize, u64)]) -> Result<Vec<AssetQuantity<u64>>, AllocError> {
-    let mut assets = Vec::new(alloc);
-    for (size, quantity) in told {
-        assets.push(AssetQuantity {
-            policy: policy(),
-            name: name(alloc, *size)?,
-            quantity: *quantity,
-        })?;
-    }
-    Ok(assets)
+/// A name of so many bytes.
+fn name(rt: &(impl Abort + AllocGlobal), size: usize) -> Vec<u8> {
+    vec![in rt.alloc(); 7u8; size].expect(rt, MEMORY)
 }
 
-/// An output of 910 lovelace with these assets.
-fn pay(alloc: Global, draft: &mut Draft, told: &[(usize, u64)]) -> Result<(), DraftFault> {
+/// Adds an output of 910 lovelace with assets under names of so many bytes, each with so much of it.
+fn pay(
+    rt: &(impl Abort + AllocGlobal),
+    draft: &mut Draft,
+    told: &[(usize, u64)],
+) -> Result<(), DraftFault> {
     let key = Credential::Key(KeyHash::of_key(&[1; 32]));
-    match Address::new(0, key) {
-        Some(address) => draft.pay(address, 910, assets(alloc, told)?),
-        None => Err(DraftFault::OutOfMemory),
+    let address = Address::new(0, key).expect(rt, "a network");
+    let mut assets = Vec::new(rt.alloc());
+    for (size, quantity) in told {
+        let asset = AssetQuantity {
+            policy: policy(),
+            name: name(rt, *size),
+            quantity: *quantity,
+        };
+        assets.push(asset).expect(rt, MEMORY);
     }
-}
-
-/// So much is minted under a name of so many bytes.
-fn mint(alloc: Global, draft: &mut Draft, size: usize, quantity: i64) -> Result<(), DraftFault> {
-    draft.mint(policy(), name(alloc, size)?, quantity)
-}
-
-/// A script of so many in one another.
-fn supply(alloc: Global, draft: &mut Draft, deep: usize) -> Result<(), DraftFault> {
-    match nested(alloc, deep) {
-        Ok(script) => draft.supply(&script),
-        Err(_) => Err(DraftFault::OutOfMemory),
-    }
+    draft.pay(address, 910, assets)
 }
 
 /// The output at this place of the transaction of 32 such bytes.
@@ -81,16 +65,16 @@ fn input(transaction: u8, index: u16) -> Input {
 }
 
 /// Adds a part.
-fn add(alloc: Global, draft: &mut Draft, part: Part) -> Result<(), DraftFault> {
+fn add(rt: &(impl Abort + AllocGlobal), draft: &mut Draft, part: Part) -> Result<(), DraftFault> {
     match part {
         Part::Spend(transaction, index) => draft.spend(input(transaction, index)),
-        Part::Pay(told) => pay(alloc, draft, told),
+        Part::Pay(told) => pay(rt, draft, told),
         Part::Fee(fee) => draft.set_fee(fee),
         Part::Start(slot) => draft.set_start(slot),
         Part::End(slot) => draft.set_end(slot),
-        Part::Mint(size, quantity) => mint(alloc, draft, size, quantity),
+        Part::Mint(size, quantity) => draft.mint(policy(), name(rt, size), quantity),
         Part::Sign(key, signing) => draft.sign([key; 32], signing),
-        Part::Supply(deep) => supply(alloc, draft, deep),
+        Part::Supply(deep) => draft.supply(&nested(rt.alloc(), deep).expect(rt, "a script")),
     }
 }
 
@@ -133,68 +117,27 @@ const PARTS: &[(Part, bool)] = &[
 ];
 
 /// Adds a part, once more where memory ran out: then nothing was added. Whether it is added.
-fn is_added(alloc: Global, draft: &mut Draft, part: Part) -> Result<bool, DraftFault> {
-    let added = match add(alloc, draft, part) {
-        Err(DraftFault::OutOfMemory) => add(alloc, draft, part),
-        answer => answer,
-    };
-    match added {
-        Ok(()) => Ok(true),
-        Err(DraftFault::NotBuilt) => Ok(false),
-        Err(fault) => Err(fault),
+fn is_added(rt: &(impl Abort + AllocGlobal), draft: &mut Draft, part: Part) -> bool {
+    let mut added = add(rt, draft, part);
+    if added == Err(DraftFault::OutOfMemory) {
+        added = add(rt, draft, part);
     }
-}
-
-/// How many of so many outputs are added.
-fn add_outputs(alloc: Global, draft: &mut Draft, count: u64) -> u64 {
-    let mut added: u64 = 0;
-    for _ in 0..count {
-        if pay(alloc, draft, &[]) == Ok(()) {
-            added = added.saturating_add(1);
-        }
-    }
-    added
+    check(rt, "memory", added != Err(DraftFault::OutOfMemory));
+    added.is_ok()
 }
 
 // Two outputs are there before the others. Under `rt try --test --fail-alloc N` with the number of an allocation of one
 // of the first calls the same call succeeds then.
 #[test]
 fn parts_of_drafts(rt: HostRuntime) {
-    let mut draft = Draft::new(rt.alloc());
+    let mut draft = boxed(&rt, Draft::new(rt.alloc()));
     for (part, want) in PARTS {
-        check(
-            &rt,
-            "a part",
-            is_added(rt.alloc(), &mut draft, *part) == Ok(*want),
-        );
+        check(&rt, "a part", is_added(&rt, &mut draft, *part) == *want);
     }
-    check(
-        &rt,
-        "65,536 outputs",
-        add_outputs(rt.alloc(), &mut draft, 65_534) == 65_534,
-    );
-    check(&rt, "one more", add_outputs(rt.alloc(), &mut draft, 1) == 0);
-}
-
-/// Adds parts.
-fn add_all(alloc: Global, draft: &mut Draft, parts: &[Part]) -> Result<(), DraftFault> {
-    for part in parts {
-        add(alloc, draft, *part)?;
+    for _ in 0..65_534u64 {
+        pay(&rt, &mut draft, &[]).expect(&rt, "65,536 outputs");
     }
-    Ok(())
-}
-
-/// A draft of these parts.
-fn draft_of(alloc: Global, parts: &[Part]) -> Result<Draft, DraftFault> {
-    let mut draft = Draft::new(alloc);
-    add_all(alloc, &mut draft, parts)?;
-    Ok(draft)
-}
-
-/// The transaction of a draft of these parts.
-fn finished(alloc: Global, parts: &[Part]) -> Result<Tx, DraftFault> {
-    let draft = draft_of(alloc, parts)?;
-    Ok(draft.finish()?)
+    check(&rt, "one more", pay(&rt, &mut draft, &[]).is_err());
 }
 
 /// The payment of 910 lovelace for a fee of 290, signed by its key.
@@ -280,26 +223,27 @@ const DRAFTS: &[(&[Part], &[&str])] = &[
     (WHOLE, WHOLE_TEXT),
 ];
 
-/// Whether the transaction of a draft of these parts has this text.
-fn is_drafted(alloc: Global, parts: &[Part], text: &[&str]) -> bool {
-    match finished(alloc, parts) {
-        Ok(tx) => is_spelled(&tx, text),
-        Err(_) => false,
+/// The transaction of a draft of these parts has this text.
+fn is_drafted(rt: &(impl Abort + AllocGlobal), parts: &[Part], text: &[&str]) {
+    let mut draft = Draft::new(rt.alloc());
+    for part in parts {
+        add(rt, &mut draft, *part).expect(rt, "a part");
     }
+    let tx = boxed(rt, draft.finish().expect(rt, MEMORY));
+    has_text(rt, &tx, text);
 }
 
 #[test]
 fn texts_of_drafts(rt: HostRuntime) {
     for (parts, text) in DRAFTS {
-        check(&rt, "a draft", is_drafted(rt.alloc(), *parts, *text));
+        is_drafted(&rt, *parts, *text);
     }
 }
 
 #[test]
-fn faults_of_drafts_shown(rt: HostRuntime) -> Result<(), Fail> {
+fn faults_of_drafts_shown(rt: HostRuntime) {
     let (not_built, no_memory) = (DraftFault::NotBuilt, DraftFault::OutOfMemory);
-    let shown = format!(in rt.alloc(); "{not_built}; {no_memory}")?;
+    let shown = format!(in rt.alloc(); "{not_built}; {no_memory}").expect(&rt, MEMORY);
     let want = "no transaction has this part beside the others; out of memory";
     check(&rt, "faults", shown.as_str() == want);
-    Ok(())
 }

@@ -1,6 +1,5 @@
 //! What the tests share: hexadecimal texts, and hashes that another SHA-256 computed.
 
-use std::alloc::{AllocError, Global};
 use std::process::Abort;
 
 /// The SHA-256 digest of 32 bytes 01.
@@ -27,9 +26,15 @@ fn digit(character: u8) -> Option<u8> {
     }
 }
 
+// Each way out of a function drops all that it owns, which makes its proof longer. So want of memory and what can't be
+// otherwise end a test on the spot.
+
+/// What is said where memory runs out.
+pub const MEMORY: &str = "memory";
+
 /// The bytes of hexadecimal texts, one after the other; all that is no digit is skipped.
-pub fn hex(alloc: Global, texts: &[&str]) -> Result<Vec<u8>, AllocError> {
-    let mut bytes = Vec::new(alloc);
+pub fn hex(rt: &(impl Abort + AllocGlobal), texts: &[&str]) -> Vec<u8> {
+    let mut bytes = Vec::new(rt.alloc());
     let mut high = None;
     for text in texts {
         for character in text.as_bytes() {
@@ -37,38 +42,28 @@ pub fn hex(alloc: Global, texts: &[&str]) -> Result<Vec<u8>, AllocError> {
                 high = match high {
                     None => Some(low << 4),
                     Some(high) => {
-                        bytes.push(high | low)?;
+                        bytes.push(high | low).expect(rt, MEMORY);
                         None
                     }
                 };
             }
         }
     }
-    Ok(bytes)
+    bytes
 }
 
-/// Whether hexadecimal texts, one after the other, spell these bytes.
-pub fn spells(texts: &[&str], bytes: &[u8]) -> bool {
-    let mut left = bytes.iter();
-    let mut high = None;
-    for text in texts {
-        for character in text.as_bytes() {
-            if let Some(low) = digit(*character) {
-                high = match high {
-                    None => Some(low << 4),
-                    Some(high) if left.next() == Some(&(high | low)) => None,
-                    Some(_) => return false,
-                };
-            }
-        }
-    }
-    left.next().is_none()
+/// The value in a box, whose drop is a call.
+pub fn boxed<T: Drop>(rt: &(impl Abort + AllocGlobal), value: T) -> Box<T> {
+    Box::new(rt.alloc(), value).expect(rt, MEMORY)
 }
 
-// Each assertion makes the proof of its test longer, and each message much longer. So most tests say what they see to
-// this one, and what they compare is found by helpers that answer true or false.
-
-/// What is told of this case is so.
+/// What this is said of is so. Each assertion makes the proof of its test longer, and each message much longer, so most
+/// tests say what they see to this one.
 pub fn check(rt: &impl Abort, case: &str, is_so: bool) {
     assert!(rt; is_so, "{case}");
+}
+
+/// Hexadecimal texts, one after the other, spell these bytes.
+pub fn is_spelled(rt: &(impl Abort + AllocGlobal), texts: &[&str], bytes: &[u8]) {
+    check(rt, "a text", hex(rt, texts).as_slice() == bytes);
 }

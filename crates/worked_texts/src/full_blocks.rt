@@ -1,12 +1,11 @@
 //! Blocks with transactions: what is read of one, what is written, each bit of a body flipped, and each beginning.
 
-use super::blocks::{fault_of, first_hash, has_no_beginning, read_block};
-use super::fixture::{NINES, ONES, check, hex, spells};
+use super::blocks::{block_of, fault_of, first_hash, has_no_beginning};
+use super::fixture::{NINES, ONES, check, hex, is_spelled};
 use super::transaction_making::TWENTY_NINE;
 use super::transactions::{MINTING, MINTING_BODY, PAYING, PAYING_BODY, read_all};
 use block::{NoText, ReadFault, write};
-use std::alloc::Global;
-use std::test::Fail;
+use std::process::Abort;
 use tx::Tx;
 
 /// Block 2 in slot 5 after the first block, up to the hash of its body.
@@ -42,11 +41,6 @@ const NONE: &[&str] = &[
 /// A payment with a script that nests one too deep for a block.
 const DEEP_PAYMENT: &[&str] = &["83", PAYING_BODY, "a1 01 81", TWENTY_NINE, "820400 f6"];
 
-/// The text of the block of this number and slot after the first block, with these transactions.
-fn written(alloc: Global, number: u64, slot: u64, transactions: &[Tx]) -> Result<Vec<u8>, NoText> {
-    write(alloc, number, slot, Some(first_hash()), transactions)
-}
-
 /// A number and a slot, texts of transactions, and the text of the block or why it has none.
 type Written = (
     u64,
@@ -63,84 +57,64 @@ const WRITTEN: &[Written] = &[
     (1, 1, &[PAYING, DEEP_PAYMENT], Err(NoText::TooDeep(1))),
 ];
 
-/// Whether what was written is what is wanted.
-fn is_written(found: Result<Vec<u8>, NoText>, want: Result<&[&str], NoText>) -> bool {
-    match (found, want) {
-        (Ok(text), Ok(parts)) => spells(parts, &text),
-        (Err(fault), Err(want)) => fault == want,
-        _ => false,
+/// A block is written so, after the first block.
+fn is_block(rt: &(impl Abort + AllocGlobal), (number, slot, texts, want): &Written) {
+    let txs = read_all(rt, *texts);
+    let found = write(rt.alloc(), *number, *slot, Some(first_hash()), &txs);
+    match (&found, want) {
+        (Ok(text), Ok(parts)) => is_spelled(rt, *parts, text),
+        (Err(fault), Err(want)) => check(rt, "a fault", fault == want),
+        _ => check(rt, "a block", false),
     }
 }
 
-/// Whether a block is written so.
-fn is_block(alloc: Global, (number, slot, texts, want): &Written) -> Result<bool, Fail> {
-    let txs = read_all(alloc, *texts)?;
-    Ok(is_written(written(alloc, *number, *slot, &txs), *want))
-}
-
 #[test]
-fn written_blocks(rt: HostRuntime) -> Result<(), Fail> {
+fn written_blocks(rt: HostRuntime) {
     for row in WRITTEN {
-        check(&rt, "a block", is_block(rt.alloc(), row)?);
-    }
-    Ok(())
-}
-
-/// Whether these are the payment and the minting.
-fn are_both(transactions: &[Tx]) -> bool {
-    match transactions {
-        [first, second] => is_sized(first, 190, 290) && is_sized(second, 273, 400),
-        _ => false,
+        is_block(&rt, row);
     }
 }
 
-/// Whether a transaction has this size and this fee.
-fn is_sized(tx: &Tx, size: u64, fee: u64) -> bool {
-    tx.size() == size && tx.fee() == fee
+/// The sizes and the fees of the payment and the minting.
+const SIZES: &[(u64, u64)] = &[(190, 290), (273, 400)];
+
+/// These are the payment and the minting.
+fn are_both(rt: &impl Abort, transactions: &[Tx]) {
+    check(rt, "two", transactions.len() == 2);
+    for (tx, (size, fee)) in transactions.iter().zip(SIZES) {
+        check(rt, "size", tx.size() == *size);
+        check(rt, "fee", tx.fee() == *fee);
+    }
 }
 
 #[test]
-fn transactions_of_a_block(rt: HostRuntime) -> Result<(), Fail> {
-    let text = hex(rt.alloc(), BOTH)?;
-    let block = read_block(rt.alloc(), &text)?;
-    check(
-        &rt,
-        "two",
-        are_both(block.transactions()) && !block.is_empty(),
-    );
-    Ok(())
+fn transactions_of_a_block(rt: HostRuntime) {
+    let block = block_of(&rt, &hex(&rt, BOTH));
+    check(&rt, "some", !block.is_empty());
+    are_both(&rt, block.transactions());
 }
 
-fn flip(text: &mut [u8], index: usize, bit: u8) {
-    if let Some(byte) = text.get_mut(index) {
-        *byte ^= bit;
-    }
-}
-
-/// Whether the text with this bit flipped is malformed, or has another body hash.
-fn is_refused(alloc: Global, text: &mut [u8], index: usize, bit: u8) -> bool {
-    flip(text, index, bit);
-    let fault = fault_of(alloc, text);
-    flip(text, index, bit);
-    matches!(
+/// The text with this bit flipped is malformed, or has another body hash. It is as it was then.
+fn is_refused(rt: &(impl Abort + AllocGlobal), text: &mut [u8], index: usize, bit: u8) {
+    assert!(rt; index < text.len());
+    text[index] ^= bit;
+    let fault = fault_of(rt.alloc(), text);
+    text[index] ^= bit;
+    let is_wanted = matches!(
         fault,
         Some(ReadFault::Malformed | ReadFault::BodyHashMismatch)
-    )
+    );
+    check(rt, "flipped", is_wanted);
 }
 
 #[test]
-fn every_bit_of_a_body_flipped(rt: HostRuntime) -> Result<(), Fail> {
-    let mut text = hex(rt.alloc(), BOTH)?;
+fn every_bit_of_a_body_flipped(rt: HostRuntime) {
+    let mut text = hex(&rt, BOTH);
     for index in 72..text.len() {
         for bit in [1u8, 2, 4, 8, 16, 32, 64, 128] {
-            check(
-                &rt,
-                "flipped",
-                is_refused(rt.alloc(), &mut text, index, bit),
-            );
+            is_refused(&rt, &mut text, index, bit);
         }
     }
     check(&rt, "as it was", fault_of(rt.alloc(), &text).is_none());
-    check(&rt, "beginnings", has_no_beginning(rt.alloc(), &text));
-    Ok(())
+    has_no_beginning(&rt, &text);
 }

@@ -1,8 +1,7 @@
 //! Digests of FIPS 180-4 and other known ones, and hexadecimal text in and out.
 
-use super::fixture::{check, spells};
+use super::fixture::{MEMORY, check, is_spelled};
 use ident::{BlockHash, BodyHash, IdentFault, KeyHash, Point, ScriptHash, TxId};
-use std::test::Fail;
 
 /// The digests of nothing and of abc, which is written in both cases too.
 const EMPTY: &str = "e3b0c44298fc1c149afbf4c8996fb92427ae41e4649b934ca495991b7852b855";
@@ -18,54 +17,24 @@ const ZEROS: &str = "66687aadf862bd776c8fc18b8e9f8e20089714856ee233b3902a591d0d5
 
 #[test]
 fn digests(rt: HostRuntime) {
-    check(
-        &rt,
-        "a body",
-        spells(&[ABC], TxId::of_body(b"abc").as_bytes()),
-    );
-    check(
-        &rt,
-        "nothing",
-        spells(&[EMPTY], TxId::of_body(b"").as_bytes()),
-    );
-    check(
-        &rt,
-        "a header",
-        spells(&[ABC], BlockHash::of_header(b"abc").as_bytes()),
-    );
-    check(
-        &rt,
-        "a block's body",
-        spells(&[ABC], BodyHash::of_body(b"abc").as_bytes()),
-    );
-    check(
-        &rt,
-        "a key",
-        spells(&[ZEROS], KeyHash::of_key(&[0; 32]).as_bytes()),
-    );
-    check(
-        &rt,
-        "a script",
-        spells(&[ZERO], ScriptHash::of_script(b"").as_bytes()),
-    );
-}
-
-/// Whether a text is read as this identifier.
-fn is_read(text: &str, id: TxId) -> bool {
-    match text.parse::<TxId>() {
-        Ok(read) => read == id,
-        Err(_) => false,
-    }
+    is_spelled(&rt, &[ABC], TxId::of_body(b"abc").as_bytes());
+    is_spelled(&rt, &[EMPTY], TxId::of_body(b"").as_bytes());
+    is_spelled(&rt, &[ABC], BlockHash::of_header(b"abc").as_bytes());
+    is_spelled(&rt, &[ABC], BodyHash::of_body(b"abc").as_bytes());
+    is_spelled(&rt, &[ZEROS], KeyHash::of_key(&[0; 32]).as_bytes());
+    is_spelled(&rt, &[ZERO], ScriptHash::of_script(b"").as_bytes());
 }
 
 // The kinds of identifiers are one type, so one of them stands for all.
 #[test]
-fn texts_in_and_out(rt: HostRuntime) -> Result<(), Fail> {
+fn texts_in_and_out(rt: HostRuntime) {
     let id = TxId::of_body(b"abc");
-    check(&rt, "read", is_read(ABC, id) && is_read(ABC_MIXED, id));
-    let shown = id.to_string(rt.alloc())?;
+    for text in [ABC, ABC_MIXED] {
+        let read = text.parse::<TxId>().expect(&rt, "an identifier");
+        check(&rt, "read", read == id);
+    }
+    let shown = id.to_string(rt.alloc()).expect(&rt, MEMORY);
     check(&rt, "printed", shown.as_str() == ABC);
-    Ok(())
 }
 
 /// Texts of no identifier, why they are none, and that as text for people.
@@ -95,39 +64,24 @@ const REFUSED: &[(&str, IdentFault, &str)] = &[
     ),
 ];
 
-/// Whether a text is refused for this fault.
-fn is_refused(text: &str, fault: IdentFault) -> bool {
-    match text.parse::<TxId>() {
-        Ok(_) => false,
-        Err(found) => found == fault,
-    }
-}
-
 #[test]
-fn refused_text(rt: HostRuntime) -> Result<(), Fail> {
+fn refused_text(rt: HostRuntime) {
     for (text, fault, message) in REFUSED {
-        check(&rt, *text, is_refused(*text, *fault));
-        let shown = (*fault).to_string(rt.alloc())?;
+        let found = text.parse::<TxId>().err();
+        check(&rt, *text, found == Some(*fault));
+        let shown = fault.to_string(rt.alloc()).expect(&rt, MEMORY);
         check(&rt, *text, shown.as_str() == *message);
     }
-    Ok(())
-}
-
-/// What bytes are as an identifier.
-fn id_of(bytes: &[u8]) -> Result<TxId, IdentFault> {
-    TxId::try_from(bytes)
 }
 
 #[test]
 fn bytes_in_and_out(rt: HostRuntime) {
-    let sevens = TxId::from_bytes([7; 32]);
-    check(&rt, "32", id_of(&[7; 32]) == Ok(sevens));
-    let short = id_of(&[7; 31]);
-    check(
-        &rt,
-        "31",
-        short == Err(IdentFault::WrongLength { bytes: 31 }),
-    );
+    let sevens = [7u8; 32];
+    let id = TxId::try_from(sevens.as_slice());
+    check(&rt, "32", id == Ok(TxId::from_bytes([7; 32])));
+    let short = TxId::try_from(&sevens[..31]);
+    let want = Err(IdentFault::WrongLength { bytes: 31 });
+    check(&rt, "31", short == want);
 }
 
 #[test]
@@ -138,10 +92,7 @@ fn order(rt: HostRuntime) {
     check(&rt, "identifiers", low < TxId::from_bytes(bytes));
     let genesis = Point::genesis();
     let hash = BlockHash::from_bytes([0; 32]);
-    check(
-        &rt,
-        "the genesis",
-        genesis.number == 0 && genesis.hash == hash,
-    );
+    check(&rt, "number of the genesis", genesis.number == 0);
+    check(&rt, "hash of the genesis", genesis.hash == hash);
     check(&rt, "a block", genesis < (Point { number: 1, hash }));
 }

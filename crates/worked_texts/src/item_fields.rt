@@ -2,7 +2,6 @@
 
 use super::fixture::{check, hex};
 use cbor::{field_key, map, optional_unsigned_field, unsigned_field};
-use std::test::Fail;
 
 /// What is read of the map {1: a number, maybe 3: a number}: both numbers, 0 where there is no second one, and how many
 /// bytes are left.
@@ -43,12 +42,11 @@ const RECORDS: &[(&str, Option<[u64; 3]>)] = &[
 ];
 
 #[test]
-fn fields_of_records(rt: HostRuntime) -> Result<(), Fail> {
+fn fields_of_records(rt: HostRuntime) {
     for (text, want) in RECORDS {
-        let bytes = hex(rt.alloc(), &[*text])?;
+        let bytes = hex(&rt, &[*text]);
         check(&rt, *text, pair(&bytes) == *want);
     }
-    Ok(())
 }
 
 #[test]

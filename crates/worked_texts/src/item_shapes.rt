@@ -6,7 +6,6 @@ use cbor::{
     short,
 };
 use std::alloc::Global;
-use std::test::Fail;
 
 /// A number below 100.
 #[derive(Drop)]
@@ -99,9 +98,9 @@ const SHAPES: &[Shape] = &[
 ];
 
 #[test]
-fn lists_and_maps(rt: HostRuntime) -> Result<(), Fail> {
+fn lists_and_maps(rt: HostRuntime) {
     for (is_map, text, want) in SHAPES {
-        let bytes = hex(rt.alloc(), &[*text])?;
+        let bytes = hex(&rt, &[*text]);
         let found = if *is_map {
             shares(rt.alloc(), &bytes)
         } else {
@@ -109,12 +108,10 @@ fn lists_and_maps(rt: HostRuntime) -> Result<(), Fail> {
         };
         check(&rt, *text, found == want.ok_or(CborFault::Malformed));
     }
-    Ok(())
 }
 
 #[test]
-fn map_of_no_share(rt: HostRuntime) -> Result<(), Fail> {
-    let (none, rest) = entries_of_map::<Share>(rt.alloc(), b"\xa0")?;
+fn map_of_no_share(rt: HostRuntime) {
+    let (none, rest) = entries_of_map::<Share>(rt.alloc(), b"\xa0").expect(&rt, "a map");
     check(&rt, "none", none.is_empty() && rest.is_empty());
-    Ok(())
 }

@@ -1,68 +1,40 @@
 //! Items, and the readers and writers of their kinds.
 
-use super::fixture::{check, hex, spells};
+use super::fixture::{MEMORY, check, hex, is_spelled};
 use cbor::{
     CborFault, array, byte_string, decode, encode, fixed, map, negative, null, read, unsigned,
     write_array, write_byte_string, write_map, write_negative, write_null, write_unsigned,
 };
-use std::alloc::{AllocError, Global};
-use std::test::Fail;
 
-/// Writes 24, -1000, four bytes, the heads of 25 members and of 2 entries, and null.
-fn put_each(out: &mut Vec<u8>) -> Result<(), AllocError> {
-    write_unsigned(out, 24)?;
-    write_negative(out, 999)?;
-    write_byte_string(out, &[1, 2, 3, 4])?;
-    write_array(out, 25)?;
-    write_map(out, 2)?;
-    write_null(out)
-}
-
+// 24, -1000, four bytes, the heads of 25 members and of 2 entries, and null.
 #[test]
-fn each_kind_written(rt: HostRuntime) -> Result<(), Fail> {
+fn each_kind_written(rt: HostRuntime) {
     let mut out = Vec::new(rt.alloc());
-    put_each(&mut out)?;
-    check(
-        &rt,
-        "written",
-        spells(&["1818 3903e7 4401020304 9819 a2 f6"], &out),
-    );
-    Ok(())
+    write_unsigned(&mut out, 24).expect(&rt, MEMORY);
+    write_negative(&mut out, 999).expect(&rt, MEMORY);
+    write_byte_string(&mut out, &[1, 2, 3, 4]).expect(&rt, MEMORY);
+    write_array(&mut out, 25).expect(&rt, MEMORY);
+    write_map(&mut out, 2).expect(&rt, MEMORY);
+    write_null(&mut out).expect(&rt, MEMORY);
+    is_spelled(&rt, &["1818 3903e7 4401020304 9819 a2 f6"], &out);
 }
 
-/// The number that was read, if one was.
-fn number(read: Option<(u64, &[u8])>) -> Option<u64> {
-    match read {
-        Some((number, _)) => Some(number),
-        None => None,
-    }
-}
-
-/// The byte of a byte string of one byte, if there is one.
-fn one_byte(bytes: &[u8]) -> Option<u64> {
-    let (one, _) = fixed::<1>(bytes)?;
-    Some(one[0] as u64)
-}
-
-/// The size of a byte string, if there is one.
-fn size(bytes: &[u8]) -> Option<u64> {
-    match byte_string(bytes) {
-        Some((string, _)) => Some(string.len() as u64),
-        None => None,
-    }
-}
-
-/// What the readers find: the number, n of the number -1 - n, the size of a byte string, its one byte, and the counts
-/// of members and of entries.
-fn found(bytes: &[u8]) -> [Option<u64>; 6] {
-    [
-        number(unsigned(bytes)),
-        number(negative(bytes)),
-        size(bytes),
-        one_byte(bytes),
-        number(array(bytes)),
-        number(map(bytes)),
-    ]
+/// The reader of this place finds this in the bytes: the number, n of the number -1 - n, the size of a byte string, its
+/// one byte, or the count of members or of entries.
+fn found(place: usize, bytes: &[u8]) -> Option<u64> {
+    let (number, _) = match place {
+        0 => unsigned(bytes)?,
+        1 => negative(bytes)?,
+        2 => match byte_string(bytes)? {
+            (string, rest) => (string.len() as u64, rest),
+        },
+        3 => match fixed::<1>(bytes)? {
+            (one, rest) => (u64::from(one[0]), rest),
+        },
+        4 => array(bytes)?,
+        _ => map(bytes)?,
+    };
+    Some(number)
 }
 
 /// Texts, and what the readers find there. Null is found in the text of this name alone.
@@ -105,16 +77,14 @@ const TEXTS: &[(&str, [Option<u64>; 6])] = &[
 const NULL: &str = "f6";
 
 #[test]
-fn each_kind_read(rt: HostRuntime) -> Result<(), Fail> {
+fn each_kind_read(rt: HostRuntime) {
     for (text, want) in TEXTS {
-        let bytes = hex(rt.alloc(), &[*text])?;
-        check(
-            &rt,
-            *text,
-            found(&bytes) == *want && null(&bytes).is_some() == (*text == NULL),
-        );
+        let bytes = hex(&rt, &[*text]);
+        for (place, number) in want.iter().enumerate() {
+            check(&rt, *text, found(place, &bytes) == *number);
+        }
+        check(&rt, *text, null(&bytes).is_some() == (*text == NULL));
     }
-    Ok(())
 }
 
 // A map of arrays of byte strings: where an allocation is refused the answer is OutOfMemory, and otherwise the item.
@@ -131,22 +101,10 @@ fn refused_memory(rt: HostRuntime) {
     }
 }
 
-/// How long the text of the item is that stands first.
-fn length(alloc: Global, bytes: &[u8]) -> Result<usize, CborFault> {
-    let (_, length) = read(alloc, bytes)?;
-    Ok(length)
-}
-
 #[test]
 fn front_of_longer_bytes(rt: HostRuntime) {
-    check(
-        &rt,
-        "a byte behind it",
-        length(rt.alloc(), b"\x82\x01\x41\x02\x18") == Ok(4),
-    );
-    check(
-        &rt,
-        "cut",
-        length(rt.alloc(), b"\x82\x01") == Err(CborFault::Malformed),
-    );
+    let (_, length) = read(rt.alloc(), b"\x82\x01\x41\x02\x18").expect(&rt, "an item");
+    check(&rt, "a byte behind it", length == 4);
+    let fault = read(rt.alloc(), b"\x82\x01").err();
+    check(&rt, "cut", fault == Some(CborFault::Malformed));
 }

@@ -1,85 +1,73 @@
 //! Verdicts by several threads: the same as by one, in the same order, and what a gate is told.
 
-use super::fixture::{check, spells};
+use super::fixture::{check, is_spelled};
 use super::transaction_making::{MINTING_ID, PAYING_ID};
 use super::transactions::read_all;
 use super::verdicts::{BADLY_IN_VAIN, SIGNED, SIGNED_IN_VAIN, SIGNED_MINTING, has_key};
-use std::alloc::Global;
+use std::process::Abort;
 use std::sync::atomic::{AtomicBool, AtomicU64, Ordering};
-use std::test::Fail;
 use std::thread::{self, Threads};
-use tx::Tx;
 use witness_pool::{CheckedTx, Gate, OpenGate, Pool, PoolFault, TestScheme};
 
 /// Three jobs: a signed payment whose script doesn't hold, the same with a bad signature, and the minting.
 const JOBS: &[&[&str]] = &[SIGNED_IN_VAIN, BADLY_IN_VAIN, SIGNED_MINTING];
 
 /// The transactions with their verdicts, by so many workers.
-fn checked_by<R: Threads + Sync, G: Gate + Drop>(
+fn checked_by<R: Threads + Sync + Abort + AllocGlobal, G: Gate + Drop>(
     rt: &R,
-    alloc: Global,
     gate: G,
     workers: usize,
-    txs: Vec<Tx>,
+    jobs: &[&[&str]],
 ) -> Result<Vec<CheckedTx<TestScheme>>, PoolFault> {
-    Pool::new(gate).check::<R, TestScheme>(rt, alloc, workers, txs)
+    let txs = read_all(rt, jobs);
+    Pool::new(gate).check::<R, TestScheme>(rt, rt.alloc(), workers, txs)
 }
 
-/// Whether a transaction has this identifier and these verdicts, and the key of all of them.
-fn has_verdicts(checked: &CheckedTx<TestScheme>, id: &str, signed: bool, holding: bool) -> bool {
-    let is_same = spells(&[id], checked.tx().id().as_bytes()) && has_key(checked);
-    is_same && checked.is_signed() == signed && checked.scripts_hold() == holding
-}
+/// The identifiers of the three jobs, whether each is signed, and whether its script holds.
+const VERDICTS: &[(&str, bool, bool)] = &[
+    (PAYING_ID, true, false),
+    (PAYING_ID, false, false),
+    (MINTING_ID, true, true),
+];
 
-/// Whether these are the three jobs in their order.
-fn are_judged(checked: &[CheckedTx<TestScheme>]) -> bool {
-    match checked {
-        [one, two, three] => {
-            has_verdicts(one, PAYING_ID, true, false)
-                && has_verdicts(two, PAYING_ID, false, false)
-                && has_verdicts(three, MINTING_ID, true, true)
-        }
-        _ => false,
+/// These are the three jobs in their order, each with the key of all of them.
+fn are_judged(rt: &(impl Abort + AllocGlobal), checked: &[CheckedTx<TestScheme>]) {
+    check(rt, "three", checked.len() == 3);
+    for (checked, (id, signed, holding)) in checked.iter().zip(VERDICTS) {
+        is_spelled(rt, &[*id], checked.tx().id().as_bytes());
+        has_key(rt, checked);
+        check(rt, "signed", checked.is_signed() == *signed);
+        check(rt, "holding", checked.scripts_hold() == *holding);
     }
-}
-
-/// Whether so many workers judge the three jobs so.
-fn is_judged_by<R: Threads + Sync>(rt: &R, alloc: Global, workers: usize) -> Result<bool, Fail> {
-    let txs = read_all(alloc, JOBS)?;
-    let checked = checked_by(rt, alloc, OpenGate, workers, txs)?;
-    Ok(are_judged(&checked))
 }
 
 #[test]
-fn verdicts_of_a_pool(rt: HostRuntime) -> Result<(), Fail> {
+fn verdicts_of_a_pool(rt: HostRuntime) {
     for workers in 1..17 {
-        check(&rt, "workers", is_judged_by(&rt, rt.alloc(), workers)?);
+        let checked = checked_by(&rt, OpenGate, workers, JOBS).expect(&rt, "verdicts");
+        are_judged(&rt, &checked);
     }
-    Ok(())
 }
 
 /// How many of the first so many jobs have their verdicts, or why none has.
-fn count_by<R: Threads + Sync>(
+fn count_by<R: Threads + Sync + Abort + AllocGlobal>(
     rt: &R,
-    alloc: Global,
     workers: usize,
     jobs: usize,
 ) -> Result<usize, PoolFault> {
-    let txs = read_all(alloc, &JOBS[..jobs.min(3)]).map_err(|_| PoolFault::OutOfMemory)?;
-    Ok(checked_by(rt, alloc, OpenGate, workers, txs)?.len())
+    match checked_by(rt, OpenGate, workers, &JOBS[..jobs.min(3)]) {
+        Ok(checked) => Ok(checked.len()),
+        Err(fault) => Err(fault),
+    }
 }
 
 #[test]
 fn numbers_of_workers(rt: HostRuntime) {
     for workers in 1..17 {
-        check(
-            &rt,
-            "no jobs",
-            count_by(&rt, rt.alloc(), workers, 0) == Ok(0),
-        );
+        check(&rt, "no jobs", count_by(&rt, workers, 0) == Ok(0));
     }
     for (workers, jobs) in [(0, 0), (0, 3), (17, 0), (17, 3)] {
-        let count = count_by(&rt, rt.alloc(), workers, jobs);
+        let count = count_by(&rt, workers, jobs);
         check(&rt, "bad workers", count == Err(PoolFault::BadWorkers));
     }
 }
@@ -87,9 +75,9 @@ fn numbers_of_workers(rt: HostRuntime) {
 // Under `rt try --test --fail-alloc N` the refused call says so, and then succeeds.
 #[test]
 fn checked_again_after_want_of_memory(rt: HostRuntime) {
-    let mut count = count_by(&rt, rt.alloc(), 2, 3);
+    let mut count = count_by(&rt, 2, 3);
     if count == Err(PoolFault::OutOfMemory) {
-        count = count_by(&rt, rt.alloc(), 2, 3);
+        count = count_by(&rt, 2, 3);
     }
     check(&rt, "three", count == Ok(3));
 }
@@ -123,16 +111,14 @@ impl Gate for Meeting {
 }
 
 #[test]
-fn two_workers_run_at_once(rt: HostRuntime) -> Result<(), Fail> {
+fn two_workers_run_at_once(rt: HostRuntime) {
     let gate = Meeting {
         begun: [AtomicBool::new(false), AtomicBool::new(false)],
         met: AtomicU64::new(0),
     };
-    let txs = read_all(rt.alloc(), JOBS)?;
-    let checked = checked_by(&rt, rt.alloc(), &gate, 2, txs)?;
+    let checked = checked_by(&rt, &gate, 2, JOBS).expect(&rt, "verdicts");
     check(&rt, "three", checked.len() == 3);
     check(&rt, "both met", gate.met.load(Ordering::SeqCst) == 2);
-    Ok(())
 }
 
 /// A gate that keeps when each of five jobs began and ended: how many times it was told anything up to then.
@@ -195,43 +181,39 @@ impl Gate for Log {
 }
 
 /// What a gate is told of five payments, by so many workers.
-fn log_of<R: Threads + Sync>(rt: &R, alloc: Global, workers: usize) -> Result<Log, Fail> {
+fn log_of<R: Threads + Sync + Abort + AllocGlobal>(rt: &R, workers: usize) -> Log {
     let log = Log::new();
-    let txs = read_all(alloc, &[SIGNED; 5])?;
-    checked_by(rt, alloc, &log, workers, txs)?;
-    Ok(log)
+    checked_by(rt, &log, workers, &[SIGNED; 5]).expect(rt, "verdicts");
+    log
 }
 
+// One job after the other.
 #[test]
-fn what_one_worker_tells(rt: HostRuntime) -> Result<(), Fail> {
-    let log = log_of(&rt, rt.alloc(), 1)?;
+fn what_one_worker_tells(rt: HostRuntime) {
+    let log = log_of(&rt, 1);
     for job in 1..6 {
         let begun = 2 * job as u64 - 1;
-        check(
-            &rt,
-            "one after the other",
-            log.times(job) == (begun, begun + 1),
-        );
+        let (start, end) = log.times(job);
+        check(&rt, "begun", start == begun);
+        check(&rt, "ended", end == begun + 1);
     }
-    Ok(())
 }
 
-/// Whether the job began, then ended, and began after the job before it of its worker had ended: at 0, where there is
-/// none.
-fn is_in_order(log: &Log, workers: usize, job: usize) -> bool {
+/// The job began, then ended, and began after the job before it of its worker had ended: at 0, where there is none.
+fn is_in_order(rt: &impl Abort, log: &Log, workers: usize, job: usize) {
     let (start, end) = log.times(job);
     let (_, before) = log.times(job.saturating_sub(workers));
-    before < start && start < end
+    check(rt, "before", before < start);
+    check(rt, "in order", start < end);
 }
 
 #[test]
-fn what_workers_tell(rt: HostRuntime) -> Result<(), Fail> {
+fn what_workers_tell(rt: HostRuntime) {
     for workers in 1..17 {
-        let log = log_of(&rt, rt.alloc(), workers)?;
+        let log = log_of(&rt, workers);
         for job in 1..6 {
-            check(&rt, "in order", is_in_order(&log, workers, job));
+            is_in_order(&rt, &log, workers, job);
         }
         check(&rt, "ten times", log.told.load(Ordering::SeqCst) == 10);
     }
-    Ok(())
 }

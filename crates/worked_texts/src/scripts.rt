@@ -1,9 +1,9 @@
 //! Scripts that are made of timelocks, and those that nest too deep.
 
-use super::fixture::{ONES, check, spells};
+use super::fixture::{MEMORY, ONES, boxed, check, is_spelled};
 use ident::KeyHash;
 use std::alloc::{AllocError, Global};
-use std::test::Fail;
+use std::process::Abort;
 use timelock::{Script, ScriptFault, Timelock, Timelocks};
 
 /// So many timelocks that ask for all of one, inside one another.
@@ -23,64 +23,50 @@ pub fn nested(alloc: Global, count: usize) -> Result<Script, ScriptFault> {
     Script::new(alloc, timelock)
 }
 
-/// How deep that script nests, or why there is none.
-fn nesting(alloc: Global, count: usize) -> Result<usize, ScriptFault> {
-    Ok(nested(alloc, count)?.nesting())
-}
-
 #[test]
 fn timelocks_too_deep(rt: HostRuntime) {
-    check(&rt, "32", nesting(rt.alloc(), 32) == Ok(64));
-    check(
-        &rt,
-        "33",
-        nesting(rt.alloc(), 33) == Err(ScriptFault::TooDeep),
-    );
-}
-
-/// Puts a key, two slots, and one of nothing behind timelocks.
-fn put_each(alloc: Global, members: &mut Vec<Timelock>) -> Result<(), AllocError> {
-    members.push(Timelock::RequireSignature(KeyHash::from_bytes([1; 32])))?;
-    members.push(Timelock::RequireTimeStart(24))?;
-    members.push(Timelock::RequireTimeExpire(256))?;
-    members.push(Timelock::RequireAnyOf(Timelocks::from_vec(Vec::new(alloc))))?;
-    Ok(())
-}
-
-/// The script that asks for three of those.
-fn three_of_four(alloc: Global) -> Result<Script, ScriptFault> {
-    let mut members = Vec::new(alloc);
-    put_each(alloc, &mut members)?;
-    Script::new(alloc, Timelock::RequireMOf(3, Timelocks::from_vec(members)))
-}
-
-/// Whether a script asks for three of four.
-fn asks_for_three(script: &Script) -> bool {
-    match script.timelock() {
-        Timelock::RequireMOf(least, members) => *least == 3 && members.as_slice().len() == 4,
-        _ => false,
-    }
+    let script = boxed(&rt, nested(rt.alloc(), 32).expect(&rt, "a script"));
+    check(&rt, "32", script.nesting() == 64);
+    let fault = nested(rt.alloc(), 33).err();
+    check(&rt, "33", fault == Some(ScriptFault::TooDeep));
 }
 
 /// The script's text.
 const THREE_OF_FOUR: &[&str] = &["830303 84 82005820", ONES, "82041818 8205190100 820280"];
 
-/// Whether a script has that text.
-fn is_spelled(script: &Script) -> bool {
-    match script.encode() {
-        Ok(text) => spells(THREE_OF_FOUR, &text),
-        Err(_) => false,
+/// The script that asks for three of a key, two slots, and one of nothing.
+fn three_of_four(rt: &(impl Abort + AllocGlobal)) -> Box<Script> {
+    let none = Timelocks::from_vec(Vec::new(rt.alloc()));
+    let key = KeyHash::from_bytes([1; 32]);
+    let mut members = Vec::new(rt.alloc());
+    members
+        .push(Timelock::RequireSignature(key))
+        .expect(rt, MEMORY);
+    members
+        .push(Timelock::RequireTimeStart(24))
+        .expect(rt, MEMORY);
+    members
+        .push(Timelock::RequireTimeExpire(256))
+        .expect(rt, MEMORY);
+    members
+        .push(Timelock::RequireAnyOf(none))
+        .expect(rt, MEMORY);
+    let timelock = Timelock::RequireMOf(3, Timelocks::from_vec(members));
+    boxed(rt, Script::new(rt.alloc(), timelock).expect(rt, "a script"))
+}
+
+/// A timelock asks for three of four.
+fn asks_for_three(timelock: &Timelock) -> bool {
+    match timelock {
+        Timelock::RequireMOf(least, members) => *least == 3 && members.as_slice().len() == 4,
+        _ => false,
     }
 }
 
 #[test]
-fn scripts_by_hand(rt: HostRuntime) -> Result<(), Fail> {
-    let script = three_of_four(rt.alloc())?;
-    check(
-        &rt,
-        "its parts",
-        asks_for_three(&script) && script.nesting() == 4,
-    );
-    check(&rt, "its text", is_spelled(&script));
-    Ok(())
+fn scripts_by_hand(rt: HostRuntime) {
+    let script = three_of_four(&rt);
+    check(&rt, "nesting", script.nesting() == 4);
+    check(&rt, "its parts", asks_for_three(script.timelock()));
+    is_spelled(&rt, THREE_OF_FOUR, &script.encode().expect(&rt, MEMORY));
 }

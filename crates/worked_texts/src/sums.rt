@@ -1,11 +1,10 @@
 //! Sums of values and of what is minted.
 
-use super::fixture::check;
+use super::fixture::{MEMORY, boxed, check};
 use super::values::{mint_of, value_of};
 use ident::ScriptHash;
-use std::alloc::{AllocError, Global};
+use std::alloc::AllocError;
 use std::process::Abort;
-use std::test::Fail;
 use value::{Mint, Totals, Value};
 
 /// Assets, each by the byte of its policy, its name and how many there are.
@@ -72,21 +71,23 @@ const CHANGES: &[Row] = &[
 ];
 
 /// The values.
-fn values(alloc: Global) -> Result<Vec<Value>, Fail> {
-    let mut values = Vec::new(alloc);
+fn values(rt: &(impl Abort + AllocGlobal)) -> Vec<Value> {
+    let mut values = Vec::new(rt.alloc());
     for (coin, assets) in VALUES {
-        values.push(value_of(alloc, *coin, *assets)?)?;
+        let value = value_of(rt, *coin, *assets).expect(rt, "a value");
+        values.push(value).expect(rt, MEMORY);
     }
-    Ok(values)
+    values
 }
 
 /// What is minted.
-fn mints(alloc: Global) -> Result<Vec<Mint>, Fail> {
-    let mut mints = Vec::new(alloc);
+fn mints(rt: &(impl Abort + AllocGlobal)) -> Vec<Mint> {
+    let mut mints = Vec::new(rt.alloc());
     for assets in MINTS {
-        mints.push(mint_of(alloc, *assets)?)?;
+        let mint = mint_of(rt, *assets).expect(rt, "a mint");
+        mints.push(mint).expect(rt, MEMORY);
     }
-    Ok(mints)
+    mints
 }
 
 /// Makes a change. The sums are as they were where memory runs out.
@@ -106,41 +107,28 @@ fn make_change(
     }
 }
 
-/// Makes a change, once more where memory ran out: then nothing had changed.
-fn change_at_last(
-    rt: &impl Abort,
-    totals: &mut Totals,
-    values: &[Value],
-    mints: &[Mint],
-    change: Change,
-) -> bool {
-    let is_made = make_change(rt, totals, values, mints, change).is_ok();
-    is_made || make_change(rt, totals, values, mints, change).is_ok()
-}
-
-/// Whether the sums are balanced so, with these sums of lovelace and of the empty name.
-fn are_so(totals: &Totals, balanced: bool, coin: i128, unnamed: i128) -> bool {
+/// The sums are balanced so, with these sums of lovelace and of the empty name.
+fn are_so(rt: &impl Abort, totals: &Totals, balanced: bool, coin: i128, unnamed: i128) {
     let policy = ScriptHash::from_bytes([1; 32]);
-    let is_summed = totals.coin() == coin && totals.amount(&policy, b"") == unnamed;
-    is_summed && totals.is_balanced() == balanced && totals.amount(&policy, b"\0") == 0
+    check(rt, "coin", totals.coin() == coin);
+    check(rt, "unnamed", totals.amount(&policy, b"") == unnamed);
+    check(rt, "named", totals.amount(&policy, b"\0") == 0);
+    check(rt, "balanced", totals.is_balanced() == balanced);
 }
 
 // Under `rt try --test --fail-alloc N` with the number of an allocation of a change nothing has changed, and the same
 // call succeeds then.
 #[test]
-fn sums_behind_changes(rt: HostRuntime) -> Result<(), Fail> {
-    let values = values(rt.alloc())?;
-    let mints = mints(rt.alloc())?;
-    let mut totals = Totals::new(rt.alloc());
-    check(&rt, "nothing", are_so(&totals, true, 0, 0));
+fn sums_behind_changes(rt: HostRuntime) {
+    let values = boxed(&rt, values(&rt));
+    let mints = boxed(&rt, mints(&rt));
+    let mut totals = boxed(&rt, Totals::new(rt.alloc()));
+    are_so(&rt, &totals, true, 0, 0);
     for (change, balanced, coin, unnamed) in CHANGES {
-        let is_made = change_at_last(&rt, &mut totals, &values, &mints, *change);
-        check(
-            &rt,
-            "a change",
-            is_made && are_so(&totals, *balanced, *coin, *unnamed),
-        );
+        if make_change(&rt, &mut totals, &values, &mints, *change).is_err() {
+            make_change(&rt, &mut totals, &values, &mints, *change).expect(&rt, MEMORY);
+        }
+        are_so(&rt, &totals, *balanced, *coin, *unnamed);
     }
     check(&rt, "changes", totals.values() == 24);
-    Ok(())
 }

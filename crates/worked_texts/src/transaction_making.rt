@@ -1,14 +1,13 @@
 //! Transactions that are made of parts in any order, and parts that are refused.
 
-use super::fixture::{KEY_HASH, NINES, ONES, TWOS, ZEROS, check, spells};
+use super::fixture::{KEY_HASH, MEMORY, NINES, ONES, TWOS, ZEROS, boxed, check, hex, is_spelled};
 use super::scripts::nested;
-use super::transactions::{MINTING, PAYING, PAYING_BODY, is_spelled};
+use super::transactions::{MINTING, PAYING, PAYING_BODY, has_text};
 use ident::{KeyHash, ScriptHash, TxId};
-use std::alloc::{AllocError, Global};
-use std::test::Fail;
-use timelock::{Interval, Script, ScriptFault, Timelock, Timelocks};
+use std::process::Abort;
+use timelock::{Interval, Script, Timelock, Timelocks};
 use tx::{Address, Credential, Input, KeyWitness, Output, Tx, TxFault, TxParts};
-use value::{AssetFault, AssetQuantity, Mint, Value};
+use value::{AssetQuantity, Mint, Value};
 
 /// Place 0 to 65,535 of the transaction of 32 zero bytes.
 fn input(index: u16) -> Input {
@@ -21,22 +20,6 @@ fn input(index: u16) -> Input {
 /// What the key of 32 bytes of one kind made.
 fn witness(key: u8, signature: u8) -> KeyWitness {
     KeyWitness::new([key; 32], [signature; 64])
-}
-
-/// No parts, and a fee of 290.
-fn no_parts(alloc: Global) -> TxParts {
-    TxParts {
-        inputs: Vec::new(alloc),
-        outputs: Vec::new(alloc),
-        fee: 290,
-        interval: Interval {
-            start: None,
-            end: None,
-        },
-        mint: Mint::nothing(alloc),
-        signatures: Vec::new(alloc),
-        scripts: Vec::new(alloc),
-    }
 }
 
 /// Some parts of a transaction.
@@ -67,91 +50,93 @@ const LEAST: Told = Told {
     scripts: &[],
 };
 
-/// Puts inputs, signatures and slots into parts.
-fn put_plain(parts: &mut TxParts, told: Told) -> Result<(), AllocError> {
+/// The address of the key of 32 bytes 01.
+fn address(rt: &impl Abort) -> Address {
+    let key = Credential::Key(KeyHash::of_key(&[1; 32]));
+    Address::new(0, key).expect(rt, "a network")
+}
+
+/// Inputs, a fee of 290, slots and signatures, and nothing else.
+fn plain_parts(rt: &(impl Abort + AllocGlobal), told: &Told) -> TxParts {
+    let mut inputs = Vec::new(rt.alloc());
     for index in told.inputs {
-        parts.inputs.push(input(*index))?;
+        inputs.push(input(*index)).expect(rt, MEMORY);
     }
+    let mut signatures = Vec::new(rt.alloc());
     for (key, signature) in told.signatures {
-        parts.signatures.push(witness(*key, *signature))?;
+        signatures
+            .push(witness(*key, *signature))
+            .expect(rt, MEMORY);
     }
-    if let Some((start, end)) = told.slots {
-        parts.interval.start = Some(start);
-        parts.interval.end = Some(end);
+    let (start, end) = match told.slots {
+        Some((start, end)) => (Some(start), Some(end)),
+        None => (None, None),
+    };
+    TxParts {
+        inputs,
+        outputs: Vec::new(rt.alloc()),
+        fee: 290,
+        interval: Interval { start, end },
+        mint: Mint::nothing(rt.alloc()),
+        signatures,
+        scripts: Vec::new(rt.alloc()),
     }
-    Ok(())
 }
 
 /// Puts an output of this value into parts, to the key of 32 bytes 01.
-fn put_output(parts: &mut TxParts, value: Value) -> Result<(), AllocError> {
-    let key = Credential::Key(KeyHash::of_key(&[1; 32]));
-    match Address::new(0, key) {
-        Some(address) => Ok(parts.outputs.push(Output { address, value })?),
-        None => Err(AllocError),
-    }
+fn put_output(rt: &impl Abort, parts: &mut TxParts, value: Value) {
+    let address = address(rt);
+    parts
+        .outputs
+        .push(Output { address, value })
+        .expect(rt, MEMORY);
 }
 
 /// 5 of the empty name under the policy of the script that asks for all of none.
-fn five<Q: Drop>(alloc: Global, five: Q) -> Result<Vec<AssetQuantity<Q>>, AllocError> {
-    let mut assets = Vec::new(alloc);
-    assets.push(AssetQuantity {
+fn five<Q: Drop>(rt: &(impl Abort + AllocGlobal), five: Q) -> Vec<AssetQuantity<Q>> {
+    let mut assets = Vec::new(rt.alloc());
+    let asset = AssetQuantity {
         policy: ScriptHash::of_script(b"\x82\x01\x80"),
-        name: Vec::new(alloc),
+        name: Vec::new(rt.alloc()),
         quantity: five,
-    })?;
-    Ok(assets)
-}
-
-/// Puts what is minted into parts, and an output of it.
-fn put_minting(alloc: Global, parts: &mut TxParts) -> Result<(), AssetFault> {
-    parts.fee = 400;
-    parts.mint = Mint::new(alloc, five(alloc, 5i64)?)?;
-    let value = Value::new(alloc, 800, five(alloc, 5u64)?)?;
-    Ok(put_output(parts, value)?)
+    };
+    assets.push(asset).expect(rt, MEMORY);
+    assets
 }
 
 /// A script of the table of scripts above.
-fn script(alloc: Global, deep: usize) -> Result<Script, ScriptFault> {
+fn script(rt: &(impl Abort + AllocGlobal), deep: usize) -> Script {
     if deep > 0 {
-        return nested(alloc, deep);
+        return nested(rt.alloc(), deep).expect(rt, "a script");
     }
-    Script::new(
-        alloc,
-        Timelock::RequireAnyOf(Timelocks::from_vec(Vec::new(alloc))),
-    )
-}
-
-/// Puts scripts into parts.
-fn put_scripts(alloc: Global, parts: &mut TxParts, scripts: &[usize]) -> Result<(), Fail> {
-    for deep in scripts {
-        parts.scripts.push(script(alloc, *deep)?)?;
-    }
-    Ok(())
-}
-
-/// Puts all that is told into parts.
-fn put_all(alloc: Global, parts: &mut TxParts, told: Told) -> Result<(), Fail> {
-    put_plain(parts, told)?;
-    for _ in 0..told.outputs {
-        put_output(parts, Value::of_coin(alloc, 910))?;
-    }
-    if told.mints {
-        put_minting(alloc, parts)?;
-    }
-    put_scripts(alloc, parts, told.scripts)
+    let none = Timelocks::from_vec(Vec::new(rt.alloc()));
+    Script::new(rt.alloc(), Timelock::RequireAnyOf(none)).expect(rt, "a script")
 }
 
 /// The parts that are told.
-fn parts_of(alloc: Global, told: Told) -> Result<TxParts, Fail> {
-    let mut parts = no_parts(alloc);
-    put_all(alloc, &mut parts, told)?;
-    Ok(parts)
+fn parts_of(rt: &(impl Abort + AllocGlobal), told: &Told) -> TxParts {
+    let mut parts = plain_parts(rt, told);
+    for _ in 0..told.outputs {
+        put_output(rt, &mut parts, Value::of_coin(rt.alloc(), 910));
+    }
+    if told.mints {
+        parts.fee = 400;
+        parts.mint = Mint::new(rt.alloc(), five(rt, 5i64)).expect(rt, "a mint");
+        let value = Value::new(rt.alloc(), 800, five(rt, 5u64)).expect(rt, "a value");
+        put_output(rt, &mut parts, value);
+    }
+    for deep in told.scripts {
+        parts.scripts.push(script(rt, *deep)).expect(rt, MEMORY);
+    }
+    parts
 }
 
 /// The transaction of those parts.
-fn made(alloc: Global, told: Told) -> Result<Tx, Fail> {
-    let parts = parts_of(alloc, told)?;
-    Ok(Tx::new(alloc, parts)?)
+fn made(rt: &(impl Abort + AllocGlobal), told: &Told) -> Box<Tx> {
+    boxed(
+        rt,
+        Tx::new(rt.alloc(), parts_of(rt, told)).expect(rt, "a transaction"),
+    )
 }
 
 /// The identifiers of the payment and of the minting.
@@ -264,47 +249,51 @@ const MADE: &[Made] = &[
 /// Parts, the text of their transaction, its identifier, and how deep it nests.
 type Made = (Told, &'static [&'static str], &'static str, usize);
 
-/// Whether a transaction has this text and this identifier, and nests so deep.
-fn is_made(tx: &Tx, (_, text, id, nesting): &Made) -> bool {
-    is_spelled(tx, *text) && spells(&[*id], tx.id().as_bytes()) && tx.nesting() == *nesting
+/// The transaction of these parts has this text and this identifier, and nests so deep.
+fn is_made(rt: &(impl Abort + AllocGlobal), (told, text, id, nesting): &Made) {
+    let tx = made(rt, told);
+    has_text(rt, &tx, *text);
+    is_spelled(rt, &[*id], tx.id().as_bytes());
+    check(rt, *id, tx.nesting() == *nesting);
 }
 
 #[test]
-fn transactions_of_parts(rt: HostRuntime) -> Result<(), Fail> {
+fn transactions_of_parts(rt: HostRuntime) {
     for row in MADE {
-        let tx = made(rt.alloc(), row.0)?;
-        check(&rt, row.2, is_made(&tx, row));
-    }
-    Ok(())
-}
-
-/// Whether inputs and signatures are those of both, in order.
-fn are_ordered(inputs: &[Input], signatures: &[KeyWitness]) -> bool {
-    inputs == [input(1), input(2), input(256)].as_slice()
-        && signatures == [witness(1, 9), witness(2, 9)].as_slice()
-}
-
-/// Whether the one output is that of 910 lovelace to the key.
-fn is_paid(outputs: &[Output]) -> bool {
-    let key = Credential::Key(witness(1, 9).key_hash());
-    match outputs {
-        [output] => Some(output.address) == Address::new(0, key) && output.value.coin() == 910,
-        _ => false,
+        is_made(&rt, row);
     }
 }
 
-/// Whether a transaction has these parts, from slot 7 until slot 9.
-fn is_in_order(tx: &Tx) -> bool {
-    let Interval { start, end } = tx.interval();
-    let is_timed = start == Some(7) && end == Some(9);
-    is_timed && are_ordered(tx.inputs(), tx.signatures()) && is_paid(tx.outputs())
+/// Inputs are the places 1, 2 and 256, in order, and signatures those of the keys of 32 bytes 01 and 02.
+fn are_ordered(rt: &impl Abort, inputs: &[Input], signatures: &[KeyWitness]) {
+    check(rt, "three inputs", inputs.len() == 3);
+    for (found, index) in inputs.iter().zip(&[1u16, 2, 256]) {
+        check(rt, "input", *found == input(*index));
+    }
+    check(rt, "two signatures", signatures.len() == 2);
+    for (found, key) in signatures.iter().zip(&[1u8, 2]) {
+        check(rt, "signature", *found == witness(*key, 9));
+    }
 }
 
+/// The one output is that of 910 lovelace to the key.
+fn is_paid(rt: &impl Abort, outputs: &[Output]) {
+    check(rt, "one output", outputs.len() == 1);
+    for output in outputs {
+        check(rt, "address", output.address == address(rt));
+        check(rt, "coin", output.value.coin() == 910);
+    }
+}
+
+// Inputs and signatures in order, from slot 7 until slot 9, and the output.
 #[test]
-fn parts_of_a_transaction(rt: HostRuntime) -> Result<(), Fail> {
-    let tx = made(rt.alloc(), OTHER_ORDER)?;
-    check(&rt, "in order", is_in_order(&tx));
-    Ok(())
+fn parts_of_a_transaction(rt: HostRuntime) {
+    let tx = made(&rt, &OTHER_ORDER);
+    let Interval { start, end } = tx.interval();
+    check(&rt, "start", start == Some(7));
+    check(&rt, "end", end == Some(9));
+    are_ordered(&rt, tx.inputs(), tx.signatures());
+    is_paid(&rt, tx.outputs());
 }
 
 /// The hash of a script that nests too deep.
@@ -323,16 +312,19 @@ enum Wrong {
     Deep,
 }
 
-/// Whether a fault is this one.
-fn is_fault(fault: TxFault, want: Wrong) -> bool {
-    match (fault, want) {
+/// A fault is this one.
+fn is_fault(rt: &(impl Abort + AllocGlobal), fault: TxFault, want: Wrong) {
+    let is_wanted = match (fault, want) {
         (TxFault::RepeatedInput(found), Wrong::Input(index)) => found == input(index),
         (TxFault::TooManyOutputs(found), Wrong::Outputs(count)) => found == count,
         (TxFault::RepeatedKey(found), Wrong::Key(byte)) => found == [byte; 32],
-        (TxFault::RepeatedScript(found), Wrong::Script) => spells(&[TOO_DEEP], found.as_bytes()),
+        (TxFault::RepeatedScript(found), Wrong::Script) => {
+            hex(rt, &[TOO_DEEP]).as_slice() == found.as_bytes().as_slice()
+        }
         (TxFault::TooDeep, Wrong::Deep) => true,
         _ => false,
-    }
+    };
+    check(rt, "a fault", is_wanted);
 }
 
 /// Inputs, signatures, outputs and scripts, and what is wrong with them: of several faults the first in order.
@@ -360,40 +352,28 @@ const FAULTY: &[Faulty] = &[
     (&[0, 0], &[(1, 1), (1, 2)], 0, &[31], Wrong::Input(0)),
 ];
 
-/// What is wrong with those parts, if anything is.
-fn fault_of(alloc: Global, faulty: &Faulty) -> Result<Option<TxFault>, Fail> {
-    let (inputs, signatures, outputs, scripts, _) = *faulty;
-    let told = Told {
-        inputs,
-        signatures,
-        outputs,
-        scripts,
-        ..LEAST
-    };
-    Ok(Tx::new(alloc, parts_of(alloc, told)?).err())
-}
-
 #[test]
-fn faults_of_parts(rt: HostRuntime) -> Result<(), Fail> {
-    for faulty in FAULTY {
-        let found = fault_of(rt.alloc(), faulty)?;
-        check(
-            &rt,
-            "a fault",
-            matches!(found, Some(fault) if is_fault(fault, faulty.4)),
-        );
+fn faults_of_parts(rt: HostRuntime) {
+    for (inputs, signatures, outputs, scripts, want) in FAULTY {
+        let told = Told {
+            inputs: *inputs,
+            signatures: *signatures,
+            outputs: *outputs,
+            scripts: *scripts,
+            ..LEAST
+        };
+        let fault = Tx::new(rt.alloc(), parts_of(&rt, &told)).err();
+        is_fault(&rt, fault.expect(&rt, "a fault"), *want);
     }
-    Ok(())
 }
 
 #[test]
-fn faults_shown(rt: HostRuntime) -> Result<(), Fail> {
+fn faults_shown(rt: HostRuntime) {
     let (many, twice) = (
         TxFault::TooManyOutputs(65537),
         TxFault::RepeatedInput(input(0)),
     );
-    let shown = format!(in rt.alloc(); "{many}; {twice}")?;
+    let shown = format!(in rt.alloc(); "{many}; {twice}").expect(&rt, MEMORY);
     let want = "65537 outputs, where there may be 65536; an input that stands there twice";
     check(&rt, "two faults", shown.as_str() == want);
-    Ok(())
 }

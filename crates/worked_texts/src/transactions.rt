@@ -1,10 +1,9 @@
 //! The texts of two transactions, what is read of them, and their parts.
 
-use super::fixture::{KEY_HASH, NINES, ONES, check, hex, spells};
+use super::fixture::{KEY_HASH, MEMORY, NINES, ONES, boxed, check, hex, is_spelled};
 use cbor::CborFault;
 use ident::{KeyHash, ScriptHash, TxId};
-use std::alloc::Global;
-use std::test::Fail;
+use std::process::Abort;
 use tx::{Address, Credential, Input, KeyWitness, Tx};
 
 /// The body that spends place 0 of the transaction of 32 zero bytes, leaves 910 lovelace to the key of 32 bytes 01, and
@@ -45,32 +44,25 @@ pub const MINTING: &[&str] = &[
     "0181820180 f6",
 ];
 
-/// The transaction that a text is.
-pub fn decoded(alloc: Global, text: &[u8]) -> Result<Tx, CborFault> {
-    Tx::decode(alloc, text)
-}
-
 /// The transaction that a text in parts is.
-pub fn read(alloc: Global, parts: &[&str]) -> Result<Tx, CborFault> {
-    let text = hex(alloc, parts)?;
-    decoded(alloc, &text)
+pub fn read(rt: &(impl Abort + AllocGlobal), parts: &[&str]) -> Tx {
+    Tx::decode(rt.alloc(), &hex(rt, parts)).expect(rt, "a transaction")
 }
 
 /// The transactions of texts in parts.
-pub fn read_all(alloc: Global, texts: &[&[&str]]) -> Result<Vec<Tx>, CborFault> {
-    let mut txs = Vec::new(alloc);
+pub fn read_all(rt: &(impl Abort + AllocGlobal), texts: &[&[&str]]) -> Vec<Tx> {
+    let mut txs = Vec::new(rt.alloc());
     for parts in texts {
-        txs.push(read(alloc, *parts)?)?;
+        txs.push(read(rt, *parts)).expect(rt, MEMORY);
     }
-    Ok(txs)
+    txs
 }
 
-/// Whether a transaction has this text in parts.
-pub fn is_spelled(tx: &Tx, parts: &[&str]) -> bool {
-    match tx.encode() {
-        Ok(text) => spells(parts, &text) && tx.size() == text.len() as u64,
-        Err(_) => false,
-    }
+/// A transaction has this text in parts.
+pub fn has_text(rt: &(impl Abort + AllocGlobal), tx: &Tx, parts: &[&str]) {
+    let text = tx.encode().expect(rt, MEMORY);
+    is_spelled(rt, parts, &text);
+    check(rt, "size", tx.size() == text.len() as u64);
 }
 
 /// An address whose first byte is this and whose others are 9, as far as there is one.
@@ -80,41 +72,31 @@ fn address(first: u8) -> Option<Address> {
     Address::from_bytes(&bytes)
 }
 
-/// Whether the address of this first byte is that of the network and the credential.
-fn is_address(first: u8, network: u8, payment: Credential) -> bool {
-    let Some(found) = address(first) else {
-        return false;
-    };
+/// The address of this first byte is that of the network and the credential.
+fn is_address(rt: &impl Abort, first: u8, network: u8, payment: Credential) {
     let mut bytes = [9; 33];
     bytes[0] = first;
-    found.to_bytes() == bytes
-        && found.network() == network
-        && found.payment() == payment
-        && Address::new(network, payment) == Some(found)
+    let found = address(first).expect(rt, "an address");
+    check(rt, "bytes", found.to_bytes() == bytes);
+    check(rt, "network", found.network() == network);
+    check(rt, "payment", found.payment() == payment);
+    check(rt, "again", Address::new(network, payment) == Some(found));
 }
 
 #[test]
 fn addresses(rt: HostRuntime) {
     let key = Credential::Key(KeyHash::from_bytes([9; 32]));
     let script = Credential::Script(ScriptHash::from_bytes([9; 32]));
-    check(
-        &rt,
-        "keys",
-        is_address(0x60, 0, key) && is_address(0x6f, 15, key),
-    );
-    check(
-        &rt,
-        "scripts",
-        is_address(0x70, 0, script) && is_address(0x7f, 15, script),
-    );
+    for network in [0, 15u8] {
+        is_address(&rt, 0x60 | network, network, key);
+        is_address(&rt, 0x70 | network, network, script);
+    }
     for first in [0x00, 0x50, 0x5f, 0x80, 0xe1, 0xff] {
         check(&rt, "another kind", address(first).is_none());
     }
-    check(
-        &rt,
-        "networks",
-        Address::new(16, key).is_none() && Address::new(255, key).is_none(),
-    );
+    for network in [16, 255] {
+        check(&rt, "no network", Address::new(network, key).is_none());
+    }
 }
 
 /// This place of the transaction of 32 such bytes.
@@ -126,44 +108,30 @@ fn input(transaction: u8, index: u16) -> Input {
 #[test]
 fn order_of_inputs(rt: HostRuntime) {
     check(&rt, "by identifier", input(0, 65535) < input(1, 0));
-    check(
-        &rt,
-        "by place",
-        input(1, 0) < input(1, 1) && input(1, 1) == input(1, 1),
-    );
+    check(&rt, "by place", input(1, 0) < input(1, 1));
+    check(&rt, "equal", input(1, 1) == input(1, 1));
 }
 
 #[test]
 fn key_of_a_signature(rt: HostRuntime) {
     let witness = KeyWitness::new([1; 32], [9; 64]);
-    check(
-        &rt,
-        "its hash",
-        spells(&[KEY_HASH], witness.key_hash().as_bytes()),
-    );
+    is_spelled(&rt, &[KEY_HASH], witness.key_hash().as_bytes());
 }
 
 /// The text of a transaction that spends one input and leaves nothing.
 const SPENDING: &[u8] =
     b"\x83\xa3\x00\x81\x82\x58\x200123456789abcdef0123456789abcdef\x07\x01\x80\x02\x00\xa0\xf6";
 
-/// Whether that transaction is written, or where memory runs out nothing.
-fn is_written_or_nothing(alloc: Global) -> Result<bool, CborFault> {
-    let tx = decoded(alloc, SPENDING)?;
-    let mut out = Vec::new(alloc);
-    match tx.write(&mut out) {
-        Ok(()) => Ok(out.as_slice() == SPENDING),
-        Err(_) => Ok(out.is_empty()),
-    }
-}
-
-/// Holds whichever allocation is refused.
+// Whichever allocation is refused, the transaction isn't read for want of memory, or nothing is written of it.
 #[test]
 fn refused_memory(rt: HostRuntime) {
-    let found = is_written_or_nothing(rt.alloc());
-    check(
-        &rt,
-        "goes round",
-        found == Ok(true) || found == Err(CborFault::OutOfMemory),
-    );
+    let mut out = Vec::new(rt.alloc());
+    match Tx::decode(rt.alloc(), SPENDING) {
+        Ok(tx) => {
+            let is_written = boxed(&rt, tx).write(&mut out).is_ok();
+            let want = if is_written { SPENDING } else { &[] };
+            check(&rt, "goes round", out.as_slice() == want);
+        }
+        Err(fault) => check(&rt, "memory", fault == CborFault::OutOfMemory),
+    }
 }

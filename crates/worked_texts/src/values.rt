@@ -1,37 +1,42 @@
 //! Values and mints that are made of assets in any order, assets that are refused, and what a value holds.
 
-use super::fixture::{ONES, TWOS, check, hex, spells};
+use super::fixture::{MEMORY, ONES, TWOS, boxed, check, hex, is_spelled};
 use ident::ScriptHash;
-use std::alloc::{AllocError, Global};
-use std::test::Fail;
+use std::process::Abort;
 use value::{AssetFault, AssetQuantity, Mint, Policy, Value};
 
 /// Assets, each by the byte that the 32 bytes of its policy are, its name and its quantity.
 fn assets_of<Q: Copy + Drop>(
-    alloc: Global,
+    rt: &(impl Abort + AllocGlobal),
     parts: &[(u8, &[u8], Q)],
-) -> Result<Vec<AssetQuantity<Q>>, AllocError> {
-    let mut assets = Vec::new(alloc);
+) -> Vec<AssetQuantity<Q>> {
+    let mut assets = Vec::new(rt.alloc());
     for (byte, name, quantity) in parts {
-        assets.push(AssetQuantity {
+        let asset = AssetQuantity {
             policy: ScriptHash::from_bytes([*byte; 32]),
-            name: Vec::from_slice(alloc, *name)?,
+            name: Vec::from_slice(rt.alloc(), *name).expect(rt, MEMORY),
             quantity: *quantity,
-        })?;
+        };
+        assets.push(asset).expect(rt, MEMORY);
     }
-    Ok(assets)
+    assets
 }
 
 /// The value of so many lovelace and these assets.
-pub fn value_of(alloc: Global, coin: u64, parts: &[(u8, &[u8], u64)]) -> Result<Value, AssetFault> {
-    let assets = assets_of(alloc, parts)?;
-    Value::new(alloc, coin, assets)
+pub fn value_of(
+    rt: &(impl Abort + AllocGlobal),
+    coin: u64,
+    parts: &[(u8, &[u8], u64)],
+) -> Result<Value, AssetFault> {
+    Value::new(rt.alloc(), coin, assets_of(rt, parts))
 }
 
 /// What mints these assets.
-pub fn mint_of(alloc: Global, parts: &[(u8, &[u8], i64)]) -> Result<Mint, AssetFault> {
-    let assets = assets_of(alloc, parts)?;
-    Mint::new(alloc, assets)
+pub fn mint_of(
+    rt: &(impl Abort + AllocGlobal),
+    parts: &[(u8, &[u8], i64)],
+) -> Result<Mint, AssetFault> {
+    Mint::new(rt.alloc(), assets_of(rt, parts))
 }
 
 /// 33 bytes, of which names are made, the first 32 of them, and the first 31.
@@ -44,12 +49,8 @@ const SHORTER: &[u8] = b"0123456789abcdefghijklmnopqrstu";
 /// An asset by the byte of its policy, its name and its quantity.
 type Held = (u8, &'static [u8], u64);
 
-/// So many lovelace and assets, and the text of their value or what is wrong with them.
-type Made = (
-    u64,
-    &'static [Held],
-    Result<&'static [&'static str], AssetFault>,
-);
+/// So many lovelace and assets, and the text of their value.
+type Made = (u64, &'static [Held], &'static [&'static str]);
 
 /// 5 lovelace and the assets of two policies, of which the first has the empty name and two longer ones.
 const SORTED: &[&str] = &[
@@ -60,224 +61,194 @@ const SORTED: &[&str] = &[
     "a1401b8000000000000000",
 ];
 
-/// The same assets in three orders, coin alone, names of 31 to 33 bytes, quantities of 0, and assets that stand there
-/// twice; of two faults the first.
+/// The same assets in three orders, and 5 of another.
+const ONE_ORDER: &[Held] = &[
+    (1, b"", 1),
+    (1, b"\xff", 24),
+    (1, b"\0\0", 2),
+    (2, b"", 1 << 63),
+];
+
+const OTHER_ORDER: &[Held] = &[
+    (2, b"", 1 << 63),
+    (1, b"\0\0", 2),
+    (1, b"\xff", 24),
+    (1, b"", 1),
+];
+
+const THIRD_ORDER: &[Held] = &[
+    (1, b"\0\0", 2),
+    (2, b"", 1 << 63),
+    (1, b"", 1),
+    (1, b"\xff", 24),
+];
+
+const FIVE: &[Held] = &[(1, b"", 5)];
+
+/// The assets in three orders, others, coin alone, and names of 31 and 32 bytes.
 const VALUES: &[Made] = &[
-    (
-        5,
-        &[
-            (1, b"", 1),
-            (1, b"\xff", 24),
-            (1, b"\0\0", 2),
-            (2, b"", 1 << 63),
-        ],
-        Ok(SORTED),
-    ),
-    (
-        5,
-        &[
-            (2, b"", 1 << 63),
-            (1, b"\0\0", 2),
-            (1, b"\xff", 24),
-            (1, b"", 1),
-        ],
-        Ok(SORTED),
-    ),
-    (
-        5,
-        &[
-            (1, b"\0\0", 2),
-            (2, b"", 1 << 63),
-            (1, b"", 1),
-            (1, b"\xff", 24),
-        ],
-        Ok(SORTED),
-    ),
-    (800, &[(1, b"", 5)], Ok(&["82190320a15820", ONES, "a14005"])),
-    (24, &[], Ok(&["1818"])),
+    (5, ONE_ORDER, SORTED),
+    (5, OTHER_ORDER, SORTED),
+    (5, THIRD_ORDER, SORTED),
+    (800, FIVE, &["82190320a15820", ONES, "a14005"]),
+    (24, &[], &["1818"]),
     (
         1,
         &[(1, LONGEST, 1), (2, LONGEST, 1), (1, SHORTER, 1)],
-        Ok(&[
+        &[
             "8201a25820",
             ONES,
             "a2 581f 303132333435363738396162636465666768696a6b6c6d6e6f707172737475 01",
             "   5820 303132333435363738396162636465666768696a6b6c6d6e6f70717273747576 01 5820",
             TWOS,
             "a1 5820 303132333435363738396162636465666768696a6b6c6d6e6f70717273747576 01",
-        ]),
-    ),
-    (
-        1,
-        &[(1, LONGEST, 1), (1, b"", 0)],
-        Err(AssetFault::ZeroQuantity),
-    ),
-    (
-        1,
-        &[(1, LONGEST, 1), (2, b"", 1), (1, LONGEST, 2)],
-        Err(AssetFault::Repeated),
-    ),
-    (
-        1,
-        &[(1, LONGEST, 0), (1, LONGEST, 0)],
-        Err(AssetFault::ZeroQuantity),
-    ),
-    (
-        1,
-        &[(1, b"", 0), (1, LONG, 1), (1, LONG, 1)],
-        Err(AssetFault::NameTooLong),
+        ],
     ),
 ];
 
-/// Whether a value has this text.
-fn is_spelled(alloc: Global, value: &Value, text: &[&str]) -> bool {
-    let mut out = Vec::new(alloc);
-    value.write(&mut out).is_ok() && spells(text, &out)
-}
+/// Quantities of 0, assets that stand there twice, and names of 33 bytes; of two faults the first.
+const NO_VALUES: &[(&[Held], AssetFault)] = &[
+    (&[(1, LONGEST, 1), (1, b"", 0)], AssetFault::ZeroQuantity),
+    (
+        &[(1, LONGEST, 1), (2, b"", 1), (1, LONGEST, 2)],
+        AssetFault::Repeated,
+    ),
+    (
+        &[(1, LONGEST, 0), (1, LONGEST, 0)],
+        AssetFault::ZeroQuantity,
+    ),
+    (
+        &[(1, b"", 0), (1, LONG, 1), (1, LONG, 1)],
+        AssetFault::NameTooLong,
+    ),
+];
 
-/// Whether the value of so many lovelace and these assets has this text, or this is wrong with them.
-fn is_value(alloc: Global, (coin, assets, want): &Made) -> bool {
-    match (value_of(alloc, *coin, *assets), want) {
-        (Ok(value), Ok(text)) => is_spelled(alloc, &value, *text),
-        (Err(fault), Err(want)) => fault == *want,
-        _ => false,
-    }
+/// A value has this text.
+fn has_text(rt: &(impl Abort + AllocGlobal), value: &Value, text: &[&str]) {
+    let mut out = Vec::new(rt.alloc());
+    value.write(&mut out).expect(rt, MEMORY);
+    is_spelled(rt, text, &out);
 }
 
 #[test]
 fn values_of_assets(rt: HostRuntime) {
-    for made in VALUES {
-        check(&rt, "a value", is_value(rt.alloc(), made));
+    for (coin, assets, text) in VALUES {
+        let value = boxed(&rt, value_of(&rt, *coin, *assets).expect(&rt, "a value"));
+        has_text(&rt, &value, *text);
+    }
+    for (assets, want) in NO_VALUES {
+        let fault = value_of(&rt, 1, *assets).err();
+        check(&rt, "a fault", fault == Some(*want));
     }
 }
 
-/// What is minted, and its text or what is wrong with it.
-type Minted = (
-    &'static [(u8, &'static [u8], i64)],
-    Result<&'static [&'static str], AssetFault>,
-);
-
-/// The least and the greatest of what can be minted, and one under another name; nothing, whose text isn't read again;
-/// and the faults.
-const MINTS: &[Minted] = &[
+/// The least and the greatest of what can be minted, and one under another name; and nothing, whose text isn't read
+/// again.
+const MINTS: &[(&[(u8, &[u8], i64)], &[&str])] = &[
     (
         &[(2, b"b", i64::MAX), (1, b"", -1), (2, b"a", i64::MIN)],
-        Ok(&[
+        &[
             "a25820",
             ONES,
             "a14020 5820",
             TWOS,
             "a2 41613b7fffffffffffffff 41621b7fffffffffffffff",
-        ]),
+        ],
     ),
-    (&[], Ok(&["a0"])),
-    (&[(1, b"", 3), (1, b"", -3)], Err(AssetFault::Repeated)),
-    (&[(1, b"", 0)], Err(AssetFault::ZeroQuantity)),
-    (&[(1, LONG, -1)], Err(AssetFault::NameTooLong)),
+    (&[], &["a0"]),
 ];
 
-/// Whether a mint has this text.
-fn is_minted(alloc: Global, mint: &Mint, text: &[&str]) -> bool {
-    let mut out = Vec::new(alloc);
-    mint.write(&mut out).is_ok() && spells(text, &out)
-}
+/// What mints nothing, for a fault.
+const NO_MINTS: &[(&[(u8, &[u8], i64)], AssetFault)] = &[
+    (&[(1, b"", 3), (1, b"", -3)], AssetFault::Repeated),
+    (&[(1, b"", 0)], AssetFault::ZeroQuantity),
+    (&[(1, LONG, -1)], AssetFault::NameTooLong),
+];
 
-/// Whether what mints these assets has this text, or this is wrong with them.
-fn is_mint(alloc: Global, (assets, want): &Minted) -> bool {
-    match (mint_of(alloc, *assets), want) {
-        (Ok(mint), Ok(text)) => is_minted(alloc, &mint, *text),
-        (Err(fault), Err(want)) => fault == *want,
-        _ => false,
-    }
+/// A mint has this text.
+fn is_minted(rt: &(impl Abort + AllocGlobal), mint: &Mint, text: &[&str]) {
+    let mut out = Vec::new(rt.alloc());
+    mint.write(&mut out).expect(rt, MEMORY);
+    is_spelled(rt, text, &out);
 }
 
 #[test]
 fn mints_of_assets(rt: HostRuntime) {
-    for made in MINTS {
-        check(&rt, "a mint", is_mint(rt.alloc(), made));
+    for (assets, text) in MINTS {
+        let mint = boxed(&rt, mint_of(&rt, *assets).expect(&rt, "a mint"));
+        is_minted(&rt, &mint, *text);
+    }
+    for (assets, want) in NO_MINTS {
+        let fault = mint_of(&rt, *assets).err();
+        check(&rt, "a fault", fault == Some(*want));
     }
 }
 
-/// Whether a policy is that of this byte, with these names and quantities.
-fn holds(policy: &Policy<u64>, byte: u8, tokens: &[(&[u8], u64)]) -> bool {
+/// The policies of the sorted assets, by their byte, with the names and quantities of each.
+const POLICIES: &[(u8, &[(&[u8], u64)])] = &[
+    (1, &[(b"", 1), (b"\xff", 24), (b"\0\0", 2)]),
+    (2, &[(b"", 1 << 63)]),
+];
+
+/// A policy is that of this byte, with these names and quantities.
+fn holds(rt: &impl Abort, policy: &Policy<u64>, byte: u8, tokens: &[(&[u8], u64)]) {
+    check(rt, "policy", *policy.id.as_bytes() == [byte; 32]);
+    check(rt, "names", policy.tokens.len() == tokens.len());
     for (token, (name, quantity)) in policy.tokens.iter().zip(tokens) {
-        if token.name.as_slice() != *name || token.quantity != *quantity {
-            return false;
-        }
-    }
-    policy.tokens.len() == tokens.len() && *policy.id.as_bytes() == [byte; 32]
-}
-
-/// Whether these are both policies with their names and quantities.
-fn are_both(policies: &[Policy<u64>]) -> bool {
-    match policies {
-        [first, second] => {
-            holds(first, 1, &[(b"", 1), (b"\xff", 24), (b"\0\0", 2)])
-                && holds(second, 2, &[(b"", 1 << 63)])
-        }
-        _ => false,
+        check(rt, "name", token.name.as_slice() == *name);
+        check(rt, "quantity", token.quantity == *quantity);
     }
 }
 
+// Both policies with their names and quantities, in order.
 #[test]
-fn value_of_a_text(rt: HostRuntime) -> Result<(), Fail> {
-    let text = hex(rt.alloc(), SORTED)?;
-    let (value, rest) = Value::read(rt.alloc(), &text)?;
+fn value_of_a_text(rt: HostRuntime) {
+    let text = hex(&rt, SORTED);
+    let (value, rest) = Value::read(rt.alloc(), &text).expect(&rt, "a value");
+    let value = boxed(&rt, value);
     check(&rt, "alone", rest.is_empty());
-    check(&rt, "two policies", are_both(value.assets()));
-    Ok(())
+    check(&rt, "two policies", value.assets().len() == 2);
+    for (policy, (byte, tokens)) in value.assets().iter().zip(POLICIES) {
+        holds(&rt, policy, *byte, *tokens);
+    }
 }
 
-/// Whether the values of two lists of assets are equal.
-fn are_equal(alloc: Global, one: &[Held], other: &[Held]) -> bool {
-    match (value_of(alloc, 5, one), value_of(alloc, 5, other)) {
-        (Ok(one), Ok(other)) => one == other,
-        _ => false,
-    }
+/// The values of 5 lovelace and these lists of assets are equal, or they aren't.
+fn are_equal(rt: &(impl Abort + AllocGlobal), one: &[Held], other: &[Held], want: bool) {
+    let one = boxed(rt, value_of(rt, 5, one).expect(rt, "a value"));
+    let other = boxed(rt, value_of(rt, 5, other).expect(rt, "a value"));
+    check(rt, "equal", (*one == *other) == want);
 }
 
 #[test]
 fn equal_values(rt: HostRuntime) {
-    check(
-        &rt,
-        "two orders",
-        are_equal(rt.alloc(), VALUES[1].1, VALUES[2].1),
-    );
-    check(
-        &rt,
-        "others",
-        !are_equal(rt.alloc(), VALUES[1].1, VALUES[3].1),
-    );
-}
-
-/// Whether nothing is minted by no assets.
-fn is_nothing(alloc: Global, nothing: &Mint) -> bool {
-    match mint_of(alloc, &[]) {
-        Ok(made) => made == *nothing,
-        Err(_) => false,
-    }
+    are_equal(&rt, OTHER_ORDER, THIRD_ORDER, true);
+    are_equal(&rt, OTHER_ORDER, FIVE, false);
 }
 
 #[test]
 fn coin_alone_and_nothing_minted(rt: HostRuntime) {
-    let coin = Value::of_coin(rt.alloc(), 24);
-    check(&rt, "coin", is_spelled(rt.alloc(), &coin, &["1818"]));
-    let nothing = Mint::nothing(rt.alloc());
-    check(&rt, "nothing", is_nothing(rt.alloc(), &nothing));
+    has_text(&rt, &boxed(&rt, Value::of_coin(rt.alloc(), 24)), &["1818"]);
+    let made = boxed(&rt, mint_of(&rt, &[]).expect(&rt, "a mint"));
+    let nothing = boxed(&rt, Mint::nothing(rt.alloc()));
+    check(&rt, "nothing", *made == *nothing);
 }
 
-/// How many policies the value of both has, or why there is none.
-fn policies_of_both(alloc: Global) -> Result<usize, AssetFault> {
-    Ok(value_of(alloc, 1, VALUES[0].1)?.assets().len())
+/// How many policies the value of the sorted assets has, or why there is none.
+fn policies_of_both(rt: &(impl Abort + AllocGlobal)) -> Result<usize, AssetFault> {
+    match value_of(rt, 1, ONE_ORDER) {
+        Ok(value) => Ok(value.assets().len()),
+        Err(fault) => Err(fault),
+    }
 }
 
 /// With an allocation refused (`rt try --test --fail-alloc N`) the answer is OutOfMemory, and the next call makes
 /// the value.
 #[test]
 fn refused_memory(rt: HostRuntime) {
-    let mut policies = policies_of_both(rt.alloc());
+    let mut policies = policies_of_both(&rt);
     if policies == Err(AssetFault::OutOfMemory) {
-        policies = policies_of_both(rt.alloc());
+        policies = policies_of_both(&rt);
     }
     check(&rt, "made", policies == Ok(2));
 }

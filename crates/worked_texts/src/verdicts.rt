@@ -1,10 +1,8 @@
 //! Verdicts on payments, whose digests were computed by another SHA-256.
 
-use super::fixture::{KEY_HASH, ONES, check, spells};
+use super::fixture::{KEY_HASH, MEMORY, ONES, boxed, check, is_spelled};
 use super::transactions::{MINTING_BODY, PAYING_BODY, read};
-use cbor::CborFault;
-use std::alloc::Global;
-use std::test::Fail;
+use std::process::Abort;
 use witness_pool::{CheckedTx, SigScheme, TestScheme, plain};
 
 /// The SHA-256 digest of 32 bytes 01 followed by the identifier of the payment, which is the digest of its body.
@@ -87,25 +85,24 @@ pub const SIGNED_MINTING: &[&str] = &[
 ];
 
 /// A payment with its verdicts.
-fn checked<S: SigScheme>(alloc: Global, text: &[&str]) -> Result<CheckedTx<S>, CborFault> {
-    let tx = read(alloc, text)?;
-    Ok(plain::<S>(alloc, tx)?)
+fn checked<S: SigScheme, R: Abort + AllocGlobal>(rt: &R, text: &[&str]) -> Box<CheckedTx<S>> {
+    boxed(
+        rt,
+        plain::<S>(rt.alloc(), read(rt, text)).expect(rt, MEMORY),
+    )
 }
 
-/// Whether the scripts of a copy hold.
-fn holds_copied<S: SigScheme>(checked: &CheckedTx<S>) -> Option<bool> {
-    match checked.try_clone() {
-        Ok(copy) => Some(copy.scripts_hold()),
-        Err(_) => None,
-    }
-}
-
-/// Whether a payment is signed, and whether the scripts of its copy hold.
-fn has_verdicts<S: SigScheme>(alloc: Global, text: &[&str], signed: bool, holding: bool) -> bool {
-    match checked::<S>(alloc, text) {
-        Ok(checked) => checked.is_signed() == signed && holds_copied(&checked) == Some(holding),
-        Err(_) => false,
-    }
+/// A payment is signed so, and the scripts of its copy hold so.
+fn has_verdicts<S: SigScheme, R: Abort + AllocGlobal>(
+    rt: &R,
+    text: &[&str],
+    signed: bool,
+    holding: bool,
+) {
+    let checked = checked::<S, R>(rt, text);
+    check(rt, "signed", checked.is_signed() == signed);
+    let copy = boxed(rt, checked.try_clone().expect(rt, MEMORY));
+    check(rt, "holding", copy.scripts_hold() == holding);
 }
 
 /// Transactions, whether each is signed, and whether its script holds.
@@ -134,30 +131,25 @@ impl SigScheme for Nothing {
 #[test]
 fn verdicts_on_payments(rt: HostRuntime) {
     for (text, signed, holding) in PAYMENTS {
-        let found = has_verdicts::<TestScheme>(rt.alloc(), *text, *signed, *holding);
-        check(&rt, "verdicts", found);
+        has_verdicts::<TestScheme, _>(&rt, *text, *signed, *holding);
     }
-    let found = has_verdicts::<Nothing>(rt.alloc(), SIGNED, false, true);
-    check(&rt, "another scheme", found);
+    has_verdicts::<Nothing, _>(&rt, SIGNED, false, true);
 }
 
-/// Whether the key of a transaction is that of the payment's output.
-pub fn has_key(checked: &CheckedTx<TestScheme>) -> bool {
-    match checked.keys() {
-        [key] => spells(&[KEY_HASH], key.as_bytes()),
-        _ => false,
+/// The one key of a transaction is that of the payment's output.
+pub fn has_key(rt: &(impl Abort + AllocGlobal), checked: &CheckedTx<TestScheme>) {
+    check(rt, "one key", checked.keys().len() == 1);
+    for key in checked.keys() {
+        is_spelled(rt, &[KEY_HASH], key.as_bytes());
     }
 }
 
-/// Whether a payment has its key, its fee, and the signature that the scheme makes.
-fn is_payment(checked: &CheckedTx<TestScheme>) -> bool {
-    let signature = TestScheme::sign(&[1; 32], checked.tx().id().as_bytes());
-    has_key(checked) && checked.tx().fee() == 290 && spells(&[DIGEST, DIGEST], &signature)
-}
-
+// A payment has its key, its fee, and the signature that the scheme makes.
 #[test]
-fn parts_of_a_payment(rt: HostRuntime) -> Result<(), Fail> {
-    let checked = checked::<TestScheme>(rt.alloc(), SIGNED)?;
-    check(&rt, "its parts", is_payment(&checked));
-    Ok(())
+fn parts_of_a_payment(rt: HostRuntime) {
+    let checked = checked::<TestScheme, _>(&rt, SIGNED);
+    has_key(&rt, &checked);
+    check(&rt, "fee", checked.tx().fee() == 290);
+    let signature = TestScheme::sign(&[1; 32], checked.tx().id().as_bytes());
+    is_spelled(&rt, &[DIGEST, DIGEST], &signature);
 }
