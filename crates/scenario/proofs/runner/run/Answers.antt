@@ -7,3 +7,6 @@ returns-in_default-clause-fault g c = none_begun (script_network c.args.genesis)
 
 pub returns-clause-fault : goal.returns-clause-fault
 returns-clause-fault g c = rw c.in-Ok.ensures.genesis at c.run_lines.ensures.fault
+
+pub returns-clause-ok : goal.returns-clause-ok
+returns-clause-ok g c = rw c.in-Ok.ensures.genesis at c.run_lines.ensures.ok
