@@ -1,13 +1,14 @@
 //! Reading and writing blocks: many empty ones, and one of about 1,000,000 bytes.
 
-use crate::telling::Telling;
-use ident::BodyHash;
-use std::alloc::{AllocError, Global};
+use crate::texts::{End, put, put_array, put_output};
+use crate::timing::{Telling, nanos_if, now, print};
+use ident::KeyHash;
+use std::alloc::Global;
 use std::io;
-use std::time::{Duration, Instant};
+use tx::Tx;
 
 /// How many times an empty block is read.
-const EMPTY_COUNT: u32 = 10_000;
+const EMPTY_COUNT: u64 = 10_000;
 
 /// The smallest transaction: no input, no output, no fee, no witness.
 const SMALLEST: &[u8] = b"\x83\xa3\x00\x80\x01\x80\x02\x00\xa0\xf6";
@@ -20,117 +21,130 @@ const LARGE_COUNT: u64 = 61;
 
 const LARGE_OUTPUTS: u64 = 420;
 
-/// The text of the first block with this body.
-fn block_with(alloc: Global, body: &[u8]) -> Result<Vec<u8>, AllocError> {
-    let mut bytes = Vec::with_capacity(alloc, body.len().saturating_add(40))?;
-    bytes.extend_from_slice(b"\x82\x84\x01\x01\xf6\x58\x20")?;
-    bytes.extend_from_slice(BodyHash::of_body(body).as_bytes())?;
-    bytes.extend_from_slice(body)?;
-    Ok(bytes)
+/// What is done with a block.
+#[derive(Clone, Copy)]
+enum Work {
+    Read,
+    /// Its transactions are written as a block again.
+    Write,
 }
 
-/// The block of the smallest transactions.
-fn small_transactions(alloc: Global) -> Result<Vec<u8>, AllocError> {
-    let mut bytes = Vec::new(alloc);
-    cbor::write_array(&mut bytes, SMALL_COUNT)?;
-    for _ in 0..SMALL_COUNT {
-        bytes.extend_from_slice(SMALLEST)?;
-    }
-    block_with(alloc, &bytes)
+/// What the block has that is measured.
+#[derive(Clone, Copy)]
+enum Content {
+    Nothing,
+    SmallTransactions,
+    LargeTransactions,
 }
 
-/// Writes a transaction of many outputs, each to the key of another hash.
-fn write_large(bytes: &mut Vec<u8>) -> Result<(), AllocError> {
-    bytes.extend_from_slice(b"\x83\xa3\x00\x80\x01")?;
-    cbor::write_array(bytes, LARGE_OUTPUTS)?;
+/// Puts a transaction of many outputs behind a text, each to the key of another hash.
+fn put_large(out: &mut Vec<u8>) {
+    put(out, b"\x83\xa3\x00\x80\x01");
+    put_array(out, LARGE_OUTPUTS);
     for output in 0..LARGE_OUTPUTS {
-        bytes.extend_from_slice(b"\x82\x58\x21\x60")?;
-        bytes.extend_from_slice(&[(output % 256) as u8; 32])?;
-        bytes.extend_from_slice(b"\x19\x03\xe8")?;
+        let hash = KeyHash::from_bytes([(output % 256) as u8; 32]);
+        put_output(out, &hash, 1_000);
     }
-    bytes.extend_from_slice(b"\x02\x00\xa0\xf6")
+    put(out, b"\x02\x00\xa0\xf6");
 }
 
-/// The block of the large transactions.
-fn large_transactions(alloc: Global) -> Result<Vec<u8>, AllocError> {
-    let mut bytes = Vec::new(alloc);
-    cbor::write_array(&mut bytes, LARGE_COUNT)?;
-    for _ in 0..LARGE_COUNT {
-        write_large(&mut bytes)?;
+/// The text of the first block, which has the same transaction so many times.
+fn text_of(alloc: Global, count: u64, transaction: &[u8]) -> Vec<u8> {
+    let mut body = Vec::new(alloc);
+    put_array(&mut body, count);
+    for _ in 0..count {
+        put(&mut body, transaction);
     }
-    block_with(alloc, &bytes)
+    End::genesis().next_text(alloc, 0, &body)
+}
+
+/// The text of the first block with this content.
+fn text_with(alloc: Global, content: Content) -> Vec<u8> {
+    match content {
+        Content::Nothing => text_of(alloc, 0, b""),
+        Content::SmallTransactions => text_of(alloc, SMALL_COUNT, SMALLEST),
+        Content::LargeTransactions => {
+            let mut large = Vec::new(alloc);
+            put_large(&mut large);
+            text_of(alloc, LARGE_COUNT, &large)
+        }
+    }
+}
+
+/// Whether the text is that of a block.
+fn is_read(alloc: Global, text: &[u8]) -> bool {
+    block::read(alloc, text).is_ok()
+}
+
+/// How long it takes to read the block so many times.
+fn time_reading(rt: &HostRuntime, text: &[u8], calls: u64) -> Option<u128> {
+    let start = now(rt);
+    let mut all = true;
+    for _ in 0..calls {
+        all &= is_read(rt.alloc(), text);
+    }
+    nanos_if(rt, start, all)
+}
+
+/// How long it takes to write a block of these transactions so many times.
+fn time_writing(rt: &HostRuntime, txs: &[Tx], calls: u64) -> Option<u128> {
+    let start = now(rt);
+    let mut all = true;
+    for _ in 0..calls {
+        all &= block::write(rt.alloc(), 1, 1, None, txs).is_ok();
+    }
+    nanos_if(rt, start, all)
+}
+
+/// The same of the transactions of the block of a text.
+fn time_writing_again(rt: &HostRuntime, text: &[u8], calls: u64) -> Option<u128> {
+    let block = block::read(rt.alloc(), text).ok()?;
+    time_writing(rt, block.transactions(), calls)
+}
+
+/// How long it takes to read the block of a text, or to write it.
+fn time_work(rt: &HostRuntime, work: Work, text: &[u8], calls: u64) -> Option<u128> {
+    match work {
+        Work::Read => time_reading(rt, text, calls),
+        Work::Write => time_writing_again(rt, text, calls),
+    }
+}
+
+/// Measures how long it takes to read or to write a block of this content, so many times in each repetition.
+fn measure_work(
+    rt: &HostRuntime,
+    telling: Telling,
+    name: &str,
+    work: Work,
+    content: Content,
+    count: u64,
+) -> io::Result<()> {
+    let calls = telling.repetitions().saturating_mul(count);
+    let text = text_with(rt.alloc(), content);
+    let nanos = time_work(rt, work, &text, calls);
+    print(rt, telling, name, text.len() as u64, calls, nanos)
 }
 
 /// Runs each measurement, and prints its name, or what it took.
 pub fn measure(rt: &HostRuntime, telling: Telling) -> io::Result<()> {
-    let empty = block_with(rt.alloc(), b"\x80")?;
-    measure_reading(rt, telling, "read_empty_blocks", EMPTY_COUNT, &empty)?;
-    let small = small_transactions(rt.alloc())?;
-    measure_reading(rt, telling, "read_small_transactions", 1, &small)?;
-    let large = large_transactions(rt.alloc())?;
-    measure_reading(rt, telling, "read_large_transactions", 1, &large)?;
-    measure_writing(rt, telling, "write_transactions", &large)
-}
-
-/// Reads the block so many times in each repetition.
-fn measure_reading(
-    rt: &HostRuntime,
-    telling: Telling,
-    name: &str,
-    count: u32,
-    bytes: &[u8],
-) -> io::Result<()> {
-    let start = Instant::now(rt)?;
-    for _ in 0..telling.repetitions() {
-        for _ in 0..count {
-            if block::read(rt.alloc(), bytes).is_err() {
-                return println!(rt; "{name}: not read");
-            }
-        }
-    }
-    let elapsed = start.elapsed(rt)?;
-    print(
+    let (read, write) = (Work::Read, Work::Write);
+    let large = Content::LargeTransactions;
+    measure_work(
         rt,
         telling,
-        name,
-        bytes.len().saturating_mul(count as usize),
-        elapsed,
-    )
-}
-
-/// Writes the transactions of the block as a block again, once in each repetition.
-fn measure_writing(rt: &HostRuntime, telling: Telling, name: &str, bytes: &[u8]) -> io::Result<()> {
-    let Ok(block) = block::read(rt.alloc(), bytes) else {
-        return println!(rt; "{name}: not read");
-    };
-    let start = Instant::now(rt)?;
-    for _ in 0..telling.repetitions() {
-        if block::write(rt.alloc(), 1, 1, None, block.transactions()).is_err() {
-            return println!(rt; "{name}: not written");
-        }
-    }
-    let elapsed = start.elapsed(rt)?;
-    print(rt, telling, name, bytes.len(), elapsed)
-}
-
-/// The name of a measurement, or what it took.
-fn print(
-    rt: &HostRuntime,
-    telling: Telling,
-    name: &str,
-    bytes: usize,
-    elapsed: Duration,
-) -> io::Result<()> {
-    if telling == Telling::Names {
-        return println!(rt; "{name}");
-    }
-    let count = telling.repetitions();
-    let nanos = elapsed
-        .as_nanos()
-        .checked_div(u128::from(count))
-        .unwrap_or(0);
-    let megabytes = (bytes as u128 * 1000).checked_div(nanos).unwrap_or(0);
-    println!(rt;
-        "{name}: {bytes} bytes, {count} repetitions, {nanos} ns a repetition, {megabytes} MB/s"
-    )
+        "read_empty_blocks",
+        read,
+        Content::Nothing,
+        EMPTY_COUNT,
+    )?;
+    measure_work(
+        rt,
+        telling,
+        "read_small_transactions",
+        read,
+        Content::SmallTransactions,
+        1,
+    )?;
+    measure_work(rt, telling, "read_large_transactions", read, large, 1)?;
+    measure_work(rt, telling, "write_transactions", write, large, 1)
 }

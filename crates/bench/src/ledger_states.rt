@@ -1,222 +1,140 @@
 //! Blocks that are applied to states of more and more unspent outputs.
 
+use crate::networks::{NEAR, SPENT_COUNT, genesis};
+use crate::texts::{Growing, genesis_id, put_payments};
+use crate::timing::{Telling, nanos_if, now, print};
 use block::CheckedBlock;
-use genesis::Genesis;
-use ident::{KeyHash, TxId};
 use ledger::{LedgerState, apply_block};
-use std::alloc::{AllocError, Global};
+use std::alloc::Global;
 use std::io;
-use std::time::Instant;
-use timelock::Interval;
-use tx::{Address, Credential, Input, KeyWitness, Output, Tx, TxParts};
-use value::{Mint, Value};
-use witness_pool::{SigScheme, TestScheme};
+use witness_pool::TestScheme;
 
-/// The key to which everything is paid, and which signs.
-const KEY: [u8; 32] = [1; 32];
+/// How many times a block is applied while it is measured.
+const MEASURED: u64 = 100;
 
-/// What the network asks: no fee, and no least output.
-const NUMBERS: &str =
-    "network = 0\nk = 10\nmin_fee_a = 0\nmin_fee_b = 0\nmin_utxo = 0\nmax_tx_size = 65536\n\
-max_body_size = 1048000\nmax_volatile = 100\nmax_mempool = 100\n";
+/// How many transactions the blocks have, and under which name they are measured.
+const BLOCKS: [(&str, u16); 3] = [
+    ("apply_block of no transaction on", 0),
+    ("apply_block of 1 transaction on", 1),
+    ("apply_block of 100 transactions on", SPENT_COUNT),
+];
 
-/// The output of the genesis from which all further ones are made.
-const SOURCE: &str = "[[output]]\n\
-key = \"0101010101010101010101010101010101010101010101010101010101010101\"\ncoin = 1000000000000\n";
-
-/// An output of the genesis that is spent while it is measured.
-const SPENT: &str = "[[output]]\n\
-key = \"0101010101010101010101010101010101010101010101010101010101010101\"\ncoin = 1000\n";
-
-/// How many of these there are.
-const SPENT_COUNT: u16 = 100;
-
-/// How many outputs a transaction makes that makes the state greater.
-const MADE: u64 = 1_000;
-
-/// Puts the outputs of the genesis behind a text.
-fn put_outputs(text: &mut String) -> Result<(), AllocError> {
-    text.push_str(SOURCE)?;
-    for _ in 0..SPENT_COUNT {
-        text.push_str(SPENT)?;
-    }
-    Ok(())
+/// The state of the genesis. In a box it is dropped by a call, which keeps the proofs of what owns it short.
+fn opening(alloc: Global) -> Option<Box<LedgerState>> {
+    let genesis = genesis(alloc, NEAR)?;
+    let state = LedgerState::new(alloc, &genesis).ok();
+    Box::new(alloc, state?).ok()
 }
 
-/// The text of the genesis.
-fn genesis_text(alloc: Global) -> Result<String, AllocError> {
-    let mut text = String::new(alloc);
-    text.push_str(NUMBERS)?;
-    put_outputs(&mut text)?;
-    Ok(text)
+/// The block of a text.
+fn block_of(alloc: Global, text: &[u8]) -> Option<Box<CheckedBlock<TestScheme>>> {
+    let block = CheckedBlock::read(alloc, text).ok()?;
+    Box::new(alloc, block).ok()
 }
 
-/// The state of the genesis.
-fn opening(alloc: Global) -> Option<LedgerState> {
-    let text = genesis_text(alloc).ok()?;
-    let genesis = Genesis::from_toml(alloc, text.as_str()).ok()?;
-    LedgerState::new(alloc, &genesis).ok()
+/// The state after a block.
+fn after(
+    alloc: Global,
+    state: &LedgerState,
+    block: &CheckedBlock<TestScheme>,
+) -> Option<Box<LedgerState>> {
+    let after = apply_block(state, block).ok()?;
+    Box::new(alloc, after).ok()
 }
 
-/// Puts outputs into parts: one of so much lovelace, and so many of 1 lovelace after it.
-fn put_paid(alloc: Global, parts: &mut TxParts, coin: u64, ones: u64) -> Option<()> {
-    let address = Address::new(0, Credential::Key(KeyHash::of_key(&KEY)))?;
-    let value = Value::of_coin(alloc, coin);
-    parts.outputs.push(Output { address, value }).ok()?;
-    for _ in 0..ones {
-        let value = Value::of_coin(alloc, 1);
-        parts.outputs.push(Output { address, value }).ok()?;
+/// Applies a block, and answers whether it can be applied. The state stays.
+fn is_applied(state: &LedgerState, block: &CheckedBlock<TestScheme>) -> bool {
+    apply_block(state, block).is_ok()
+}
+
+/// Applies a block of one transaction that makes outputs.
+fn grow(alloc: Global, growing: &mut Growing, state: &LedgerState) -> Option<Box<LedgerState>> {
+    let text = growing.next_text(alloc);
+    let block = block_of(alloc, &text)?;
+    after(alloc, state, &block)
+}
+
+/// Grows until so many outputs are unspent.
+fn grow_to(
+    alloc: Global,
+    growing: &mut Growing,
+    state: &mut Box<LedgerState>,
+    pairs: usize,
+) -> Option<()> {
+    for _ in 0..pairs {
+        if state.utxo().len() >= pairs {
+            return Some(());
+        }
+        *state = grow(alloc, growing, state)?;
     }
     Some(())
 }
 
-/// Puts the signature of this identifier into parts.
-fn put_signature(parts: &mut TxParts, id: TxId) -> Option<()> {
-    let witness = KeyWitness::new(KEY, TestScheme::sign(&KEY, id.as_bytes()));
-    parts.signatures.push(witness).ok()
-}
-
-/// Parts of nothing.
-fn nothing(alloc: Global) -> TxParts {
-    TxParts {
-        inputs: Vec::new(alloc),
-        outputs: Vec::new(alloc),
-        fee: 0,
-        interval: Interval {
-            start: None,
-            end: None,
-        },
-        mint: Mint::nothing(alloc),
-        signatures: Vec::new(alloc),
-        scripts: Vec::new(alloc),
-    }
-}
-
-/// A payment, signed for this identifier: what it spends, how much lovelace its first output holds, and how many others
-/// of 1 lovelace there are.
-fn made(alloc: Global, input: Input, coin: u64, ones: u64, id: TxId) -> Option<Tx> {
-    let mut parts = nothing(alloc);
-    parts.inputs.push(input).ok()?;
-    put_paid(alloc, &mut parts, coin, ones)?;
-    put_signature(&mut parts, id)?;
-    Tx::new(alloc, parts).ok()
-}
-
-/// The payment, signed for its own identifier.
-pub fn payment(alloc: Global, input: Input, coin: u64, ones: u64) -> Option<Tx> {
-    let id = made(alloc, input, coin, ones, TxId::from_bytes([0; 32]))?.id();
-    made(alloc, input, coin, ones, id)
-}
-
-/// The output of this index of a transaction.
-pub fn output_of(transaction: TxId, index: u16) -> Input {
-    Input { transaction, index }
-}
-
-/// The block of these transactions after a state.
-fn next_block(alloc: Global, state: &LedgerState, txs: &[Tx]) -> Option<CheckedBlock<TestScheme>> {
-    let tip = state.tip();
-    let previous = if tip.number == 0 {
-        None
-    } else {
-        Some(tip.hash)
-    };
-    let number = tip.number.saturating_add(1);
-    let slot = state.slot().saturating_add(1);
-    let text = block::write(alloc, number, slot, previous, txs).ok()?;
-    CheckedBlock::read(alloc, &text).ok()
-}
-
-/// A state, and the output from which further ones are made, with how much lovelace it holds.
-#[derive(Drop)]
-struct Growing {
-    state: LedgerState,
-    source: Input,
-    coin: u64,
-}
-
-/// Applies a block of one transaction that makes outputs of the source.
-fn grow(alloc: Global, growing: &Growing) -> Option<Growing> {
-    let coin = growing.coin.checked_sub(MADE)?;
-    let tx = payment(alloc, growing.source, coin, MADE)?;
-    let source = output_of(tx.id(), 0);
-    let block = next_block(alloc, &growing.state, &[tx])?;
-    let state = apply_block(&growing.state, &block).ok()?;
-    Some(Growing {
-        state,
-        source,
-        coin,
-    })
-}
-
-/// Grows until so many outputs are unspent.
-fn grow_to(alloc: Global, growing: Growing, pairs: usize) -> Option<Growing> {
-    let mut growing = growing;
-    for _ in 0..pairs {
-        if growing.state.utxo().len() >= pairs {
-            return Some(growing);
-        }
-        growing = grow(alloc, &growing)?;
-    }
-    Some(growing)
-}
-
-/// The block of so many transactions, each of which spends an output of the genesis.
-fn block_of(alloc: Global, state: &LedgerState, count: u16) -> Option<CheckedBlock<TestScheme>> {
+/// The block after a state of so many transactions, each of which spends an output of the genesis.
+fn block_after(
+    alloc: Global,
+    growing: Growing,
+    count: u16,
+) -> Option<Box<CheckedBlock<TestScheme>>> {
     let mut txs = Vec::new(alloc);
-    for index in 0..count {
-        let input = output_of(TxId::from_bytes([0; 32]), index.saturating_add(1));
-        txs.push(payment(alloc, input, 1_000, 0)?).ok()?;
-    }
-    next_block(alloc, state, &txs)
+    put_payments(alloc, &mut txs, genesis_id(), 1_000, count);
+    let mut end = growing.end;
+    block_of(alloc, &end.next_of(alloc, &txs))
 }
 
-/// Applies the block many times to the same state, and prints what it took.
-fn measure_block<S: SigScheme>(
+/// How long it takes to apply the block many times to the same state.
+fn time_applying(
     rt: &HostRuntime,
     state: &LedgerState,
-    block: &CheckedBlock<S>,
-) -> io::Result<()> {
-    let pairs = state.utxo().len();
-    let count = block.transactions().len();
-    let repetitions = 100;
-    let start = Instant::now(rt)?;
-    for _ in 0..repetitions {
-        if apply_block(state, block).is_err() {
-            return println!(rt; "apply_block: not applied");
-        }
+    block: &CheckedBlock<TestScheme>,
+) -> Option<u128> {
+    let start = now(rt);
+    let mut all = true;
+    for _ in 0..MEASURED {
+        all &= is_applied(state, block);
     }
-    let nanos = start.elapsed(rt)?.as_nanos() / repetitions;
-    println!(rt; "apply_block: {count} transactions on {pairs} outputs, {nanos} ns a repetition")
+    nanos_if(rt, start, all)
+}
+
+/// The same for the block of so many transactions.
+fn time_block(rt: &HostRuntime, state: &LedgerState, growing: Growing, count: u16) -> Option<u128> {
+    let block = block_after(rt.alloc(), growing, count)?;
+    time_applying(rt, state, &block)
 }
 
 /// Measures blocks of no, one and a hundred transactions.
-fn measure_state(rt: &HostRuntime, state: &LedgerState) -> io::Result<()> {
-    for count in [0, 1, SPENT_COUNT] {
-        match block_of(rt.alloc(), state, count) {
-            Some(block) => measure_block(rt, state, &block)?,
-            None => println!(rt; "apply_block: no block")?,
-        }
+fn measure_state(rt: &HostRuntime, state: &LedgerState, growing: Growing) -> io::Result<()> {
+    let pairs = state.utxo().len() as u64;
+    for &(name, count) in &BLOCKS {
+        let nanos = time_block(rt, state, growing, count);
+        print(rt, Telling::Times, name, pairs, MEASURED, nanos)?;
     }
     Ok(())
 }
 
-/// Runs each measurement on states of about 10^2, 10^4, 10^5 and 10^6 unspent outputs.
-pub fn measure(rt: &HostRuntime) -> io::Result<()> {
-    let Some(state) = opening(rt.alloc()) else {
-        return println!(rt; "apply_block: no genesis");
-    };
-    let mut growing = Growing {
-        state,
-        source: output_of(TxId::from_bytes([0; 32]), 0),
-        coin: 1_000_000_000_000,
-    };
+/// Runs each measurement on states of about 10^2, 10^4, 10^5 and 10^6 unspent outputs, of which this is the first.
+fn measure_from(rt: &HostRuntime, state: &mut Box<LedgerState>) -> io::Result<()> {
+    let mut growing = Growing::genesis();
     for pairs in [100, 10_000, 100_000, 1_000_000] {
-        growing = match grow_to(rt.alloc(), growing, pairs) {
-            Some(grown) => grown,
-            None => return println!(rt; "apply_block: not applied"),
-        };
-        measure_state(rt, &growing.state)?;
+        if grow_to(rt.alloc(), &mut growing, state, pairs).is_none() {
+            return print(
+                rt,
+                Telling::Times,
+                "apply_block on",
+                pairs as u64,
+                MEASURED,
+                None,
+            );
+        }
+        measure_state(rt, state, growing)?;
     }
     Ok(())
+}
+
+/// Runs each measurement, and prints what it took.
+pub fn measure(rt: &HostRuntime) -> io::Result<()> {
+    match opening(rt.alloc()) {
+        Some(mut state) => measure_from(rt, &mut state),
+        None => print(rt, Telling::Times, "apply_block on", 0, MEASURED, None),
+    }
 }

@@ -4,45 +4,89 @@
 
 mod arrivals;
 mod blocks;
+mod cores;
 mod following;
 mod heights;
 mod keys;
 mod ledger_states;
 mod maps;
+mod networks;
 mod pools;
 mod scripts;
-mod telling;
+mod texts;
+mod timing;
+mod waiting;
 
-use crate::telling::Telling;
+use crate::timing::Telling;
 use std::{env, io};
 
-fn main(rt: HostRuntime) -> io::Result<()> {
-    let words: Vec<String> = env::args(&rt)?.collect(rt.alloc())?;
-    for word in &words {
-        match word.as_str() {
-            "persistent_map" => return maps::measure(&rt),
-            "blocks" => return blocks::measure(&rt, Telling::Times),
-            "ledger" => return ledger_states::measure(&rt),
-            "scripts" => return scripts::measure(&rt),
-            "arrivals" => return arrivals::measure(&rt),
-            "followers" => return following::measure(&rt),
-            "pools" => {
-                let measured = pools::measure(&rt, rt.alloc(), Telling::Times)?;
-                return pools::print(&rt, Telling::Times, measured);
-            }
-            "heights" => {
-                let measured = heights::measure(&rt, rt.alloc())?;
-                return heights::print(&rt, Telling::Times, measured);
-            }
-            _ => {}
+/// What is measured.
+#[derive(Clone, Copy)]
+enum Asked {
+    Maps,
+    Blocks,
+    Ledger,
+    Scripts,
+    Arrivals,
+    Followers,
+    Mempool,
+    Pools,
+    Heights,
+    /// What is measured once, to see that it can be.
+    Names,
+}
+
+/// What a word asks for, if it is one of these.
+fn asked_by(word: &str) -> Option<Asked> {
+    match word {
+        "persistent_map" => Some(Asked::Maps),
+        "blocks" => Some(Asked::Blocks),
+        "ledger" => Some(Asked::Ledger),
+        "scripts" => Some(Asked::Scripts),
+        "arrivals" => Some(Asked::Arrivals),
+        "followers" => Some(Asked::Followers),
+        "mempool" => Some(Asked::Mempool),
+        "pools" => Some(Asked::Pools),
+        "heights" => Some(Asked::Heights),
+        _ => None,
+    }
+}
+
+/// What the first of the words asks for that asks for something.
+fn asked_by_any(words: &[String]) -> Asked {
+    for word in words {
+        if let Some(asked) = asked_by(word.as_str()) {
+            return asked;
         }
     }
-    blocks::measure(&rt, Telling::Names)?;
-    let verdicts = pools::measure(&rt, rt.alloc(), Telling::Names)?;
-    pools::print(&rt, Telling::Names, verdicts)?;
-    heights::print(&rt, Telling::Names, heights::measure(&rt, rt.alloc())?)?;
-    println!(rt;
-        "to measure: bench persistent_map, bench blocks, bench ledger, bench scripts, bench pools, \
-bench heights, bench arrivals, bench followers"
-    )
+    Asked::Names
+}
+
+/// What the program is asked for.
+fn read_asked(rt: &HostRuntime) -> io::Result<Asked> {
+    let words: Vec<String> = env::args(rt)?.collect(rt.alloc())?;
+    Ok(asked_by_any(&words))
+}
+
+fn main(rt: HostRuntime) -> io::Result<()> {
+    match read_asked(&rt)? {
+        Asked::Maps => maps::measure(&rt),
+        Asked::Blocks => blocks::measure(&rt, Telling::Times),
+        Asked::Ledger => ledger_states::measure(&rt),
+        Asked::Scripts => scripts::measure(&rt),
+        Asked::Arrivals => arrivals::measure(&rt),
+        Asked::Followers => following::measure(&rt),
+        Asked::Mempool => waiting::measure(&rt),
+        Asked::Pools => pools::measure(&rt, rt.alloc(), Telling::Times),
+        Asked::Heights => heights::measure(&rt, rt.alloc(), Telling::Times),
+        Asked::Names => {
+            blocks::measure(&rt, Telling::Names)?;
+            pools::measure(&rt, rt.alloc(), Telling::Names)?;
+            heights::measure(&rt, rt.alloc(), Telling::Names)?;
+            println!(rt;
+                "to measure: bench persistent_map, bench blocks, bench ledger, bench scripts, bench pools, \
+bench heights, bench arrivals, bench followers, bench mempool"
+            )
+        }
+    }
 }

@@ -1,36 +1,16 @@
 //! Verdicts on many payments, one after the other and by the workers of a pool.
 
-use crate::ledger_states::{output_of, payment};
-use crate::telling::Telling;
-use ident::TxId;
+use crate::texts::{genesis_id, put_payments};
+use crate::timing::{Telling, nanos_if, now, print};
 use std::alloc::{AllocError, Global};
 use std::io;
+use std::rt::Clock;
 use std::thread::Threads;
-use std::time::{Clock, Instant};
 use tx::Tx;
 use witness_pool::{CheckedTx, OpenGate, Pool, TestScheme, plain};
 
 /// How many payments there are.
 const COUNT: u16 = 1_000;
-
-/// Payments with one signature each, which spend outputs of the genesis.
-fn payments(alloc: Global) -> Option<Vec<Tx>> {
-    let mut txs = Vec::new(alloc);
-    for index in 0..COUNT {
-        let input = output_of(TxId::from_bytes([0; 32]), index);
-        txs.push(payment(alloc, input, 1_000, 0)?).ok()?;
-    }
-    Some(txs)
-}
-
-/// The same transactions once more.
-fn copies(alloc: Global, txs: &[Tx]) -> Result<Vec<Tx>, AllocError> {
-    let mut copies = Vec::with_capacity(alloc, txs.len())?;
-    for tx in txs {
-        copies.push(tx.try_clone()?)?;
-    }
-    Ok(copies)
-}
 
 /// Who gives the verdicts.
 #[derive(Clone, Copy)]
@@ -49,88 +29,124 @@ const JUDGES: [(&str, Judge); 4] = [
     ("Pool::check by 4 workers", Judge::Pool(4)),
 ];
 
-/// The transactions with their verdicts, one after the other.
-fn checked_plainly(alloc: Global, txs: Vec<Tx>) -> Result<Vec<CheckedTx<TestScheme>>, AllocError> {
-    let mut checked = Vec::with_capacity(alloc, txs.len())?;
-    for tx in txs {
-        checked.push(plain(alloc, tx)?)?;
-    }
-    Ok(checked)
+/// Puts the transaction of a text behind the others.
+fn put_tx(alloc: Global, txs: &mut Vec<Tx>, text: &[u8]) -> Option<()> {
+    let tx = Tx::decode(alloc, text).ok()?;
+    txs.push(tx).ok()
 }
 
-/// The transactions with their verdicts, if memory lasts.
+/// The transactions of these texts, as far as memory lasts.
+fn txs_of(alloc: Global, texts: &[Vec<u8>]) -> Vec<Tx> {
+    let mut txs = Vec::new(alloc);
+    for text in texts {
+        let _ = put_tx(alloc, &mut txs, text);
+    }
+    txs
+}
+
+/// Puts a transaction with its verdict behind the others.
+fn put_checked(
+    alloc: Global,
+    checked: &mut Vec<CheckedTx<TestScheme>>,
+    tx: Tx,
+) -> Result<(), AllocError> {
+    let tx = plain(alloc, tx)?;
+    Ok(checked.push(tx)?)
+}
+
+/// The transactions with their verdicts, one after the other, as far as memory lasts.
+fn checked_plainly(alloc: Global, txs: Vec<Tx>) -> Vec<CheckedTx<TestScheme>> {
+    let mut checked = Vec::new(alloc);
+    let _ = checked.reserve(txs.len());
+    for tx in txs {
+        let _ = put_checked(alloc, &mut checked, tx);
+    }
+    checked
+}
+
+/// The transactions with their verdicts, or fewer where memory runs out.
 fn checked<R: Threads + Sync>(
     rt: &R,
     alloc: Global,
     judge: Judge,
     txs: Vec<Tx>,
-) -> Option<Vec<CheckedTx<TestScheme>>> {
+) -> Vec<CheckedTx<TestScheme>> {
     match judge {
-        Judge::Plain => checked_plainly(alloc, txs).ok(),
-        Judge::Pool(workers) => Pool::new(OpenGate).check(rt, alloc, workers, txs).ok(),
+        Judge::Plain => checked_plainly(alloc, txs),
+        Judge::Pool(workers) => match Pool::new(OpenGate).check(rt, alloc, workers, txs) {
+            Ok(checked) => checked,
+            Err(_) => Vec::new(alloc),
+        },
     }
 }
 
-/// Gives the verdicts so many times, and tells how many nanoseconds that took together, or none where a verdict is
-/// missing. The making of the copies isn't counted, nor is their end.
-fn measure_judge<R: Threads + Clock + Sync>(
+/// How many are signed.
+fn signed(txs: &[CheckedTx<TestScheme>]) -> u16 {
+    let mut signed = 0u16;
+    for tx in txs {
+        if tx.is_signed() {
+            signed = signed.saturating_add(1);
+        }
+    }
+    signed
+}
+
+/// How long it takes to give the verdicts. The making of the transactions isn't counted, nor is their end.
+fn time_once<R: Threads + Clock + Sync>(
     rt: &R,
     alloc: Global,
-    repetitions: u32,
     judge: Judge,
-    txs: &[Tx],
-) -> io::Result<Option<u128>> {
-    let mut total = 0u128;
-    for _ in 0..repetitions {
-        let copies = copies(alloc, txs)?;
-        let start = Instant::now(rt)?;
-        let Some(checked) = checked(rt, alloc, judge, copies) else {
-            return Ok(None);
-        };
-        total = total.saturating_add(start.elapsed(rt)?.as_nanos());
-        if !checked.iter().all(|tx| tx.is_signed()) {
-            return Ok(None);
-        }
+    texts: &[Vec<u8>],
+) -> Option<u128> {
+    let txs = txs_of(alloc, texts);
+    let start = now(rt);
+    let checked = checked(rt, alloc, judge, txs);
+    let nanos = nanos_if(rt, start, true);
+    if signed(&checked) == COUNT {
+        nanos
+    } else {
+        None
     }
-    Ok(Some(total))
 }
 
-/// The measurements, each with its name and the nanoseconds of all repetitions. Fewer where one can't be made.
-pub fn measure<R: Threads + Clock + Sync>(
+/// How long it takes to give them so many times.
+fn time_judge<R: Threads + Clock + Sync>(
+    rt: &R,
+    alloc: Global,
+    calls: u64,
+    judge: Judge,
+    texts: &[Vec<u8>],
+) -> Option<u128> {
+    let mut all: u128 = 0;
+    for _ in 0..calls {
+        all = all.saturating_add(time_once(rt, alloc, judge, texts)?);
+    }
+    Some(all)
+}
+
+/// Measures who gives verdicts on payments with one signature each, which spend outputs of the genesis.
+fn measure_judge<R: Threads + Clock + Print + Sync>(
     rt: &R,
     alloc: Global,
     telling: Telling,
-) -> io::Result<Vec<(&'static str, u128)>> {
-    let mut measured = Vec::new(alloc);
-    let Some(txs) = payments(alloc) else {
-        return Ok(measured);
-    };
-    for (name, judge) in JUDGES {
-        let total = measure_judge(rt, alloc, telling.repetitions(), judge, &txs)?;
-        if let Some(nanos) = total {
-            measured.push((name, nanos))?;
-        }
-    }
-    Ok(measured)
+    name: &str,
+    judge: Judge,
+) -> io::Result<()> {
+    let mut texts = Vec::new(alloc);
+    put_payments(alloc, &mut texts, genesis_id(), 1_000, COUNT);
+    let calls = telling.repetitions();
+    let nanos = time_judge(rt, alloc, calls, judge, &texts);
+    print(rt, telling, name, u64::from(COUNT), calls, nanos)
 }
 
-/// The names of the measurements, or what they took.
-pub fn print(
-    rt: &HostRuntime,
+/// Runs each measurement, and prints its name, or what it took.
+pub fn measure<R: Threads + Clock + Print + Sync>(
+    rt: &R,
+    alloc: Global,
     telling: Telling,
-    measured: Vec<(&'static str, u128)>,
 ) -> io::Result<()> {
-    let count = telling.repetitions();
-    for (name, total) in measured {
-        let nanos = total.checked_div(u128::from(count)).unwrap_or(0);
-        match telling {
-            Telling::Names => println!(rt; "{name}")?,
-            Telling::Times => {
-                println!(rt;
-                    "{name}: {COUNT} transactions, {count} repetitions, {nanos} ns a repetition"
-                )?
-            }
-        }
+    for &(name, judge) in &JUDGES {
+        measure_judge(rt, alloc, telling, name, judge)?;
     }
     Ok(())
 }

@@ -1,9 +1,9 @@
 //! Scripts of more and more blocks, each of ten payments.
 
+use crate::timing::{Telling, nanos_if, now, print};
 use genesis::Genesis;
-use std::alloc::{AllocError, Global};
+use std::alloc::Global;
 use std::io;
-use std::time::Instant;
 
 /// A network without fees, and the output that is paid on and on.
 const NETWORK: &str =
@@ -18,64 +18,62 @@ const KEY: &str = "key K 0101010101010101010101010101010101010101010101010101010
 const PAYMENTS: u64 = 10;
 
 /// Puts the lines of the payment of this number into a script: it spends what the one before made.
-fn put_payment(script: &mut String, number: u64) -> Result<(), AllocError> {
-    match number.checked_sub(1) {
-        Some(before) => write!(script, "tx T{number}\nin T{before} 0\n")?,
-        None => write!(script, "tx T{number}\nin genesis 0\n")?,
-    }
-    script.push_str("out key K 1000\nsign K\nend\n")
+fn put_payment(script: &mut String, number: u64) {
+    let _ = match number.checked_sub(1) {
+        Some(before) => write!(script, "tx T{number}\nin T{before} 0\n"),
+        None => write!(script, "tx T{number}\nin genesis 0\n"),
+    };
+    let _ = script.push_str("out key K 1000\nsign K\nend\n");
 }
 
 /// Puts the lines of a block of this number with its payments into a script.
-fn put_block(script: &mut String, number: u64) -> Result<(), AllocError> {
+fn put_block(script: &mut String, number: u64) {
     let first = number.saturating_mul(PAYMENTS);
     let behind = first.saturating_add(PAYMENTS);
     for payment in first..behind {
-        put_payment(script, payment)?;
+        put_payment(script, payment);
     }
-    match number.checked_sub(1) {
-        Some(parent) => write!(script, "block B{number} B{parent} {number}")?,
-        None => write!(script, "block B{number} genesis {number}")?,
-    }
+    let _ = match number.checked_sub(1) {
+        Some(parent) => write!(script, "block B{number} B{parent} {number}"),
+        None => write!(script, "block B{number} genesis {number}"),
+    };
     for payment in first..behind {
-        write!(script, " T{payment}")?;
+        let _ = write!(script, " T{payment}");
     }
-    write!(script, "\narrive B{number}\n")
+    let _ = write!(script, "\narrive B{number}\n");
 }
 
-/// A script of so many blocks.
-fn script_of(alloc: Global, blocks: u64) -> Result<String, AllocError> {
+/// A script of so many blocks. Where memory runs out it is cut short, and has a fault or prints nothing.
+fn script_of(alloc: Global, blocks: u64) -> String {
     let mut script = String::new(alloc);
-    script.push_str(KEY)?;
+    let _ = script.push_str(KEY);
     for number in 0..blocks {
-        put_block(&mut script, number)?;
+        put_block(&mut script, number);
     }
-    script.push_str("tip\n")?;
-    Ok(script)
+    let _ = script.push_str("tip\n");
+    script
 }
 
-/// What a script prints, if it has no fault.
-fn run(alloc: Global, script: &str) -> Option<Vec<u8>> {
-    let genesis = Genesis::from_toml(alloc, NETWORK).ok()?;
+/// How many bytes a script prints, or none where it has a fault.
+fn printed(alloc: Global, script: &str) -> usize {
+    let Ok(genesis) = Genesis::from_toml(alloc, NETWORK) else {
+        return 0;
+    };
     let mut reader = script.as_bytes();
     let mut out = Vec::new(alloc);
-    scenario::run(alloc, genesis, &mut reader, &mut out).ok()?;
-    Some(out)
+    match scenario::run(alloc, genesis, &mut reader, &mut out) {
+        Ok(_) => out.len(),
+        Err(_) => 0,
+    }
 }
 
 /// Measures a script of so many blocks.
 fn measure_script(rt: &HostRuntime, blocks: u64) -> io::Result<()> {
-    let Ok(script) = script_of(rt.alloc(), blocks) else {
-        return println!(rt; "scripts: no script of {blocks} blocks");
-    };
-    let start = Instant::now(rt)?;
-    let Some(out) = run(rt.alloc(), &script) else {
-        return println!(rt; "scripts: the script of {blocks} blocks has a fault");
-    };
-    let took = start.elapsed(rt)?.as_micros();
-    let size = script.len();
-    let printed = out.len();
-    println!(rt; "scripts: {blocks} blocks in {size} bytes: {took} us, {printed} bytes printed")
+    let script = script_of(rt.alloc(), blocks);
+    let start = now(rt);
+    let printed = printed(rt.alloc(), &script);
+    let nanos = nanos_if(rt, start, printed != 0);
+    print(rt, Telling::Times, "script of blocks,", blocks, 1, nanos)
 }
 
 /// Measures scripts of 100, 300 and 1,000 blocks.

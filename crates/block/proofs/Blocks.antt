@@ -1,5 +1,5 @@
 -- The two laws of blocks: what is read is spelled so, and what is spelled so is read.
-use Rattle.std.proofs.Common.{◌≡◌, ◌≢◌, ℕ, zero, suc, ◌-◌, cond, eqb, List, [], ◌∷◌, ◌++◌, length, take, Option, Some, None, refl, sym, ap, subst, ◌∙◌, arith}
+use Rattle.std.proofs.Common.{◌≡◌, ℕ, ◌-◌, cond, eqb, List, [], ◌++◌, length, take, Option, Some, None, refl, sym, ap, subst, ◌∙◌, arith}
 use Rattle.std.proofs.lemmas.Bool.{eqb-true}
 use Rattle.std.proofs.lemmas.List.{append-nil, nil_from_length, length-append, take_at}
 use Rattle.model.specs.Cbor.{nesting, text_of, HasText, IsInRange, HasRisingKeys}
@@ -8,9 +8,8 @@ use Rattle.model.specs.Block.{Header, Block, item_of_previous, item_of_header, i
 use Rattle.cbor.proofs.ForCallers.{IsBytes, bind_some, guard_some, some_is, has_text, text_fits, members_takes}
 use Rattle.model.specs.Block.{empty_block}
 use Rattle.cbor.specs.Shapes.{members_at}
-use Rattle.cbor.specs.Reading.{◌>>=◌, head_at}
-use Rattle.cbor.specs.Shapes.{Reading, as_at, both_at, array_at, list_at, list_array_at}
-use Rattle.tx.specs.TransactionReading.{nested_transaction_at}
+use Rattle.cbor.specs.Reading.{◌>>=◌}
+use Rattle.cbor.specs.Shapes.{as_at, both_at, array_at}
 use Rattle.block.specs.Reading.{header_at, transactions_at, block_with, parts_at, block_at}
 use Rattle.block.proofs.Parts.{header_reads, transactions_reads, parts_reads, transactions_are, transactions_nest}
 
@@ -104,23 +103,3 @@ empty_body_read bytes members header body m h b e none =
   where
     some_with : List ℕ → List Transaction → Option (List Transaction × List ℕ)
     some_with rest ts = Some (ts, rest)
-
--- a list of some items is not empty
-listed : {A : Type 0} (read : Reading A) (count : ℕ) (bytes rest : List ℕ) → count ≢ 0 → list_at read count bytes ≡ Some ([], rest) → ⊥
-unfolding list_at
-listed read zero bytes rest some e = some refl
-listed {A} read (suc count) bytes rest some e =
-    let a = bind_some (read bytes) _ ([], rest) e in
-    let b = bind_some (list_at read count a.0.1) _ ([], rest) a.2 in
-    let same = ap (λ (x : List A × List ℕ). x.0) (some_is (a.0.0 ∷ b.0.0, b.0.1) ([], rest) b.2) in
-    absurd cc
-
--- a list of some transactions is not empty
-pub some_transactions : (bytes : List ℕ) (count : ℕ) (first rest : List ℕ) → head_at 4 bytes ≡ Some (count, first) → count ≢ 0 → transactions_at bytes ≡ Some ([], rest) → ⊥
-unfolding transactions_at list_array_at
-some_transactions bytes count first rest h some e = listed (nested_transaction_at 62) count first rest some (sym (rw h refl) ∙ e)
-
--- a body that counts none has none
-pub no_transactions : (bytes : List ℕ) (count : ℕ) (first : List ℕ) → head_at 4 bytes ≡ Some (count, first) → count ≡ 0 → transactions_at bytes ≡ Some ([], first)
-unfolding transactions_at list_array_at list_at
-no_transactions bytes count first h none = rw (h, none) refl

@@ -54,11 +54,7 @@ fn transactions(alloc: Global, bytes: &[u8]) -> Result<(Vec<Tx>, &[u8]), CborFau
     ensures exact { Gives (λ x. (x.0.items, x.1.now)) result (transactions_at bytes.now) }
     ensures some { OnErr result ((rest : List ℕ) → transactions_at bytes.now ≡ Some ([], rest) → ⊥) }
 {
-    let (count, first) = cbor::array(bytes).ok_or(CborFault::Malformed)?;
-    if count == 0 {
-        return Ok((Vec::new(alloc), first));
-    }
-    cbor::list::<Tx>(alloc, NESTING, count, first)
+    cbor::list_array::<Tx>(alloc, NESTING, bytes)
 }
 
 /// A block's header and transactions, and the two parts of its text that are hashed.

@@ -1,7 +1,7 @@
 //! Lines between bars, which may have any bytes.
 
 use hex::FromHex;
-use std::alloc::{AllocError, Global};
+use std::alloc::AllocError;
 
 /// What a byte behind a backslash stands for, where it isn't the beginning of two hexadecimal digits.
 fn escaped(byte: u8) -> u8 {
@@ -29,9 +29,8 @@ fn first_byte(rest: &[u8]) -> Option<(u8, usize)> {
     }
 }
 
-/// What stands between bars.
-fn unescaped(alloc: Global, inside: &[u8]) -> Result<Vec<u8>, AllocError> {
-    let mut bytes = Vec::new(alloc);
+/// Puts what stands between bars behind bytes.
+fn put_unescaped(bytes: &mut Vec<u8>, inside: &[u8]) -> Result<(), AllocError> {
     let mut at: usize = 0;
     for _ in 0..inside.len() {
         let rest = inside.get(at..).unwrap_or(b"".as_slice());
@@ -41,13 +40,14 @@ fn unescaped(alloc: Global, inside: &[u8]) -> Result<Vec<u8>, AllocError> {
         bytes.push(byte)?;
         at = at.saturating_add(taken);
     }
-    Ok(bytes)
+    Ok(())
 }
 
-/// The bytes that a line stands for: those between its bars, where it begins and ends with one, or itself.
-pub fn bytes_of_line(alloc: Global, line: &str) -> Result<Vec<u8>, AllocError> {
+/// Puts the bytes that a line stands for behind others: those between its bars, where it begins and ends with one, or
+/// itself.
+pub fn put_bytes(bytes: &mut Vec<u8>, line: &str) -> Result<(), AllocError> {
     match line.as_bytes() {
-        [b'|', inside @ .., b'|'] => unescaped(alloc, inside),
-        bytes => Vec::from_slice(alloc, bytes),
+        [b'|', inside @ .., b'|'] => put_unescaped(bytes, inside),
+        plain => bytes.extend_from_slice(plain),
     }
 }

@@ -67,3 +67,27 @@ impl<'a> Titled<'a> {
         Titled { title, body }
     }
 }
+
+/// The network that a case runs on which names none.
+pub const USUAL: &str = "small";
+
+/// A script with what it is to print, and the name of the network that it runs on.
+#[derive(Clone, Copy)]
+pub struct Scripted<'a> {
+    pub network: &'a str,
+    pub lines: &'a str,
+}
+
+impl<'a> Scripted<'a> {
+    /// The script of a case.
+    pub fn of(body: &'a str) -> Scripted<'a> {
+        let Some(named) = body.strip_prefix("genesis ") else {
+            return Scripted {
+                network: USUAL,
+                lines: body,
+            };
+        };
+        let (network, lines) = named.split_once('\n').unwrap_or((named, ""));
+        Scripted { network, lines }
+    }
+}

@@ -8,6 +8,7 @@ use timelock::{Interval, Script};
 /// The keys that signed, and the interval.
 #[derive(Drop)]
 pub struct Conditions {
+    alloc: Global,
     keys: Vec<KeyHash>,
     interval: Interval,
 }
@@ -16,6 +17,7 @@ impl Conditions {
     /// No key, and an interval that is open on both sides.
     pub fn new(alloc: Global) -> Conditions {
         Conditions {
+            alloc,
             keys: Vec::new(alloc),
             interval: Interval {
                 start: None,
@@ -25,12 +27,18 @@ impl Conditions {
     }
 
     /// Takes in the key of a hash, and answers whether it is one.
-    fn put_key(&mut self, hash: &[u8]) -> Result<bool, AllocError> {
-        let Ok(key) = KeyHash::try_from(hash) else {
+    fn put_key(&mut self, named: &NamedBytes<'_>, value: &str) -> Result<bool, AllocError> {
+        let mut hash = Vec::new(self.alloc);
+        if !named.put_words(&mut hash, value)? {
             return Ok(false);
-        };
-        self.keys.push(key)?;
-        Ok(true)
+        }
+        match KeyHash::try_from(hash.as_slice()) {
+            Ok(key) => {
+                self.keys.push(key)?;
+                Ok(true)
+            }
+            Err(_) => Ok(false),
+        }
     }
 
     /// Takes in conditions, each with its value, and answers whether they are some.
@@ -61,10 +69,7 @@ impl Conditions {
                 self.interval.end = value.parse::<u64>().ok();
                 Ok(self.interval.end.is_some())
             }
-            "key" => match named.bytes_of(value)? {
-                Some(hash) => self.put_key(&hash),
-                None => Ok(false),
-            },
+            "key" => self.put_key(named, value),
             _ => Ok(false),
         }
     }

@@ -1,12 +1,11 @@
 //! Documents that are a genesis, or none.
 
-use crate::bars::bytes_of_line;
-use crate::book::{TITLE, Titled, says_nothing};
-use crate::report::Report;
-use crate::scripted::put_line;
-use genesis::Genesis;
+use crate::bars::put_bytes;
+use crate::book::{Titled, says_nothing};
+use crate::report::{Report, put_line};
+use genesis::{Genesis, GenesisFault};
 use std::alloc::{AllocError, Global};
-use std::{io, str};
+use std::str;
 
 /// The lines of a document, and what is told of those that come of it, once it is said.
 #[derive(Drop)]
@@ -44,26 +43,29 @@ fn has_key(line: &str, others: &[&str]) -> bool {
     false
 }
 
-/// The document with these lines put in: each in the place of the line that gives the same key a value, or at the end.
-fn document_of(alloc: Global, base: &[&str], changes: &str) -> Result<String, AllocError> {
-    let mut document = String::new(alloc);
+/// Puts the document with these lines put in: each in the place of the line that gives the same key a value, or at the
+/// end.
+fn put_document(document: &mut String, base: &[&str], changes: &str) -> Result<(), AllocError> {
     for line in base {
-        put_line(&mut document, same_key(*line, changes).unwrap_or(*line))?;
+        put_line(document, same_key(*line, changes).unwrap_or(*line))?;
     }
     for change in changes.lines() {
         if !has_key(change, base) {
-            put_line(&mut document, change)?;
+            put_line(document, change)?;
         }
     }
-    Ok(document)
+    Ok(())
 }
 
-/// What comes of a document.
-fn came_of(alloc: Global, document: &str) -> Result<String, AllocError> {
-    match Genesis::from_toml(alloc, document) {
-        Ok(_) => String::from_str(alloc, "genesis"),
-        Err(fault) => format!(in alloc; "{fault}"),
-    }
+/// The fault of that document, None where it is a genesis.
+fn fault_of(
+    alloc: Global,
+    base: &[&str],
+    changes: &[u8],
+) -> Result<Option<GenesisFault>, AllocError> {
+    let mut document = String::new(alloc);
+    put_document(&mut document, base, str::from_utf8(changes).unwrap_or("?"))?;
+    Ok(Genesis::from_toml(alloc, document.as_str()).err())
 }
 
 /// What comes of the document with the line of a case put in.
@@ -73,13 +75,14 @@ fn judge_line(
     base: &Base<'_>,
     line: &str,
     report: &mut Report<'_>,
-) -> io::Result<()> {
-    let changes = bytes_of_line(alloc, line)?;
-    let document = document_of(alloc, &base.lines, str::from_utf8(&changes).unwrap_or("?"))?;
-    let came = came_of(alloc, &document)?;
-    let told = format!(in alloc; ": {line}")?;
-    report.compare(title, &told, base.told.unwrap_or("?"), &came)?;
-    Ok(())
+) -> Result<(), AllocError> {
+    put_bytes(&mut report.script, line)?;
+    report.wanted.push_str(base.told.unwrap_or("?"))?;
+    match fault_of(alloc, &base.lines, &report.script)? {
+        None => report.came.push_str("genesis")?,
+        Some(fault) => write!(report.came, "{fault}")?,
+    }
+    report.compare(title, line)
 }
 
 /// What comes of a line of a case.
@@ -89,7 +92,7 @@ fn take<'a>(
     base: &mut Base<'a>,
     line: &'a str,
     report: &mut Report<'_>,
-) -> io::Result<()> {
+) -> Result<(), AllocError> {
     if says_nothing(line) {
         return Ok(());
     }
@@ -110,21 +113,23 @@ fn take<'a>(
 }
 
 /// What comes of the lines of a titled case.
-fn judge_titled(alloc: Global, case: Titled<'_>, report: &mut Report<'_>) -> io::Result<()> {
+pub fn judge(alloc: Global, case: Titled<'_>, report: &mut Report<'_>) -> Result<(), AllocError> {
     let mut base = Base {
         lines: Vec::new(alloc),
         told: None,
     };
-    for line in case.body.lines() {
-        take(alloc, case.title, &mut base, line, report)?;
-    }
-    Ok(())
+    judge_lines(alloc, case, &mut base, report)
 }
 
-/// What comes of the cases of a file.
-pub fn judge(alloc: Global, text: &str, report: &mut Report<'_>) -> io::Result<()> {
-    for case in text.split(TITLE).skip(1) {
-        judge_titled(alloc, Titled::of(case), report)?;
+/// The same, where those lines stand that this document has.
+fn judge_lines<'a>(
+    alloc: Global,
+    case: Titled<'a>,
+    base: &mut Base<'a>,
+    report: &mut Report<'_>,
+) -> Result<(), AllocError> {
+    for line in case.body.lines() {
+        take(alloc, case.title, base, line, report)?;
     }
     Ok(())
 }

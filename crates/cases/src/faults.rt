@@ -1,20 +1,16 @@
 //! Lines of scripts that are refused, each by itself.
 
-use crate::bars::bytes_of_line;
-use crate::book::{TITLE, Titled, says_nothing};
-use crate::network::{USUAL, genesis_named};
-use crate::report::Report;
-use crate::runs::lines_of;
-use crate::scripted::put_line;
+use crate::bars::put_bytes;
+use crate::book::{Titled, USUAL, says_nothing};
+use crate::report::{Report, put_bytes_of_line, put_line};
+use crate::runs::run_script;
 use std::alloc::{AllocError, Global};
-use std::io;
 use std::rt::Files;
 
 /// What stands before lines that are refused: the lines of a script, how many there are, what they print, and the fault
 /// that the lines behind them have, once it is said.
 #[derive(Drop)]
 struct Place<'a> {
-    alloc: Global,
     before: Vec<u8>,
     lines: u64,
     printed: String,
@@ -25,12 +21,19 @@ impl<'a> Place<'a> {
     /// The beginning of a script.
     fn new(alloc: Global) -> Place<'a> {
         Place {
-            alloc,
             before: Vec::new(alloc),
             lines: 0,
             printed: String::new(alloc),
             fault: None,
         }
+    }
+
+    /// Goes back to the beginning of a script.
+    fn clear(&mut self) {
+        self.before.clear();
+        self.lines = 0;
+        self.printed.clear();
+        self.fault = None;
     }
 
     /// Puts a line before those that are refused, or one that is printed there.
@@ -39,24 +42,21 @@ impl<'a> Place<'a> {
             return put_line(&mut self.printed, printed);
         }
         self.lines = self.lines.saturating_add(1);
-        self.before.extend_from_slice(line.as_bytes())?;
-        self.before.push(b'\n')?;
-        Ok(())
+        put_bytes_of_line(&mut self.before, line.as_bytes())
     }
 
-    /// The script of a line that is refused, and one behind it that isn't run.
-    fn script_of(&self, line: &str) -> Result<Vec<u8>, AllocError> {
-        let mut script = Vec::from_slice(self.alloc, &self.before)?;
-        let refused = bytes_of_line(self.alloc, line)?;
-        script.extend_from_slice(&refused)?;
-        script.extend_from_slice(b"\ntip\n")?;
-        Ok(script)
+    /// Puts the script of a line that is refused, and one behind it that isn't run.
+    fn put_script(&self, script: &mut Vec<u8>, line: &str) -> Result<(), AllocError> {
+        script.extend_from_slice(&self.before)?;
+        put_bytes(script, line)?;
+        script.extend_from_slice(b"\ntip\n")
     }
 
-    /// What is wanted of it.
-    fn wanted(&self, fault: &str) -> Result<String, AllocError> {
+    /// Puts what is wanted of it.
+    fn put_wanted(&self, wanted: &mut String) -> Result<(), AllocError> {
         let number = self.lines.saturating_add(1);
-        format!(in self.alloc; "{}! line {number}: {fault}\n", self.printed)
+        let fault = self.fault.unwrap_or("?");
+        write!(wanted, "{}! line {number}: {fault}\n", self.printed)
     }
 }
 
@@ -67,16 +67,11 @@ fn judge_line<R: Files + AllocGlobal>(
     place: &Place<'_>,
     line: &str,
     report: &mut Report<'_>,
-) -> io::Result<()> {
-    let wanted = place.wanted(place.fault.unwrap_or("?"))?;
-    let script = place.script_of(line)?;
-    let came = match genesis_named(rt, report.file(), USUAL)? {
-        Some(genesis) => lines_of(rt.alloc(), genesis, &script)?,
-        None => String::new(rt.alloc()),
-    };
-    let told = format!(in rt.alloc(); ": {line}")?;
-    report.compare(title, &told, &wanted, &came)?;
-    Ok(())
+) -> Result<(), AllocError> {
+    place.put_script(&mut report.script, line)?;
+    place.put_wanted(&mut report.wanted)?;
+    run_script(rt, USUAL, false, report)?;
+    report.compare(title, line)
 }
 
 /// What comes of a line of a case.
@@ -86,12 +81,12 @@ fn take<'a, R: Files + AllocGlobal>(
     place: &mut Place<'a>,
     line: &'a str,
     report: &mut Report<'_>,
-) -> io::Result<()> {
+) -> Result<(), AllocError> {
     if says_nothing(line) {
         return Ok(());
     }
     if line == "after" {
-        *place = Place::new(rt.alloc());
+        place.clear();
         return Ok(());
     }
     if let Some(fault) = line.strip_prefix("each ") {
@@ -101,31 +96,28 @@ fn take<'a, R: Files + AllocGlobal>(
     if place.fault.is_some() {
         return judge_line(rt, title, place, line, report);
     }
-    place.put(line)?;
-    Ok(())
+    place.put(line)
 }
 
 /// What comes of the lines of a titled case.
-fn judge_titled<R: Files + AllocGlobal>(
+pub fn judge<R: Files + AllocGlobal>(
     rt: &R,
     case: Titled<'_>,
     report: &mut Report<'_>,
-) -> io::Result<()> {
+) -> Result<(), AllocError> {
     let mut place = Place::new(rt.alloc());
-    for line in case.body.lines() {
-        take(rt, case.title, &mut place, line, report)?;
-    }
-    Ok(())
+    judge_lines(rt, case, &mut place, report)
 }
 
-/// What comes of the cases of a file.
-pub fn judge<R: Files + AllocGlobal>(
+/// The same, where those lines stand that this place has.
+fn judge_lines<'a, R: Files + AllocGlobal>(
     rt: &R,
-    text: &str,
+    case: Titled<'a>,
+    place: &mut Place<'a>,
     report: &mut Report<'_>,
-) -> io::Result<()> {
-    for case in text.split(TITLE).skip(1) {
-        judge_titled(rt, Titled::of(case), report)?;
+) -> Result<(), AllocError> {
+    for line in case.body.lines() {
+        take(rt, case.title, place, line, report)?;
     }
     Ok(())
 }

@@ -35,12 +35,10 @@ impl<'a> NamedBytes<'a> {
 
     /// Gives words a name, and answers whether each has a meaning and the name had none.
     pub fn bind(&mut self, name: &'a str, words: &str) -> Result<bool, AllocError> {
-        if self.bytes_of(name)?.is_some() {
+        let mut bytes = Vec::new(self.alloc);
+        if self.put_words(&mut bytes, name)? || !self.put_words(&mut bytes, words)? {
             return Ok(false);
         }
-        let Some(bytes) = self.bytes_of(words)? else {
-            return Ok(false);
-        };
         self.named.push(Named { name, bytes })?;
         Ok(true)
     }
@@ -76,23 +74,29 @@ impl<'a> NamedBytes<'a> {
             return Ok(false);
         };
         let mut one = Vec::new(self.alloc);
-        if !self.put_once(&mut one, once)? {
-            return Ok(false);
+        let is_known = self.put_once(&mut one, once)?;
+        if is_known {
+            put_times(bytes, &one, times)?;
         }
-        for _ in 0..times {
-            bytes.extend_from_slice(&one)?;
+        Ok(is_known)
+    }
+
+    /// Puts the bytes that words stand for behind others, one after the other, up to the first word without a meaning,
+    /// and answers whether each has one.
+    pub fn put_words(&self, bytes: &mut Vec<u8>, words: &str) -> Result<bool, AllocError> {
+        for word in words.split_whitespace() {
+            if !self.put(bytes, word)? {
+                return Ok(false);
+            }
         }
         Ok(true)
     }
+}
 
-    /// The bytes that words stand for, one after the other, if each has a meaning.
-    pub fn bytes_of(&self, words: &str) -> Result<Option<Vec<u8>>, AllocError> {
-        let mut bytes = Vec::new(self.alloc);
-        for word in words.split_whitespace() {
-            if !self.put(&mut bytes, word)? {
-                return Ok(None);
-            }
-        }
-        Ok(Some(bytes))
+/// Puts bytes so many times behind others.
+fn put_times(bytes: &mut Vec<u8>, one: &[u8], times: u64) -> Result<(), AllocError> {
+    for _ in 0..times {
+        bytes.extend_from_slice(one)?;
     }
+    Ok(())
 }

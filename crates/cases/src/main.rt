@@ -12,18 +12,50 @@ mod network;
 mod report;
 mod rules;
 mod runs;
-mod scripted;
 mod spelled;
 mod spelled_items;
 mod spelled_txs;
 mod texts;
 
-use crate::book::{Kind, kind_of};
+use crate::book::{Kind, TITLE, Titled, kind_of};
+use crate::hex_words::NamedBytes;
 use crate::report::Report;
-use std::alloc::Global;
+use std::alloc::AllocError;
 use std::process::ExitCode;
 use std::rt::Files;
 use std::{env, fs, io};
+
+/// What comes of a case of this kind, where these bytes have names.
+fn judge_case<'a, R: Files + AllocGlobal>(
+    rt: &R,
+    kind: Kind,
+    case: Titled<'a>,
+    named: &mut NamedBytes<'a>,
+    report: &mut Report<'_>,
+) -> Result<(), AllocError> {
+    match kind {
+        Kind::Runs => runs::judge(rt, case, false, report),
+        Kind::Rules => runs::judge(rt, case, true, report),
+        Kind::Faults => faults::judge(rt, case, report),
+        Kind::Genesis => documents::judge(rt.alloc(), case, report),
+        Kind::Texts => texts::judge(rt.alloc(), case, named, report),
+    }
+}
+
+/// What comes of the cases of a text of this kind, where these bytes have names.
+fn judge_all<'a, R: Files + AllocGlobal>(
+    rt: &R,
+    kind: Kind,
+    text: &'a str,
+    named: &mut NamedBytes<'a>,
+    report: &mut Report<'_>,
+) -> Result<(), AllocError> {
+    texts::take_names(rt.alloc(), text, named, report)?;
+    for case in text.split(TITLE).skip(1) {
+        judge_case(rt, kind, Titled::of(case), named, report)?;
+    }
+    Ok(())
+}
 
 /// What comes of the cases of a text of this kind.
 fn judge<R: Files + AllocGlobal>(
@@ -31,18 +63,13 @@ fn judge<R: Files + AllocGlobal>(
     kind: Kind,
     text: &str,
     report: &mut Report<'_>,
-) -> io::Result<()> {
-    match kind {
-        Kind::Runs => runs::judge(rt, text, report),
-        Kind::Rules => rules::judge(rt, text, report),
-        Kind::Faults => faults::judge(rt, text, report),
-        Kind::Genesis => documents::judge(rt.alloc(), text, report),
-        Kind::Texts => texts::judge(rt.alloc(), text, report),
-    }
+) -> Result<(), AllocError> {
+    let mut named = NamedBytes::new(rt.alloc());
+    judge_all(rt, kind, text, &mut named, report)
 }
 
 /// What comes of the cases of a file, or why there are none.
-fn judge_file<R: Files + AllocGlobal>(rt: &R, report: &mut Report<'_>) -> io::Result<()> {
+fn judge_file<R: Files + AllocGlobal>(rt: &R, report: &mut Report<'_>) -> Result<(), AllocError> {
     let Ok(text) = fs::read_to_string(rt, report.file()) else {
         return report.fail("cannot be read");
     };
@@ -52,24 +79,26 @@ fn judge_file<R: Files + AllocGlobal>(rt: &R, report: &mut Report<'_>) -> io::Re
     }
 }
 
-/// Tells what comes of the cases of a file, and whether all is as is wanted.
-fn tell_file<R: Files + Print + AllocGlobal>(rt: &R, file: &str) -> io::Result<bool> {
-    let mut report = Report::new(rt.alloc(), file);
-    judge_file(rt, &mut report)?;
+/// Tells what comes of the cases of the report's file, and whether all is as is wanted.
+fn tell<R: Files + Print + AllocGlobal>(rt: &R, report: &mut Report<'_>) -> io::Result<bool> {
+    judge_file(rt, report)?;
+    report.conclude()?;
     print!(rt; "{}", report.told())?;
-    println!(rt;
-        "{file}: {} cases, {} differ",
-        report.cases(),
-        report.differing()
-    )?;
     Ok(report.is_well())
+}
+
+/// The same of each of these files, which are some.
+fn tell_all<R: Files + Print + AllocGlobal>(rt: &R, files: &[String]) -> io::Result<bool> {
+    let mut well = !files.is_empty();
+    for file in files {
+        let mut report = Report::new(rt.alloc(), file.as_str());
+        well = tell(rt, &mut report)? && well;
+    }
+    Ok(well)
 }
 
 fn main(rt: HostRuntime) -> io::Result<ExitCode> {
     let words: Vec<String> = env::args(&rt)?.collect(rt.alloc())?;
-    let mut well = words.len() > 1;
-    for file in words.iter().skip(1) {
-        well = tell_file(&rt, file.as_str())? && well;
-    }
+    let well = tell_all(&rt, words.get(1..).unwrap_or(&[]))?;
     Ok(ExitCode::from(if well { 0 } else { 1 }))
 }

@@ -1,12 +1,9 @@
 //! The network that a case runs on.
 
 use genesis::Genesis;
-use std::alloc::Global;
+use std::alloc::AllocError;
+use std::fs;
 use std::rt::Files;
-use std::{fs, io};
-
-/// The network of a case that names none.
-pub const USUAL: &str = "small";
 
 /// The folder of a path, with the slash behind it.
 fn folder_of(path: &str) -> &str {
@@ -21,7 +18,7 @@ pub fn genesis_named<R: Files + AllocGlobal>(
     rt: &R,
     file: &str,
     name: &str,
-) -> io::Result<Option<Genesis>> {
+) -> Result<Option<Genesis>, AllocError> {
     let path = format!(in rt.alloc(); "{}/../genesis/{name}.toml", folder_of(file))?;
     match fs::read_to_string(rt, path.as_str()) {
         Ok(text) => Ok(Genesis::from_toml(rt.alloc(), text.as_str()).ok()),

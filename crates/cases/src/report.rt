@@ -1,7 +1,10 @@
 //! What is told of the cases of a file.
 
+use crate::book::Scripted;
 use std::alloc::{AllocError, Global};
-use std::io;
+
+// Each way out of a function drops all that it owns, which makes its proof longer. So the texts of the case that is
+// being judged stand here, and the functions that write them borrow them.
 
 /// How many cases a file has, how many of them differ from what is wanted, and how.
 #[derive(Drop)]
@@ -11,6 +14,13 @@ pub struct Report<'a> {
     differing: u64,
     failed: bool,
     told: String,
+    /// What the case that is being judged is made of: a script, the bytes of a text, or the lines that are put into a
+    /// document.
+    pub script: Vec<u8>,
+    /// What is wanted of it.
+    pub wanted: String,
+    /// What came of it.
+    pub came: String,
 }
 
 /// Puts a line that differs into a text: what was wanted, and what came.
@@ -20,11 +30,11 @@ fn put_difference(
     came: Option<&str>,
 ) -> Result<(), AllocError> {
     match wanted {
-        Some(line) => write!(told, "  wanted: {line}\n")?,
+        Some(line) => put_all(told, &["  wanted: ", line, "\n"])?,
         None => told.push_str("  wanted nothing more\n")?,
     }
     match came {
-        Some(line) => write!(told, "  came:   {line}\n"),
+        Some(line) => put_all(told, &["  came:   ", line, "\n"]),
         None => told.push_str("  came nothing more\n"),
     }
 }
@@ -53,6 +63,9 @@ impl<'a> Report<'a> {
             differing: 0,
             failed: false,
             told: String::new(alloc),
+            script: Vec::new(alloc),
+            wanted: String::new(alloc),
+            came: String::new(alloc),
         }
     }
 
@@ -61,19 +74,19 @@ impl<'a> Report<'a> {
         self.file
     }
 
-    /// How many cases were judged.
-    pub fn cases(&self) -> u64 {
-        self.cases
-    }
-
-    /// How many of them differ.
-    pub fn differing(&self) -> u64 {
-        self.differing
-    }
-
-    /// The lines on what differs.
+    /// The lines on what differs, and last how many cases there are.
     pub fn told(&self) -> &str {
         self.told.as_str()
+    }
+
+    /// Tells how many cases were judged, and how many of them differ.
+    pub fn conclude(&mut self) -> Result<(), AllocError> {
+        let (cases, differing) = (self.cases, self.differing);
+        write!(
+            self.told,
+            "{}: {cases} cases, {differing} differ\n",
+            self.file
+        )
     }
 
     /// Whether the file has cases and none differs.
@@ -82,27 +95,59 @@ impl<'a> Report<'a> {
     }
 
     /// Tells why the file has no cases.
-    pub fn fail(&mut self, why: &str) -> io::Result<()> {
+    pub fn fail(&mut self, why: &str) -> Result<(), AllocError> {
         self.failed = true;
-        write!(self.told, "{}: {why}\n", self.file)?;
+        put_all(&mut self.told, &[self.file, ": ", why, "\n"])
+    }
+
+    /// Takes in the lines of a case: each where it belongs.
+    pub fn take_script(&mut self, scripted: Scripted<'_>) -> Result<(), AllocError> {
+        for line in scripted.lines.lines() {
+            if let Some(printed) = line.strip_prefix("> ") {
+                put_line(&mut self.wanted, printed)?;
+            } else if line.starts_with("! ") {
+                put_line(&mut self.wanted, line)?;
+            } else {
+                put_bytes_of_line(&mut self.script, line.as_bytes())?;
+            }
+        }
         Ok(())
     }
 
-    /// Counts a case of this title, and tells where the lines that came are not those that are wanted. A case that is
-    /// told by a line of its own has that line behind the title.
-    pub fn compare(
-        &mut self,
-        title: &str,
-        line: &str,
-        wanted: &str,
-        came: &str,
-    ) -> Result<(), AllocError> {
+    /// Counts the case of this title, and tells where the lines that came are not those that are wanted. A case that is
+    /// told by a line of its own has that line behind the title, and else an empty one.
+    pub fn compare(&mut self, title: &str, line: &str) -> Result<(), AllocError> {
         self.cases = self.cases.saturating_add(1);
-        if wanted == came {
-            return Ok(());
+        if self.wanted.as_str() != self.came.as_str() {
+            self.differing = self.differing.saturating_add(1);
+            let colon = if line.is_empty() { "" } else { ": " };
+            put_all(&mut self.told, &[self.file, ", ", title, colon, line, "\n"])?;
+            put_differences(&mut self.told, &self.wanted, &self.came)?;
         }
-        self.differing = self.differing.saturating_add(1);
-        write!(self.told, "{}, {title}{line}\n", self.file)?;
-        put_differences(&mut self.told, wanted, came)
+        self.script.clear();
+        self.wanted.clear();
+        self.came.clear();
+        Ok(())
     }
+}
+
+/// Puts texts behind another, one after the other. It is one call, which keeps the proofs shorter than `write!` does.
+pub fn put_all(out: &mut String, parts: &[&str]) -> Result<(), AllocError> {
+    for part in parts {
+        out.push_str(*part)?;
+    }
+    Ok(())
+}
+
+/// Puts a line behind others.
+pub fn put_line(lines: &mut String, line: &str) -> Result<(), AllocError> {
+    lines.push_str(line)?;
+    lines.push('\n')
+}
+
+/// Puts the bytes of a line behind others.
+pub fn put_bytes_of_line(lines: &mut Vec<u8>, line: &[u8]) -> Result<(), AllocError> {
+    lines.extend_from_slice(line)?;
+    lines.push(b'\n')?;
+    Ok(())
 }

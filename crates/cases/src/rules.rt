@@ -1,31 +1,26 @@
 //! Scripts whose blocks are judged by the ledger alone, one after the other.
 
-use crate::book::{TITLE, Titled};
-use crate::network::genesis_named;
-use crate::report::Report;
-use crate::runs::NO_NETWORK;
-use crate::scripted::{Scripted, put_line};
+use crate::report::put_line;
 use block::CheckedBlock;
 use genesis::Genesis;
 use ledger::{ApplyFault, BlockFault, LedgerState, apply_block};
 use script::{LinePlace, Names, Request, Stop};
 use std::alloc::{AllocError, Global};
-use std::rt::Files;
-use std::{io, str};
+use std::str;
 use witness_pool::TestScheme;
 
-/// The names of a script, the state that its blocks left, and what it printed.
+/// The names of a script, and the state that its blocks left. In boxes both are dropped by calls, which keeps the
+/// proofs short.
 #[derive(Drop)]
 struct LedgerRun {
     alloc: Global,
-    names: Names,
-    state: LedgerState,
-    came: String,
+    names: Box<Names>,
+    state: Box<LedgerState>,
 }
 
 /// What is told of a block.
 enum Told {
-    Applied(LedgerState),
+    Applied(Box<LedgerState>),
     Refused(BlockFault),
     NoBlock,
 }
@@ -44,73 +39,97 @@ fn put_fault(came: &mut String, fault: BlockFault) -> Result<(), AllocError> {
     }
 }
 
-/// What is told of the block of these bytes on a state.
-fn told_of(alloc: Global, state: &LedgerState, bytes: &[u8]) -> Result<Told, AllocError> {
-    let Ok(block) = CheckedBlock::<TestScheme>::read(alloc, bytes) else {
-        return Ok(Told::NoBlock);
-    };
-    match apply_block(state, &block) {
-        Ok(next) => Ok(Told::Applied(next)),
+/// What is told of a block on a state.
+fn told_of_block(
+    alloc: Global,
+    state: &LedgerState,
+    block: &CheckedBlock<TestScheme>,
+) -> Result<Told, AllocError> {
+    match apply_block(state, block) {
+        Ok(next) => Ok(Told::Applied(Box::new(alloc, next)?)),
         Err(ApplyFault::Refused(fault)) => Ok(Told::Refused(fault)),
         Err(ApplyFault::OutOfMemory) => Err(AllocError),
     }
 }
 
+/// What is told of the block of these bytes on a state.
+fn told_of(alloc: Global, state: &LedgerState, bytes: &[u8]) -> Result<Told, AllocError> {
+    match CheckedBlock::<TestScheme>::read(alloc, bytes) {
+        Ok(block) => told_of_block(alloc, state, &block),
+        Err(_) => Ok(Told::NoBlock),
+    }
+}
+
+/// A run on a network of this genesis.
+fn new_run(alloc: Global, genesis: &Genesis) -> Result<LedgerRun, AllocError> {
+    let names = Box::new(alloc, Names::new(alloc, genesis))?;
+    let state = Box::new(alloc, LedgerState::new(alloc, genesis)?)?;
+    Ok(LedgerRun {
+        alloc,
+        names,
+        state,
+    })
+}
+
 impl LedgerRun {
     /// Judges the bytes of a name as the next block.
-    fn arrive(&mut self, name: &[u8]) -> Result<(), AllocError> {
-        write!(
-            self.came,
-            "arrive {}: ",
-            str::from_utf8(name).unwrap_or("?")
-        )?;
+    fn arrive(&mut self, name: &[u8], came: &mut String) -> Result<(), AllocError> {
+        let printed = str::from_utf8(name).unwrap_or("?");
+        write!(came, "arrive {printed}: ")?;
         let bytes = self.names.bytes_of(name).unwrap_or(&[]);
         match told_of(self.alloc, &self.state, bytes)? {
             Told::Applied(next) => {
                 self.state = next;
-                self.came.push_str("applied\n")
+                came.push_str("applied")?;
             }
-            Told::Refused(fault) => {
-                put_fault(&mut self.came, fault)?;
-                self.came.push('\n')
-            }
-            Told::NoBlock => self.came.push_str("no block\n"),
+            Told::Refused(fault) => put_fault(came, fault)?,
+            Told::NoBlock => came.push_str("no block")?,
         }
+        came.push('\n')
     }
 
     /// Tells what is unspent.
-    fn utxo(&mut self) -> Result<(), AllocError> {
+    fn utxo(&self, came: &mut String) -> Result<(), AllocError> {
         let (pairs, coin) = (self.state.utxo().len(), self.state.utxo().coin()?);
         let fees = self.state.fees();
-        write!(self.came, "utxo: pairs {pairs} coin {coin} fees {fees}\n")
+        write!(came, "utxo: pairs {pairs} coin {coin} fees {fees}\n")
+    }
+
+    /// Does what is asked for.
+    fn answer(&mut self, request: &Request<'_>, came: &mut String) -> Result<(), AllocError> {
+        match request {
+            Request::Nothing => Ok(()),
+            Request::Arrive { name, .. } => self.arrive(name.text, came),
+            Request::Tip => write!(came, "tip: {}\n", self.state.tip().number),
+            Request::Utxo => self.utxo(came),
+            _ => put_line(came, "not asked here"),
+        }
     }
 
     /// Does what a line asks for, and answers whether the script goes on.
-    fn obey(&mut self, at: LinePlace, line: &str) -> Result<bool, AllocError> {
+    fn obey(&mut self, at: LinePlace, line: &str, came: &mut String) -> Result<bool, AllocError> {
         let number = at.number;
         match self.names.obey(at, line.as_bytes()) {
-            Ok(Request::Nothing) => {}
-            Ok(Request::Arrive { name, .. }) => self.arrive(name.text)?,
-            Ok(Request::Tip) => write!(self.came, "tip: {}\n", self.state.tip().number)?,
-            Ok(Request::Utxo) => self.utxo()?,
-            Ok(_) => put_line(&mut self.came, "not asked here")?,
-            Err(Stop::Fault(fault)) => {
-                write!(self.came, "! line {number}: {fault}\n")?;
-                return Ok(false);
+            Ok(request) => {
+                self.answer(&request, came)?;
+                Ok(true)
             }
-            Err(Stop::OutOfMemory) => return Err(AllocError),
+            Err(Stop::Fault(fault)) => {
+                write!(came, "! line {number}: {fault}\n")?;
+                Ok(false)
+            }
+            Err(Stop::OutOfMemory) => Err(AllocError),
         }
-        Ok(true)
     }
 
     /// Does what the lines of a script ask for, up to the first fault.
-    fn obey_all(&mut self, script: &str) -> Result<(), AllocError> {
+    fn obey_all(&mut self, script: &str, came: &mut String) -> Result<(), AllocError> {
         let mut at = LinePlace {
             number: 1,
             before: 0,
         };
         for line in script.lines() {
-            if !self.obey(at, line)? {
+            if !self.obey(at, line, came)? {
                 break;
             }
             at.number = at.number.saturating_add(1);
@@ -120,43 +139,13 @@ impl LedgerRun {
     }
 }
 
-/// The lines that a script prints on a network of this genesis.
-fn lines_of(alloc: Global, genesis: &Genesis, script: &str) -> Result<String, AllocError> {
-    let mut ledger_run = LedgerRun {
-        alloc,
-        names: Names::new(alloc, genesis),
-        state: LedgerState::new(alloc, genesis)?,
-        came: String::new(alloc),
-    };
-    match ledger_run.obey_all(script) {
-        Ok(()) => Ok(ledger_run.came),
-        Err(error) => Err(error),
-    }
-}
-
-/// What comes of a case.
-fn judge_one<R: Files + AllocGlobal>(
-    rt: &R,
-    case: Titled<'_>,
-    report: &mut Report<'_>,
-) -> io::Result<()> {
-    let scripted = Scripted::of(rt.alloc(), case.body)?;
-    let came = match genesis_named(rt, report.file(), scripted.network)? {
-        Some(genesis) => lines_of(rt.alloc(), &genesis, &scripted.script)?,
-        None => String::from_str(rt.alloc(), NO_NETWORK)?,
-    };
-    report.compare(case.title, "", &scripted.wanted, &came)?;
-    Ok(())
-}
-
-/// What comes of the cases of a file.
-pub fn judge<R: Files + AllocGlobal>(
-    rt: &R,
-    text: &str,
-    report: &mut Report<'_>,
-) -> io::Result<()> {
-    for case in text.split(TITLE).skip(1) {
-        judge_one(rt, Titled::of(case), report)?;
-    }
-    Ok(())
+/// Puts the lines that a script prints on a network of this genesis behind a text.
+pub fn put_run(
+    alloc: Global,
+    genesis: Genesis,
+    script: &[u8],
+    came: &mut String,
+) -> Result<(), AllocError> {
+    let mut ledger_run = new_run(alloc, &genesis)?;
+    ledger_run.obey_all(str::from_utf8(script).unwrap_or("?"), came)
 }

@@ -1,55 +1,70 @@
-//! Scripts that are run through the whole node, and what they print.
+//! Scripts that are run, and what they print.
 
-use crate::book::{TITLE, Titled};
+use crate::book::{Scripted, Titled};
 use crate::network::genesis_named;
 use crate::report::Report;
-use crate::scripted::Scripted;
+use crate::rules;
 use genesis::Genesis;
-use scenario::run;
-use std::alloc::Global;
-use std::io;
-use std::io::Write;
+use scenario::{ScenarioFault, run};
+use std::alloc::{AllocError, Global};
 use std::rt::Files;
+use std::str;
 
 /// What comes where the network of a case isn't there.
-pub const NO_NETWORK: &str = "no such genesis\n";
+const NO_NETWORK: &str = "no such genesis\n";
 
-/// The lines that a script prints, and last the fault that ends it.
-pub fn lines_of(alloc: Global, genesis: Genesis, script: &[u8]) -> io::Result<String> {
+/// Puts what was printed behind a text, and last the fault that ended the run.
+fn put_end(
+    came: &mut String,
+    printed: &[u8],
+    ended: Result<(), ScenarioFault>,
+) -> Result<(), AllocError> {
+    came.push_str(str::from_utf8(printed).unwrap_or("no text\n"))?;
+    match ended {
+        Ok(()) => Ok(()),
+        Err(fault) => write!(came, "! {fault}\n"),
+    }
+}
+
+/// Puts the lines that a script prints behind a text, and last the fault that ends it.
+fn put_run(
+    alloc: Global,
+    genesis: Genesis,
+    script: &[u8],
+    came: &mut String,
+) -> Result<(), AllocError> {
     let mut reader = script;
     let mut out = Vec::new(alloc);
-    if let Err(fault) = run(alloc, genesis, &mut reader, &mut out) {
-        write!(out, "! {fault}\n")?;
-    }
-    match String::from_utf8(out) {
-        Ok(lines) => Ok(lines),
-        Err(_) => Err(io::Error::from(io::ErrorKind::InvalidData)),
+    let ended = run(alloc, genesis, &mut reader, &mut out);
+    put_end(came, &out, ended)
+}
+
+/// Runs the report's script on the network of this name: through the whole node, or by the ledger alone.
+pub fn run_script<R: Files + AllocGlobal>(
+    rt: &R,
+    network: &str,
+    by_ledger: bool,
+    report: &mut Report<'_>,
+) -> Result<(), AllocError> {
+    let Some(genesis) = genesis_named(rt, report.file(), network)? else {
+        return report.came.push_str(NO_NETWORK);
+    };
+    if by_ledger {
+        rules::put_run(rt.alloc(), genesis, &report.script, &mut report.came)
+    } else {
+        put_run(rt.alloc(), genesis, &report.script, &mut report.came)
     }
 }
 
 /// What comes of a case.
-fn judge_one<R: Files + AllocGlobal>(
-    rt: &R,
-    case: Titled<'_>,
-    report: &mut Report<'_>,
-) -> io::Result<()> {
-    let scripted = Scripted::of(rt.alloc(), case.body)?;
-    let came = match genesis_named(rt, report.file(), scripted.network)? {
-        Some(genesis) => lines_of(rt.alloc(), genesis, scripted.script.as_bytes())?,
-        None => String::from_str(rt.alloc(), NO_NETWORK)?,
-    };
-    report.compare(case.title, "", &scripted.wanted, &came)?;
-    Ok(())
-}
-
-/// What comes of the cases of a file.
 pub fn judge<R: Files + AllocGlobal>(
     rt: &R,
-    text: &str,
+    case: Titled<'_>,
+    by_ledger: bool,
     report: &mut Report<'_>,
-) -> io::Result<()> {
-    for case in text.split(TITLE).skip(1) {
-        judge_one(rt, Titled::of(case), report)?;
-    }
-    Ok(())
+) -> Result<(), AllocError> {
+    let scripted = Scripted::of(case.body);
+    report.take_script(scripted)?;
+    run_script(rt, scripted.network, by_ledger, report)?;
+    report.compare(case.title, "")
 }

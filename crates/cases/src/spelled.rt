@@ -49,11 +49,11 @@ pub trait Spelled: Drop + Sized {
     /// How many bytes are left behind the text that stands in front, where a text may be followed by others.
     fn left_behind(alloc: Global, bytes: &[u8]) -> Option<usize>;
 
-    /// Its text.
-    fn text(&self, alloc: Global) -> Result<Vec<u8>, AllocError>;
+    /// Puts its text behind others.
+    fn put_text(&self, out: &mut Vec<u8>) -> Result<(), AllocError>;
 
-    /// The text of its copy.
-    fn text_of_copy(&self, alloc: Global) -> Result<Vec<u8>, AllocError>;
+    /// Puts the text of its copy behind others.
+    fn put_text_of_copy(&self, out: &mut Vec<u8>) -> Result<(), AllocError>;
 
     /// Puts what is known of it under this name behind a text.
     fn tell(&self, name: &str, out: &mut String) -> Result<(), AllocError>;
@@ -75,11 +75,4 @@ pub fn put_slot(out: &mut String, slot: Option<u64>) -> Result<(), AllocError> {
 /// Puts the answer to a name that says nothing.
 pub fn put_unknown(out: &mut String) -> Result<(), AllocError> {
     out.push_str("is not known")
-}
-
-/// The bytes and one more.
-pub fn followed(alloc: Global, bytes: &[u8]) -> Result<Vec<u8>, AllocError> {
-    let mut followed = Vec::from_slice(alloc, bytes)?;
-    followed.push(0xff)?;
-    Ok(followed)
 }

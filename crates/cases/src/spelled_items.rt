@@ -43,12 +43,12 @@ impl Spelled for WrittenItem {
         bytes.len().checked_sub(length)
     }
 
-    fn text(&self, alloc: Global) -> Result<Vec<u8>, AllocError> {
-        Vec::from_slice(alloc, &self.text)
+    fn put_text(&self, out: &mut Vec<u8>) -> Result<(), AllocError> {
+        out.extend_from_slice(&self.text)
     }
 
-    fn text_of_copy(&self, alloc: Global) -> Result<Vec<u8>, AllocError> {
-        Vec::from_slice(alloc, &self.text_of_copy)
+    fn put_text_of_copy(&self, out: &mut Vec<u8>) -> Result<(), AllocError> {
+        out.extend_from_slice(&self.text_of_copy)
     }
 
     fn tell(&self, name: &str, out: &mut String) -> Result<(), AllocError> {
@@ -106,24 +106,23 @@ impl Spelled for Value {
         Some(rest.len())
     }
 
-    fn text(&self, alloc: Global) -> Result<Vec<u8>, AllocError> {
-        let mut out = Vec::new(alloc);
-        self.write(&mut out)?;
-        Ok(out)
+    fn put_text(&self, out: &mut Vec<u8>) -> Result<(), AllocError> {
+        self.write(out)
     }
 
-    fn text_of_copy(&self, alloc: Global) -> Result<Vec<u8>, AllocError> {
-        self.try_clone()?.text(alloc)
+    fn put_text_of_copy(&self, out: &mut Vec<u8>) -> Result<(), AllocError> {
+        self.try_clone()?.write(out)
     }
 
     fn tell(&self, name: &str, out: &mut String) -> Result<(), AllocError> {
-        match name {
-            "coin" => put_number(out, self.coin()),
-            "policies" => put_number(out, self.assets().len() as u64),
-            "assets" => put_number(out, count_tokens(self.assets())),
-            "most" => put_number(out, greatest(self.assets())),
-            _ => put_unknown(out),
-        }
+        let number = match name {
+            "coin" => self.coin(),
+            "policies" => self.assets().len() as u64,
+            "assets" => count_tokens(self.assets()),
+            "most" => greatest(self.assets()),
+            _ => return put_unknown(out),
+        };
+        put_number(out, number)
     }
 }
 
@@ -151,14 +150,12 @@ impl Spelled for Mint {
         Some(rest.len())
     }
 
-    fn text(&self, alloc: Global) -> Result<Vec<u8>, AllocError> {
-        let mut out = Vec::new(alloc);
-        self.write(&mut out)?;
-        Ok(out)
+    fn put_text(&self, out: &mut Vec<u8>) -> Result<(), AllocError> {
+        self.write(out)
     }
 
-    fn text_of_copy(&self, alloc: Global) -> Result<Vec<u8>, AllocError> {
-        self.try_clone()?.text(alloc)
+    fn put_text_of_copy(&self, out: &mut Vec<u8>) -> Result<(), AllocError> {
+        self.try_clone()?.write(out)
     }
 
     fn tell(&self, name: &str, out: &mut String) -> Result<(), AllocError> {
@@ -181,14 +178,12 @@ impl Spelled for Script {
         Some(rest.len())
     }
 
-    fn text(&self, _alloc: Global) -> Result<Vec<u8>, AllocError> {
-        self.encode()
+    fn put_text(&self, out: &mut Vec<u8>) -> Result<(), AllocError> {
+        out.extend_from_slice(&self.encode()?)
     }
 
-    fn text_of_copy(&self, alloc: Global) -> Result<Vec<u8>, AllocError> {
-        let mut out = Vec::new(alloc);
-        self.try_clone()?.write(&mut out)?;
-        Ok(out)
+    fn put_text_of_copy(&self, out: &mut Vec<u8>) -> Result<(), AllocError> {
+        self.try_clone()?.write(out)
     }
 
     fn tell(&self, name: &str, out: &mut String) -> Result<(), AllocError> {

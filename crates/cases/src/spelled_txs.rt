@@ -23,32 +23,31 @@ impl Spelled for Tx {
         Some(rest.len())
     }
 
-    fn text(&self, _alloc: Global) -> Result<Vec<u8>, AllocError> {
-        self.encode()
+    fn put_text(&self, out: &mut Vec<u8>) -> Result<(), AllocError> {
+        out.extend_from_slice(&self.encode()?)
     }
 
-    fn text_of_copy(&self, alloc: Global) -> Result<Vec<u8>, AllocError> {
-        let mut out = Vec::new(alloc);
-        self.try_clone()?.write(&mut out)?;
-        Ok(out)
+    fn put_text_of_copy(&self, out: &mut Vec<u8>) -> Result<(), AllocError> {
+        self.try_clone()?.write(out)
     }
 
     fn tell(&self, name: &str, out: &mut String) -> Result<(), AllocError> {
-        match name {
-            "id" => write!(out, "{}", self.id()),
-            "size" => put_number(out, self.size()),
-            "nesting" => put_number(out, self.nesting() as u64),
-            "fee" => put_number(out, self.fee()),
-            "inputs" => put_number(out, self.inputs().len() as u64),
-            "outputs" => put_number(out, self.outputs().len() as u64),
-            "coin" => put_number(out, first_coin(self.outputs())),
-            "policies" => put_number(out, self.mint().policies().len() as u64),
-            "signatures" => put_number(out, self.signatures().len() as u64),
-            "scripts" => put_number(out, self.scripts().len() as u64),
-            "start" => put_slot(out, self.interval().start),
-            "end" => put_slot(out, self.interval().end),
-            _ => put_unknown(out),
-        }
+        let number = match name {
+            "id" => return write!(out, "{}", self.id()),
+            "start" => return put_slot(out, self.interval().start),
+            "end" => return put_slot(out, self.interval().end),
+            "size" => self.size(),
+            "nesting" => self.nesting() as u64,
+            "fee" => self.fee(),
+            "inputs" => self.inputs().len() as u64,
+            "outputs" => self.outputs().len() as u64,
+            "coin" => first_coin(self.outputs()),
+            "policies" => self.mint().policies().len() as u64,
+            "signatures" => self.signatures().len() as u64,
+            "scripts" => self.scripts().len() as u64,
+            _ => return put_unknown(out),
+        };
+        put_number(out, number)
     }
 }
 
@@ -65,23 +64,23 @@ impl Spelled for Block {
         }
     }
 
-    fn text(&self, alloc: Global) -> Result<Vec<u8>, AllocError> {
-        Vec::from_slice(alloc, self.bytes())
+    fn put_text(&self, out: &mut Vec<u8>) -> Result<(), AllocError> {
+        out.extend_from_slice(self.bytes())
     }
 
-    fn text_of_copy(&self, alloc: Global) -> Result<Vec<u8>, AllocError> {
-        let copy = self.try_clone()?;
-        Vec::from_slice(alloc, copy.bytes())
+    fn put_text_of_copy(&self, out: &mut Vec<u8>) -> Result<(), AllocError> {
+        out.extend_from_slice(self.try_clone()?.bytes())
     }
 
     fn tell(&self, name: &str, out: &mut String) -> Result<(), AllocError> {
-        match name {
-            "hash" => write!(out, "{}", self.hash()),
-            "number" => put_number(out, self.number()),
-            "slot" => put_number(out, self.slot()),
-            "transactions" => put_number(out, self.transactions().len() as u64),
-            "body" => put_number(out, self.body_size() as u64),
-            _ => put_unknown(out),
-        }
+        let number = match name {
+            "hash" => return write!(out, "{}", self.hash()),
+            "number" => self.number(),
+            "slot" => self.slot(),
+            "transactions" => self.transactions().len() as u64,
+            "body" => self.body_size() as u64,
+            _ => return put_unknown(out),
+        };
+        put_number(out, number)
     }
 }

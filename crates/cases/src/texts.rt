@@ -1,15 +1,13 @@
 //! Hexadecimal texts, of which each is read and written again, or is refused.
 
-use crate::book::{TITLE, Titled, head_of, says_nothing};
+use crate::book::{Titled, head_of, says_nothing};
 use crate::conditions::Conditions;
 use crate::hex_words::NamedBytes;
-use crate::report::Report;
-use crate::scripted::put_line;
-use crate::spelled::{Spelled, Unread, followed};
+use crate::report::{Report, put_all, put_line};
+use crate::spelled::{Spelled, Unread};
 use crate::spelled_items::WrittenItem;
 use block::Block;
 use std::alloc::{AllocError, Global};
-use std::io;
 use timelock::Script;
 use tx::Tx;
 use value::{Mint, Value};
@@ -42,112 +40,150 @@ impl<'a> Said<'a> {
             facts,
         }
     }
+
+    /// The line that is wanted besides that it is read: the fault of what is none, whether a script holds, or the
+    /// facts.
+    fn wanted_line(self) -> &'a str {
+        match self.kind {
+            _ if self.is_none && self.facts.is_empty() => "Malformed",
+            "holds" | "fails" if !self.is_none => self.kind,
+            _ => self.facts,
+        }
+    }
 }
 
-/// How the text that something was read of differs from what is written of it, if it does.
+/// How the text that something was read of differs from what is written of it, if it does. What is written is put into
+/// the other bytes.
 fn told_of_writing<T: Spelled>(
     alloc: Global,
     read: &T,
     bytes: &[u8],
+    written: &mut Vec<u8>,
 ) -> Result<&'static str, AllocError> {
-    let followed = followed(alloc, bytes)?;
-    if read.text(alloc)?.as_slice() != bytes {
+    read.put_text(written)?;
+    if written.as_slice() != bytes {
         return Ok("written otherwise\n");
     }
-    if read.text_of_copy(alloc)?.as_slice() != bytes {
+    written.clear();
+    read.put_text_of_copy(written)?;
+    if written.as_slice() != bytes {
         return Ok("copied otherwise\n");
     }
-    if T::left_behind(alloc, &followed) != Some(1) || T::read_whole(alloc, &followed).is_ok() {
+    written.push(0xff)?;
+    if T::left_behind(alloc, written) != Some(1) || T::read_whole(alloc, written).is_ok() {
         return Ok("read with the byte behind it\n");
     }
     Ok(READ)
 }
 
-/// Puts each fact with what is known of it behind a text.
+/// Puts a line of facts behind a text, each with what is known of it.
 fn put_facts<T: Spelled>(came: &mut String, read: &T, facts: &str) -> Result<(), AllocError> {
-    for (place, name) in facts.split_whitespace().enumerate() {
-        if place % 2 == 0 {
-            came.push_str(name)?;
-            came.push(' ')?;
-            read.tell(name, came)?;
-            came.push('\n')?;
-        }
+    if facts.is_empty() {
+        return Ok(());
     }
-    Ok(())
+    let mut is_first = true;
+    let mut is_name = true;
+    for word in facts.split_whitespace() {
+        if is_name {
+            let gap = if is_first { "" } else { " " };
+            put_all(came, &[gap, word, " "])?;
+            read.tell(word, came)?;
+        }
+        is_first = false;
+        is_name = !is_name;
+    }
+    came.push('\n')
 }
 
-/// What comes of bytes that are to be such a text.
-fn came_of<T: Spelled>(alloc: Global, bytes: &[u8], facts: &str) -> Result<String, AllocError> {
+/// Puts what is known of something that was read of bytes behind a text.
+fn put_read<T: Spelled>(
+    alloc: Global,
+    read: &T,
+    bytes: &[u8],
+    facts: &str,
+    came: &mut String,
+) -> Result<(), AllocError> {
+    let mut written = Vec::new(alloc);
+    let told = told_of_writing(alloc, read, bytes, &mut written)?;
+    came.push_str(told)?;
+    put_facts(came, read, facts)
+}
+
+/// Puts what comes of bytes that are to be such a text behind a text.
+fn put_came<T: Spelled>(
+    alloc: Global,
+    bytes: &[u8],
+    facts: &str,
+    came: &mut String,
+) -> Result<(), AllocError> {
     match T::read_whole(alloc, bytes) {
-        Ok(read) => {
-            let mut came = String::from_str(alloc, told_of_writing(alloc, &read, bytes)?)?;
-            put_facts(&mut came, &read, facts)?;
-            Ok(came)
-        }
+        Ok(read) => put_read(alloc, &read, bytes, facts, came),
         Err(Unread::OutOfMemory) => Err(AllocError),
-        Err(fault) => format!(in alloc; "{fault}\n"),
+        Err(fault) => write!(came, "{fault}\n"),
     }
 }
 
-/// What comes of a script that is judged under these conditions.
-fn came_of_judging(
+/// Puts whether a script holds under these conditions behind a text.
+fn put_judged(
+    alloc: Global,
+    named: &NamedBytes<'_>,
+    script: &Script,
+    facts: &str,
+    came: &mut String,
+) -> Result<(), AllocError> {
+    let mut conditions = Conditions::new(alloc);
+    let are_some = conditions.put_all(named, facts)?;
+    let met = conditions.are_met(script);
+    if !are_some {
+        return put_line(came, "conditions that are none");
+    }
+    put_line(came, if met { "holds" } else { "fails" })
+}
+
+/// Puts what comes of a script that is judged under these conditions behind a text.
+fn put_judging(
     alloc: Global,
     named: &NamedBytes<'_>,
     bytes: &[u8],
     facts: &str,
-) -> Result<String, AllocError> {
-    let mut came = came_of::<Script>(alloc, bytes, "")?;
-    let Ok(script) = Script::decode(alloc, bytes) else {
-        return Ok(came);
-    };
-    let mut conditions = Conditions::new(alloc);
-    if !conditions.put_all(named, facts)? {
-        put_line(&mut came, "conditions that are none")?;
+    came: &mut String,
+) -> Result<(), AllocError> {
+    put_came::<Script>(alloc, bytes, "", came)?;
+    match Script::decode(alloc, bytes) {
+        Ok(script) => put_judged(alloc, named, &script, facts, came),
+        Err(_) => Ok(()),
     }
-    let met = conditions.are_met(&script);
-    put_line(&mut came, if met { "holds" } else { "fails" })?;
-    Ok(came)
 }
 
-/// What is wanted of a line.
-fn wanted_of(alloc: Global, said: Said<'_>) -> Result<String, AllocError> {
-    if said.is_none {
-        let fault = if said.facts.is_empty() {
-            "Malformed"
-        } else {
-            said.facts
-        };
-        return format!(in alloc; "{fault}\n");
+/// Puts what is wanted of a line behind a text.
+fn put_wanted(wanted: &mut String, said: Said<'_>) -> Result<(), AllocError> {
+    if !said.is_none {
+        wanted.push_str(READ)?;
     }
-    let mut wanted = String::from_str(alloc, READ)?;
-    if said.kind == "holds" || said.kind == "fails" {
-        put_line(&mut wanted, said.kind)?;
-        return Ok(wanted);
+    match said.wanted_line() {
+        "" => Ok(()),
+        line => put_line(wanted, line),
     }
-    for (place, word) in said.facts.split_whitespace().enumerate() {
-        wanted.push_str(word)?;
-        wanted.push(if place % 2 == 0 { ' ' } else { '\n' })?;
-    }
-    Ok(wanted)
 }
 
-/// What comes of bytes of which this is said.
-fn came_of_said(
+/// Puts what comes of bytes of which this is said behind a text.
+fn put_came_of(
     alloc: Global,
     named: &NamedBytes<'_>,
     said: Said<'_>,
     bytes: &[u8],
-) -> Result<String, AllocError> {
+    came: &mut String,
+) -> Result<(), AllocError> {
     let facts = if said.is_none { "" } else { said.facts };
     match said.kind {
-        "item" => came_of::<WrittenItem>(alloc, bytes, facts),
-        "value" => came_of::<Value>(alloc, bytes, facts),
-        "mint" => came_of::<Mint>(alloc, bytes, facts),
-        "script" => came_of::<Script>(alloc, bytes, facts),
-        "transaction" => came_of::<Tx>(alloc, bytes, facts),
-        "block" => came_of::<Block>(alloc, bytes, facts),
-        "holds" | "fails" => came_of_judging(alloc, named, bytes, facts),
-        _ => String::from_str(alloc, "no such kind of text\n"),
+        "item" => put_came::<WrittenItem>(alloc, bytes, facts, came),
+        "value" => put_came::<Value>(alloc, bytes, facts, came),
+        "mint" => put_came::<Mint>(alloc, bytes, facts, came),
+        "script" => put_came::<Script>(alloc, bytes, facts, came),
+        "transaction" => put_came::<Tx>(alloc, bytes, facts, came),
+        "block" => put_came::<Block>(alloc, bytes, facts, came),
+        "holds" | "fails" => put_judging(alloc, named, bytes, facts, came),
+        _ => came.push_str("no such kind of text\n"),
     }
 }
 
@@ -160,13 +196,15 @@ fn judge_line(
     report: &mut Report<'_>,
 ) -> Result<(), AllocError> {
     let said = Said::of(line);
-    let wanted = wanted_of(alloc, said)?;
-    let came = match named.bytes_of(said.words)? {
-        Some(bytes) => came_of_said(alloc, named, said, &bytes)?,
-        None => String::from_str(alloc, "a word that is no hexadecimal and no name\n")?,
-    };
-    let told = format!(in alloc; ": {line}")?;
-    report.compare(title, &told, &wanted, &came)
+    put_wanted(&mut report.wanted, said)?;
+    if named.put_words(&mut report.script, said.words)? {
+        put_came_of(alloc, named, said, &report.script, &mut report.came)?;
+    } else {
+        report
+            .came
+            .push_str("a word that is no hexadecimal and no name")?;
+    }
+    report.compare(title, line)
 }
 
 /// What comes of a line of a case, or of one that gives a name.
@@ -184,25 +222,39 @@ fn take<'a>(
         return judge_line(alloc, title, named, line, report);
     };
     let (name, words) = binding.split_once(' ').unwrap_or((binding, ""));
-    if !named.bind(name, words)? {
-        report.compare(title, line, "a new name of words with a meaning", "none")?;
+    if named.bind(name, words)? {
+        return Ok(());
+    }
+    report
+        .came
+        .push_str("a name that is taken, or words without a meaning")?;
+    report.compare(title, line)
+}
+
+/// Gives names to bytes as the lines before the first title say.
+pub fn take_names<'a>(
+    alloc: Global,
+    text: &'a str,
+    named: &mut NamedBytes<'a>,
+    report: &mut Report<'_>,
+) -> Result<(), AllocError> {
+    for line in head_of(text).lines() {
+        if line.starts_with("let ") {
+            take(alloc, "the head", named, line, report)?;
+        }
     }
     Ok(())
 }
 
-/// What comes of the cases of a file.
-pub fn judge(alloc: Global, text: &str, report: &mut Report<'_>) -> io::Result<()> {
-    let mut named = NamedBytes::new(alloc);
-    for line in head_of(text).lines() {
-        if line.starts_with("let ") {
-            take(alloc, "the head", &mut named, line, report)?;
-        }
-    }
-    for case in text.split(TITLE).skip(1) {
-        let titled = Titled::of(case);
-        for line in titled.body.lines() {
-            take(alloc, titled.title, &mut named, line, report)?;
-        }
+/// What comes of the lines of a case, where these bytes have names.
+pub fn judge<'a>(
+    alloc: Global,
+    case: Titled<'a>,
+    named: &mut NamedBytes<'a>,
+    report: &mut Report<'_>,
+) -> Result<(), AllocError> {
+    for line in case.body.lines() {
+        take(alloc, case.title, named, line, report)?;
     }
     Ok(())
 }

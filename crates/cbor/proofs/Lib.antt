@@ -11,6 +11,7 @@ pub mod ShapeLaws
 pub mod ListLaws
 pub mod FieldLaws
 pub mod ListLoops
+pub mod Wants
 pub mod ShapeWrites
 pub mod ListWrites
 pub mod ForCallers

@@ -1,11 +1,12 @@
 -- Reading like items and entries one after the other, as a loop does.
-use Rattle.std.proofs.Common.{◌≡◌, ℕ, suc, ◌-◌, ◌+◌, ◌≤◌, ◌<◌, List, [], ◌∷◌, ◌++◌, length, map, Option, Some, None, refl, sym, ap, ◌∙◌, append-nil, append_assoc, arith}
+use Rattle.std.proofs.Common.{◌≡◌, ◌≢◌, ℕ, zero, suc, ◌-◌, ◌+◌, ◌≤◌, ◌<◌, List, [], ◌∷◌, ◌++◌, length, map, Option, Some, None, refl, sym, ap, ◌∙◌, append-nil, append_assoc, arith}
 use Rattle.std.proofs.lemmas.List.{map-append, length-map}
 use Rattle.cbor.specs.declared.fault.CborFault.{CborFault}
 use Rattle.cbor.specs.declared.fault.CborFault.TheVariants as faults
-use Rattle.cbor.specs.Reading.{◌>>=◌}
+use Rattle.cbor.specs.Reading.{◌>>=◌, head_at}
 use Rattle.cbor.specs.Gives.{Refuses}
-use Rattle.cbor.specs.Shapes.{Reading, list_at, EntryReading, entries_at}
+use Rattle.cbor.specs.Shapes.{Reading, list_at, list_array_at, EntryReading, entries_at}
+use Rattle.cbor.proofs.Steps.{bind_some, some_is}
 
 -- one more at the end
 pub map_push : {A E : Type 0} (plain : A → E) (old new : List A) (x : A) → new ≡ old ++ x ∷ [] → map plain new ≡ map plain old ++ plain x ∷ []
@@ -77,3 +78,26 @@ module _ {E : Type 0} where
       let c : count - i ≡ 0 = omega arith in
       let one : with_front front (entries_at entry before (count - i) bytes) ≡ Some (front, bytes) = rw c (ap (λ (es : List E). Some (es, bytes)) (append-nil front)) in
       sym so_far ∙ one
+
+-- ---- arrays that count none, and arrays that count some
+
+-- a list of some items is not empty
+listed : {A : Type 0} (read : Reading A) (count : ℕ) (bytes rest : List ℕ) → count ≢ 0 → list_at read count bytes ≡ Some ([], rest) → ⊥
+unfolding list_at
+listed read zero bytes rest some e = some refl
+listed {A} read (suc count) bytes rest some e =
+    let a = bind_some (read bytes) _ ([], rest) e in
+    let b = bind_some (list_at read count a.0.1) _ ([], rest) a.2 in
+    let same = ap (λ (x : List A × List ℕ). x.0) (some_is (a.0.0 ∷ b.0.0, b.0.1) ([], rest) b.2) in
+    absurd cc
+
+module _ {A : Type 0} (read : Reading A) (bytes : List ℕ) (count : ℕ) (first : List ℕ) (counts : head_at 4 bytes ≡ Some (count, first)) where
+  -- an array that counts some has some
+  pub some_in_array : (rest : List ℕ) → count ≢ 0 → list_array_at read bytes ≡ Some ([], rest) → ⊥
+  unfolding list_array_at
+  some_in_array rest some e = listed read count first rest some (sym (rw counts refl) ∙ e)
+
+  -- an array that counts none has none
+  pub none_in_array : count ≡ 0 → list_array_at read bytes ≡ Some ([], first)
+  unfolding list_array_at list_at
+  none_in_array none = rw (counts, none) refl

@@ -17,3 +17,12 @@ Gives view (Err fault) read = Refuses fault read
 abbrev pub IfMalformed : CborFault → Type 0 → Type 0
 IfMalformed faults.Malformed P = P
 IfMalformed faults.OutOfMemory P = Unit {0}
+
+-- a fact that holds where memory was wanting
+abbrev pub IfWant : CborFault → Type 0 → Type 0
+IfWant faults.Malformed P = Unit {0}
+IfWant faults.OutOfMemory P = P
+
+-- the reading gives nothing with this property
+abbrev pub GivesNo : {X : Type 0} → (X → Type 0) → Option X → Type 0
+GivesNo P read = (x : _) → read ≡ Some x → P x → ⊥

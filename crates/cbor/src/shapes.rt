@@ -1,6 +1,6 @@
 //! Readers of shapes that typed readers are made of: each accepts the one deterministic text of its shape.
 
-ghost use Rattle.std.specs.Prelude.{◌≡◌, [], List, ℕ, map, option_map};
+ghost use Rattle.std.specs.Prelude.{◌≡◌, [], List, ℕ, Some, map, option_map, OnErr};
 ghost use Rattle.cbor.specs.Gives.{Gives};
 ghost use Rattle.cbor.specs.Shapes.{Reading, bounded_at, short_at, members_at, list_at, list_array_at, nonempty_at};
 ghost use Rattle.cbor.specs.Shapes.{EntryReading, rising_at, entries_at, map_at};
@@ -108,16 +108,21 @@ pub fn list<T: Decode>(
 
 /// The members of an array of like items that stands first, each of which nests at most `depth` deep, and the bytes
 /// after it (RFC 8949, section 3.1). Malformed where no such array stands there. The count that the head claims
-/// reserves nothing.
+/// reserves nothing, and the empty array asks for no memory.
 #[tactic(auto, unfolding(crate::specs::Shapes::list_array_at))]
 pub fn list_array<T: Decode>(
     alloc: Global,
     depth: usize,
     bytes: &[u8],
 ) -> Result<(Vec<T>, &[u8]), CborFault>
-    ensures { Gives (λ x. (map T.plain x.0.items, x.1.now)) result (list_array_at (T.decoded_at depth) bytes.now) }
+    ensures exact { Gives (λ x. (map T.plain x.0.items, x.1.now)) result
+        (list_array_at (T.decoded_at depth) bytes.now) }
+    ensures some { OnErr result ((rest : List ℕ) → list_array_at (T.decoded_at depth) bytes.now ≡ Some ([], rest) → ⊥) }
 {
     let (count, rest) = reader::array(bytes).ok_or(CborFault::Malformed)?;
+    if count == 0 {
+        return Ok((Vec::new(alloc), rest));
+    }
     list(alloc, depth, count, rest)
 }
 

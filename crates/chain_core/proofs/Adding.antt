@@ -1,5 +1,5 @@
 -- A block that is kept: the chain, the store and the states are settled again.
-use Rattle.std.proofs.Common.{◌≡◌, ℕ, ◌+◌, ◌-◌, ◌<◌, ◌≤◌, true, false, List, ◌∷◌, ◌++◌, length, Contains, refl, sym, ap, subst, ◌∙◌, arith, inl, inr}
+use Rattle.std.proofs.Common.{◌≡◌, ℕ, ◌+◌, ◌-◌, ◌<◌, ◌≤◌, true, false, List, ◌∷◌, ◌++◌, length, take, Contains, refl, sym, ap, subst, ◌∙◌, arith, inl, inr}
 use Rattle.std.specs.Prelude.{min, Result, Ok, Err, IfOk, OnOk, OnErr}
 use Rattle.std.specs.declared.alloc.AllocError.{AllocError}
 use Rattle.std.specs.List.{AllByRecursion}
@@ -7,7 +7,8 @@ use Rattle.std.proofs.lemmas.List.{length-append, length-take}
 use Rattle.std.proofs.lemmas.List.Elements.{Contains-append_right}
 use Rattle.model.specs.Block.{Block}
 use Rattle.model.specs.Ledger.{Network}
-use Rattle.model.specs.Chain.{HaveDistinctHashes, immutable_length}
+use Rattle.std.specs.BTreeSet.{BTreeSet}
+use Rattle.model.specs.Chain.{HaveDistinctHashes, immutable_length, immutable_part}
 use Rattle.std.specs.Global.{Vec}
 use Rattle.model.specs.Rules.{Params}
 use Rattle.model.specs.Applying.{LedgerState, IsStateOf}
@@ -36,6 +37,8 @@ use Rattle.mempool.specs.View.{reply_of}
 use Rattle.mempool.specs.declared.reply.SubmitReply.{SubmitReply as CodeReply}
 use Rattle.chain_core.specs.Pools.{IsPoolOf, IsBroughtTo}
 use Rattle.chain_core.proofs.Pools.{pool_brought, stay_brought, submits, pool_after}
+use Rattle.chain_core.specs.PastHashes.{IsNoted, IsBlockNoted}
+use Rattle.chain_core.proofs.PastHashes.{blocks_keep}
 use Rattle.chain_core.specs.ChainDbs.{IsWhole, IsAdded, IsTakenIn, IsCutBack, IsCommitted, IsTaken}
 
 module _ (network : Network) (chain : List Block) (store : Store) (db : Database) (new : Block) (ready : IsReady network chain store db new) (invalid : List BlockHash)
@@ -122,41 +125,65 @@ settled_same network old new chain store db whole =
     (subst (λ (x : Store). IsSettled network old.chain.items x new.db) (sym store) (subst (λ (d : Database). IsSettled network old.chain.items old.store d) (sym db) whole.settled))
 
 -- and whole, with a mempool beside the chain
-whole_with : {S : Type 0} (network : Network) (old new : ChainDb S) → new.chain.items ≡ old.chain.items → new.store ≡ old.store → new.db ≡ old.db → IsPoolOf network old.chain.items new.mempool → IsWhole network old → IsWhole network new
-whole_with network old new chain store db pool whole = record {
+whole_with : {S : Type 0} (network : Network) (old new : ChainDb S) → new.chain.items ≡ old.chain.items → new.store ≡ old.store → new.db ≡ old.db → IsPoolOf network old.chain.items new.mempool
+    → ((hash : List ℕ) → IsNoted old.past hash → IsNoted new.past hash) → IsWhole network old → IsWhole network new
+whole_with network old new chain store db pool grows whole = record {
   settled = settled_same network old new chain store db whole;
   k = ap (λ (d : Database). d.k) db ∙ whole.k;
   capacity = ap (λ (x : Store). x.capacity) store ∙ whole.capacity;
   pool = subst (λ (c : List Block). IsPoolOf network c new.mempool) (sym chain) pool;
+  past = subst (λ (c : List Block). AllByRecursion (IsBlockNoted new.past) (immutable_part network.genesis c)) (sym chain) (blocks_keep old.past new.past grows (immutable_part network.genesis old.chain.items) whole.past);
 }
 
--- where nothing of it changes it is whole still
-pub whole_same : {S : Type 0} (network : Network) (old new : ChainDb S) → new.chain.items ≡ old.chain.items → new.store ≡ old.store → new.db ≡ old.db → new.mempool ≡ old.mempool → IsWhole network old → IsWhole network new
-whole_same network old new chain store db mempool whole = whole_with network old new chain store db (subst (IsPoolOf network old.chain.items) (sym mempool) whole.pool) whole
+-- where nothing of it changes but that more hashes are noted it is whole still
+pub whole_same : {S : Type 0} (network : Network) (old new : ChainDb S) → new.chain.items ≡ old.chain.items → new.store ≡ old.store → new.db ≡ old.db → new.mempool ≡ old.mempool
+    → ((hash : List ℕ) → IsNoted old.past hash → IsNoted new.past hash) → IsWhole network old → IsWhole network new
+whole_same network old new chain store db mempool grows whole = whole_with network old new chain store db (subst (IsPoolOf network old.chain.items) (sym mempool) whole.pool) grows whole
+
+-- where the hashes are the same no fewer are noted
+pub same_noted : (old new : BTreeSet (List ℕ)) → new ≡ old → (hash : List ℕ) → IsNoted old hash → IsNoted new hash
+same_noted old new same hash was = subst (λ (past : BTreeSet (List ℕ)). IsNoted past hash) (sym same) was
 
 -- ---- a submission
 
 pub taken : {S : Type 0} (network : Network) (old new : ChainDb S) (state : LedgerState) (params : Params) (slot : ℕ) (bytes : List ℕ) (reply : SubmitReply) → IsWhole network old → IsStateOf network old.chain.items state → params ≡ state.params → slot ≡ state.tip.slot
-    → IsSubmission network.verifies params (slot + 1) old.mempool bytes reply new.mempool → new.chain ≡ old.chain → new.store ≡ old.store → new.db ≡ old.db → IsTaken network old bytes reply new
-taken network old new state params slot bytes reply whole is params_is slot_is submission chain store db = record {
+    → IsSubmission network.verifies params (slot + 1) old.mempool bytes reply new.mempool → new.chain ≡ old.chain → new.store ≡ old.store → new.db ≡ old.db → new.past ≡ old.past → IsTaken network old bytes reply new
+taken network old new state params slot bytes reply whole is params_is slot_is submission chain store db past = record {
   submits = submits network old.chain.items state is old.mempool new.mempool whole.pool params slot bytes reply params_is slot_is submission;
-  whole = whole_with network old new (ap (λ (v : Vec Block). v.items) chain) store db (pool_after network old.chain.items state is old.mempool new.mempool whole.pool params slot bytes reply params_is slot_is submission) whole;
+  whole = whole_with network old new (ap (λ (v : Vec Block). v.items) chain) store db (pool_after network old.chain.items state is old.mempool new.mempool whole.pool params slot bytes reply params_is slot_is submission) (same_noted old.past new.past past) whole;
 }
 
 -- so it is whole after a submission, whatever is answered
 pub whole_after : {S : Type 0} (network : Network) (old new : ChainDb S) (bytes : List ℕ) (result : Result CodeReply AllocError) → IfOk result (λ reply. IsTaken network old bytes (reply_of reply) new) → new.chain ≡ old.chain → new.store ≡ old.store → new.db ≡ old.db
-    → OnErr result (new.mempool ≡ old.mempool) → IsWhole network old → IsWhole network new
-whole_after network old new bytes (Ok reply) ok chain store db err whole = ok.whole
-whole_after network old new bytes (Err e) ok chain store db err whole = whole_same network old new (ap (λ (v : Vec Block). v.items) chain) store db err whole
+    → new.past ≡ old.past → OnErr result (new.mempool ≡ old.mempool) → IsWhole network old → IsWhole network new
+whole_after network old new bytes (Ok reply) ok chain store db past err whole = ok.whole
+whole_after network old new bytes (Err e) ok chain store db past err whole = whole_same network old new (ap (λ (v : Vec Block). v.items) chain) store db err (same_noted old.past new.past past) whole
+
+-- ---- hashes that are noted at a switch
+
+pub switch_noted : {S : Type 0} (network : Network) (old : ChainDb S) → IsWhole network old → (switch : Switch S) (chain : Vec Block) (noted next : BTreeSet (List ℕ)) (k : ℕ) → chain.items ≡ old.chain.items → switch.back ≤ depth old.db → k ≡ network.genesis.k
+    → next ≡ noted
+    → (AllByRecursion (IsBlockNoted old.past) (take (length chain.items - depth old.db) chain.items)
+    → AllByRecursion (IsBlockNoted noted) (take (length chain.items - switch.back + length switch.blocks.items - k) (without_last switch.back chain.items ++ switch.blocks.items)))
+    → AllByRecursion (IsBlockNoted next) (immutable_part network.genesis (without_last switch.back old.chain.items ++ switch.blocks.items))
+switch_noted network old whole switch chain noted next k same within k_is stays told =
+    let items = old.chain.items in
+    let after = without_last switch.back items ++ switch.blocks.items in
+    let before : AllByRecursion (IsBlockNoted old.past) (take (length items - depth old.db) items) =
+    subst (λ n. AllByRecursion (IsBlockNoted old.past) (take n items)) (let d = whole.settled.depth in let e : immutable_length network.genesis items ≡ length items - depth old.db = omega (arith, d) in e) whole.past in
+    let here = subst (λ (bs : List Block). AllByRecursion (IsBlockNoted old.past) (take (length bs - depth old.db) bs) → AllByRecursion (IsBlockNoted noted) (take (length bs - switch.back + length switch.blocks.items - k) (without_last switch.back bs ++ switch.blocks.items))) same told before in
+    let count : length items - switch.back + length switch.blocks.items - k ≡ immutable_length network.genesis after =
+    omega (arith, k_is, length-append (without_last switch.back items) switch.blocks.items, length-take (length items - switch.back) items) in
+    subst (λ (p : BTreeSet (List ℕ)). AllByRecursion (IsBlockNoted p) (immutable_part network.genesis after)) (sym stays) (subst (λ n. AllByRecursion (IsBlockNoted noted) (take n after)) count here)
 
 -- ---- all that is kept
 
 module _ {S : Type 0} (network : Network) (old : ChainDb S) (new : Block) (whole : IsWhole network old) (ready : IsReady network old.chain.items old.store old.db new) (invalid : List BlockHash)
     (found : AllByRecursion (IsFoundDead network old.chain.items (new ∷ blocks_of old.store)) invalid) where
   -- the chain stays
-  pub added_kept : (next : ChainDb S) (told : Change) → IsTakenIn old.store new invalid next.store → next.chain.items ≡ old.chain.items → next.db ≡ old.db → next.mempool ≡ old.mempool → told.back ≡ 0 → told.added ≡ 0
+  pub added_kept : (next : ChainDb S) (told : Change) → IsTakenIn old.store new invalid next.store → next.chain.items ≡ old.chain.items → next.db ≡ old.db → next.mempool ≡ old.mempool → next.past ≡ old.past → told.back ≡ 0 → told.added ≡ 0
       → IsSelected network old.store old.chain.items new old.chain.items → IsAdded network old new next told
-  added_kept next told taken same_chain same_db same_pool no_back none_added selected = record {
+  added_kept next told taken same_chain same_db same_pool same_past no_back none_added selected = record {
     selected = subst (IsSelected network old.store old.chain.items new) (sym same_chain) selected;
     change = subst (λ (c : List Block). IsChange old.chain.items c told.back told.added) (sym same_chain) (no_change old.chain.items told.back told.added no_back none_added);
     live = λ kept holds. subst (λ (c : List Block). HoldsLive network.genesis (new ∷ kept) c next.store) (sym same_chain)
@@ -171,6 +198,8 @@ module _ {S : Type 0} (network : Network) (old : ChainDb S) (new : Block) (whole
       k = ap (λ (d : Database). d.k) same_db ∙ whole.k;
       capacity = taken.marked.capacity ∙ (taken.inserted.capacity ∙ whole.capacity);
       pool = pool_same network old.chain.items next.chain.items old.mempool next.mempool same_chain same_pool whole.pool;
+      past = subst (λ (c : List Block). AllByRecursion (IsBlockNoted next.past) (immutable_part network.genesis c)) (sym same_chain)
+          (subst (λ (p : BTreeSet (List ℕ)). AllByRecursion (IsBlockNoted p) (immutable_part network.genesis old.chain.items)) (sym same_past) whole.past);
     };
   }
     where
@@ -186,8 +215,8 @@ module _ {S : Type 0} (network : Network) (old : ChainDb S) (new : Block) (whole
   pub added_switched : (switch : Switch S) (mid : Store) (next : ChainDb S) (told : Change) → IsSwitch network old.chain.items old.store old.db new switch → IsTakenIn old.store new invalid mid
       → next.chain.items ≡ without_last switch.back old.chain.items ++ switch.blocks.items → IsCommitted old.db switch.prepared next.db → IsCutBack mid (length next.chain.items - depth next.db) next.store
       → (waiting : Waiting) → IsBroughtTo network (without_last switch.back old.chain.items ++ switch.blocks.items) old.mempool.waiting.txs waiting → next.mempool ≡ record old.mempool { waiting = waiting }
-      → told.back ≡ switch.back → told.added ≡ length switch.blocks.items → IsAdded network old new next told
-  added_switched switch mid next told is taken chain_is committed cut waiting brought pool_is back_is added_is = record {
+      → AllByRecursion (IsBlockNoted next.past) (immutable_part network.genesis (without_last switch.back old.chain.items ++ switch.blocks.items)) → told.back ≡ switch.back → told.added ≡ length switch.blocks.items → IsAdded network old new next told
+  added_switched switch mid next told is taken chain_is committed cut waiting brought pool_is noted back_is added_is = record {
     selected = selected;
     change = subst (λ (n : ℕ). IsChange old.chain.items next.chain.items told.back n) (sym added_is)
         (subst (λ (n : ℕ). IsChange old.chain.items next.chain.items n (length switch.blocks.items)) (sym back_is)
@@ -203,6 +232,7 @@ module _ {S : Type 0} (network : Network) (old : ChainDb S) (new : Block) (whole
       k = committed.k ∙ whole.k;
       capacity = cut.cut.capacity ∙ (taken.marked.capacity ∙ (taken.inserted.capacity ∙ whole.capacity));
       pool = pool_brought network next.chain.items old.mempool next.mempool waiting whole.pool.capacity brought_here pool_is;
+      past = subst (λ (c : List Block). AllByRecursion (IsBlockNoted next.past) (immutable_part network.genesis c)) (sym chain_is) noted;
     };
   }
     where
@@ -255,9 +285,10 @@ module _ {S : Type 0} (network : Network) (old : ChainDb S) (new : Block) (whole
   pub added_at_switch : (switch : Switch S) (mid next : ChainDb S) (result : Result Change AllocError) → IsSwitch network old.chain.items old.store old.db new switch → IsTakenIn old.store new invalid mid.store
       → mid.chain.items ≡ old.chain.items → mid.db ≡ old.db → OnOk result (next.chain.items ≡ without_last switch.back mid.chain.items ++ switch.blocks.items) → OnOk result (IsCommitted mid.db switch.prepared next.db)
       → OnOk result (IsCutBack mid.store (length next.chain.items - depth next.db) next.store)
-      → (waiting : Waiting) → IsBroughtTo network (without_last switch.prepared.back old.chain.items ++ switch.blocks.items) old.mempool.waiting.txs waiting → next.mempool ≡ record old.mempool { waiting = waiting } → IfOk result (λ told. (told.back ≡ switch.back) × (told.added ≡ length switch.blocks.items)) → IfOk result (IsAdded network old new next)
-  added_at_switch switch mid next (Err e) is taken same_chain same_db chain_is committed cut waiting brought pool_is told_is = tt
-  added_at_switch switch mid next (Ok told) is taken same_chain same_db chain_is committed cut waiting brought pool_is told_is =
+      → (waiting : Waiting) → IsBroughtTo network (without_last switch.prepared.back old.chain.items ++ switch.blocks.items) old.mempool.waiting.txs waiting → next.mempool ≡ record old.mempool { waiting = waiting }
+      → AllByRecursion (IsBlockNoted next.past) (immutable_part network.genesis (without_last switch.back old.chain.items ++ switch.blocks.items)) → IfOk result (λ told. (told.back ≡ switch.back) × (told.added ≡ length switch.blocks.items)) → IfOk result (IsAdded network old new next)
+  added_at_switch switch mid next (Err e) is taken same_chain same_db chain_is committed cut waiting brought pool_is noted told_is = tt
+  added_at_switch switch mid next (Ok told) is taken same_chain same_db chain_is committed cut waiting brought pool_is noted told_is =
       added_switched switch mid.store next told is taken (chain_is ∙ ap (λ (c : List Block). without_last switch.back c ++ switch.blocks.items) same_chain)
       (subst (λ (d : Database). IsCommitted d switch.prepared next.db) same_db committed) cut waiting
-      (subst (λ (n : ℕ). IsBroughtTo network (without_last n old.chain.items ++ switch.blocks.items) old.mempool.waiting.txs waiting) is.back brought) pool_is told_is.0 told_is.1
+      (subst (λ (n : ℕ). IsBroughtTo network (without_last n old.chain.items ++ switch.blocks.items) old.mempool.waiting.txs waiting) is.back brought) pool_is noted told_is.0 told_is.1

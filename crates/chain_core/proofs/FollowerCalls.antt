@@ -1,5 +1,5 @@
 -- The calls of followers are steps of every state that the core stands for.
-use Rattle.std.proofs.Common.{◌≡◌, ℕ, zero, suc, ◌<◌, ◌≤◌, Bool, true, false, List, [], ◌∷◌, length, take, map, Option, Some, None, Result, Ok, Err, refl, sym, ap, subst, ◌∙◌, inl, inr, ◌⊎◌, arith}
+use Rattle.std.proofs.Common.{◌≡◌, ℕ, zero, suc, ◌<◌, ◌≤◌, Bool, true, false, List, [], ◌∷◌, length, take, Option, Some, None, Result, Ok, Err, refl, sym, ap, subst, ◌∙◌, inl, inr, arith}
 use Rattle.std.specs.Prelude.{IfOk, IfErr, OnErr, OnOk, IsErrAnd, IsTrue, ◌↔◌, slice_set, slice_get, option_map, nat_lt, if◌then◌else◌}
 use Rattle.std.proofs.lemmas.Bool.{cases_lt, ltb-true, ltb-false}
 use Rattle.std.proofs.lemmas.List.{take_all, length-take-le}
@@ -7,10 +7,10 @@ use Rattle.model.specs.Signature.{Verifies}
 use Rattle.model.specs.Genesis.{Genesis}
 use Rattle.model.specs.Ledger.{network_of}
 use Rattle.model.specs.Block.{Block}
-use Rattle.model.specs.Chain.{Point as Place', genesis_tip, tip_after, tip_point, IsLinked}
+use Rattle.model.specs.Chain.{Point as Place', genesis_tip, tip_point, IsLinked}
 use Rattle.model.specs.Transaction.{Transaction}
 use Rattle.model.specs.Limits.{follower_limit}
-use Rattle.model.specs.Follower.{Followers, follower_of, free_id, with_first_free, with_opened, standing_at, IsFirstOn, IsOn}
+use Rattle.model.specs.Follower.{Followers, follower_of, free_id, with_opened, standing_at, IsFirstOn, IsOn}
 use Rattle.model.specs.History.{State, Open, Next, Forward, Close, Step, HasDue}
 use Rattle.model.proofs.Chains.{tip_number}
 use Rattle.ident.specs.PointView.{point_of}

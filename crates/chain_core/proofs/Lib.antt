@@ -1,5 +1,6 @@
 pub mod NextStores
 pub mod Pools
+pub mod PastHashes
 pub mod Adding
 pub mod Tips
 pub mod Refusals

@@ -1,5 +1,5 @@
 -- The first of some points that is on a chain, found one by one.
-use Rattle.std.proofs.Common.{◌≡◌, ℕ, zero, suc, ◌+◌, ◌<◌, ◌≤◌, List, [], ◌∷◌, length, drop, map, Option, Some, None, slice_index_or, refl, sym, ap, subst, ◌∙◌, inl, inr, arith}
+use Rattle.std.proofs.Common.{◌≡◌, ℕ, zero, suc, ◌+◌, ◌<◌, ◌≤◌, List, [], ◌∷◌, length, drop, map, Option, Some, None, slice_index_or, refl, sym, ap, subst, inl, inr, arith}
 use Rattle.model.specs.Block.{Block}
 use Rattle.model.specs.Chain as chain
 use Rattle.model.specs.Follower.{IsOn, IsFirstOn}

@@ -11,8 +11,8 @@ use Rattle.model.specs.Applying.{LedgerState, IsStateOf}
 use Rattle.model.specs.Mempool.{utxo_after_all, passed, utxo_of, next_slot, revalidated, IsValidPool, SubmitReply, Answers, Submits}
 use Rattle.model.proofs.MempoolSteps.{up_to_date, nothing_valid, submitted_valid}
 use Rattle.mempool.specs.Pool.{Pool, Waiting}
-use Rattle.mempool.specs.Calls.{passed_on, IsSubmission}
-use Rattle.chain_core.specs.Pools.{IsPoolOf, IsBroughtTo}
+use Rattle.mempool.specs.Calls.{passed_on, IsSubmission, IsWantFor}
+use Rattle.chain_core.specs.Pools.{IsPoolOf, IsBroughtTo, IsWantOf}
 
 module _ (network : Network) (chain : List Block) (state : LedgerState) (is : IsStateOf network chain state) where
   -- the unspent outputs of the chain are those of its state
@@ -65,6 +65,18 @@ module _ (network : Network) (chain : List Block) (state : LedgerState) (is : Is
       valid = submitted_valid network chain pool.waiting.txs bytes reply new.waiting.txs submits of.valid;
       unspent = λ utxo of_chain. submission.unspent utxo (of.unspent utxo of_chain);
     }
+
+  -- where memory was wanting in the code's mempool it was wanting beside the chain
+  pub wants : (pool : Pool) → IsPoolOf network chain pool → (params : Params) (slot : ℕ) → params ≡ state.params → slot ≡ state.tip.slot → (bytes : List ℕ)
+      → IsWantFor network.verifies params (slot + 1) pool bytes → IsWantOf network chain pool.waiting.txs bytes
+  wants pool of params slot params_is slot_of bytes want reply early after s =
+      let same : state.ledger.utxo ≡ s.utxo = one_utxo state.ledger.utxo s.utxo outputs_are (sym outputs_are ∙ s.of_chain) in
+      let unspent : utxo_after_all s.utxo pool.waiting.txs ≡ pool.waiting.unspent = sym (of.unspent state.ledger.utxo outputs_are ∙ ap (λ (u : Utxo). utxo_after_all u pool.waiting.txs) same) in
+      want reply early
+      (subst (λ (p : Params). Answers network.verifies p (slot + 1) pool.waiting.unspent pool.capacity pool.waiting.txs bytes reply) (sym (params_is ∙ is.params))
+      (subst (λ (n : ℕ). Answers network.verifies network.genesis.params n pool.waiting.unspent pool.capacity pool.waiting.txs bytes reply) (sym (ap (λ n. n + 1) slot_of ∙ slot_is))
+      (subst (λ (u : Utxo). Answers network.verifies network.genesis.params (next_slot chain) u pool.capacity pool.waiting.txs bytes reply) unspent
+      (subst (λ (n : ℕ). Answers network.verifies network.genesis.params (next_slot chain) (utxo_after_all s.utxo pool.waiting.txs) n pool.waiting.txs bytes reply) (sym of.capacity) s.answers))))
 
 -- a mempool that was brought up to date with another chain is that chain's
 pub pool_brought : (network : Network) (chain : List Block) (old new : Pool) (waiting : Waiting) → old.capacity ≡ network.genesis.max_mempool → IsBroughtTo network chain old.waiting.txs waiting

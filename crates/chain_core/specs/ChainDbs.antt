@@ -1,8 +1,10 @@
 -- The selected chain with what selection stands on, and what becomes of them when a block is kept.
 use Rattle.std.specs.Prelude.{◌≡◌, ◌↔◌, ◌⊎◌, ℕ, ◌+◌, ◌-◌, min, true, List, ◌∷◌, ◌++◌, Contains}
+use Rattle.std.specs.List.{AllByRecursion}
 use Rattle.model.specs.Block.{Block, block_hash_of}
 use Rattle.model.specs.Genesis.{Genesis}
 use Rattle.model.specs.Ledger.{Network}
+use Rattle.model.specs.Chain.{immutable_part}
 use Rattle.model.specs.Mempool.{SubmitReply, revalidated, Submits}
 use Rattle.model.specs.History.{State, IsChange}
 use Rattle.ident.specs.Kinds.{BlockHash}
@@ -15,15 +17,18 @@ use Rattle.ledgerdb.specs.Chains.{without_last, IsDatabaseOf, IsPreparedOf}
 use Rattle.chainsel.specs.Ready.{IsSettled}
 use Rattle.chainsel.specs.Choices.{IsSelected}
 use Rattle.chain_core.specs.Pools.{IsPoolOf}
+use Rattle.chain_core.specs.PastHashes.{IsBlockNoted}
 use Rattle.chain_core.specs.declared.chain_db.ChainDb.{ChainDb}
 use Rattle.chain_core.specs.declared.chain_db.Change.{Change}
 
--- between two arrivals: settled, with the limits of the genesis, and the mempool beside the chain
+-- between two arrivals: settled, with the limits of the genesis, the mempool beside the chain, and the hashes of the
+-- blocks that are never rolled back noted
 pub record IsWhole {S : Type 0} (network : Network) (a : ChainDb S) : Type 0 where
   pub settled : IsSettled network a.chain.items a.store a.db
   pub k : a.db.k ≡ network.genesis.k
   pub capacity : a.store.capacity ≡ network.genesis.max_volatile
   pub pool : IsPoolOf network a.chain.items a.mempool
+  pub past : AllByRecursion (IsBlockNoted a.past) (immutable_part network.genesis a.chain.items)
 
 -- the state has this chain, and its live blocks are those of the store
 pub record HasState {S : Type 0} (genesis : Genesis) (a : ChainDb S) (s : State) : Type 0 where

@@ -1,5 +1,5 @@
 -- What following promises.
-use Rattle.std.specs.Prelude.{◌≡◌, ◌≤◌, ◌<◌, ℕ, length, Option, Some}
+use Rattle.std.specs.Prelude.{◌≡◌, ◌<◌, ℕ, Option, Some}
 use Rattle.model.specs.Follower.{free_id}
 use Rattle.model.specs.Limits.{follower_limit}
 use Rattle.model.specs.History.{State, HasDue}

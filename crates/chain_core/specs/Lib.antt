@@ -7,3 +7,4 @@ pub mod Judgements
 pub mod ForgedBlocks
 pub mod Inside
 pub mod FollowerCalls
+pub mod PastHashes

@@ -1,9 +1,11 @@
 //! The selected chain with what selection stands on.
 
-ghost use Rattle.std.specs.Prelude.{◌≡◌, ◌≤◌, ◌+◌, ◌-◌, ◌++◌, [], List, ℕ, length, IfOk, OnOk, OnErr, vec_capacity};
+ghost use Rattle.std.specs.Prelude.{◌≡◌, ◌≤◌, ◌<◌, ◌+◌, ◌-◌, ◌^◌, ◌++◌, [], List, ℕ, length, take, IfOk, OnOk, OnErr};
+ghost use Rattle.std.specs.Prelude.{vec_capacity};
+ghost use Rattle.std.specs.List.{AllByRecursion};
 ghost use Rattle.model.specs.Genesis.{Genesis};
-ghost use Rattle.model.specs.Transaction.{SpellsTransaction};
-ghost use Rattle.model.specs.Mempool.{IsInPool};
+ghost use Rattle.model.specs.Transaction.{Transaction, SpellsTransaction};
+ghost use Rattle.tx.specs.Bare.{IsBare};
 ghost use Rattle.mempool.specs.View.{reply_of};
 ghost use Rattle.model.specs.Block.{Block};
 ghost use Rattle.model.specs.Ledger.{Network, network_of};
@@ -15,8 +17,10 @@ ghost use Rattle.ledgerdb.specs.Values.{depth};
 ghost use Rattle.ledgerdb.specs.Chains.{without_last, IsDatabaseOf, IsPreparedOf};
 ghost use Rattle.chain_core.specs.ChainDbs.{IsWhole, IsAdded, AreMarked, IsTakenIn, IsCutBack, IsCommitted};
 ghost use Rattle.chain_core.specs.ChainDbs.{IsTaken};
-ghost use Rattle.chain_core.specs.Pools.{IsBroughtTo};
+ghost use Rattle.chain_core.specs.PastHashes.{IsNoted, IsBlockNoted};
+ghost use Rattle.chain_core.specs.Pools.{IsBroughtTo, IsWantOf};
 
+use crate::past::{Bytes, note_all};
 use block::CheckedBlock;
 use blockstore::BlockStore;
 use chainsel::{Choice, Selection, Switch, select};
@@ -26,6 +30,7 @@ use ledger::LedgerState;
 use ledgerdb::LedgerDb;
 use mempool::{Mempool, Resynced, SubmitReply};
 use std::alloc::{AllocError, Global};
+use std::collections::BTreeSet;
 use witness_pool::{CheckedTx, SigScheme};
 
 /// How many blocks of the old selected chain were rolled back, and how many of the new one were put on.
@@ -35,13 +40,15 @@ pub struct Change {
     pub added: u64,
 }
 
-/// The selected chain, the live blocks, the states of the chain's last blocks, and the mempool beside it.
+/// The selected chain, the live blocks, the states of the chain's last blocks, the mempool beside it, and the hashes of
+/// the blocks that are never rolled back: with those of the live blocks they are all by which a block can clash.
 #[derive(Drop)]
 pub struct ChainDb<S: SigScheme> {
     pub chain: Vec<CheckedBlock<S>>,
     pub store: BlockStore<S>,
     pub db: LedgerDb,
     pub mempool: Mempool<S>,
+    pub past: BTreeSet<Bytes>,
 }
 
 /// Marks the blocks of these hashes as blocks that no valid chain will ever have. Takes no memory.
@@ -71,6 +78,7 @@ impl<S: SigScheme> ChainDb<S> {
             store,
             db,
             mempool,
+            past: BTreeSet::new(alloc),
         })
     }
 
@@ -108,6 +116,7 @@ impl<S: SigScheme> ChainDb<S> {
         ensures store { OnErr result (self.new.store ≡ self.old.store) }
         ensures db { OnErr result (self.new.db ≡ self.old.db) }
         ensures mempool { OnErr result (self.new.mempool ≡ self.old.mempool) }
+        ensures past { (hash : List ℕ) → IsNoted self.old.past hash → IsNoted self.new.past hash }
     {
         let Selection { choice, invalid } = select(
             alloc,
@@ -124,6 +133,7 @@ impl<S: SigScheme> ChainDb<S> {
             Choice::Switch(switch) => {
                 let resynced = self.resync(&switch)?;
                 self.chain.reserve(switch.blocks.len())?;
+                self.note_past(genesis.k(), &switch)?;
                 self.insert(block, &invalid)?;
                 self.mempool.put(resynced);
                 self.switch_to(switch)
@@ -145,12 +155,38 @@ impl<S: SigScheme> ChainDb<S> {
             .resync(state.params(), state.utxo(), state.slot() + 1)
     }
 
+    /// Notes the hashes of the blocks that the switch puts past the last `k` ones. Where memory runs out some of them
+    /// may be noted, which changes no answer.
+    fn note_past(&mut self, k: u64, switch: &Switch<S>) -> Result<(), AllocError>
+        requires back { switch.now.back ≤ length self.old.chain.items }
+        requires room { length self.old.chain.items + length switch.now.blocks.items < 2 ^ 64 }
+        ensures kept { (hash : List ℕ) → IsNoted self.old.past hash → IsNoted self.new.past hash }
+        ensures noted { OnOk result (
+            AllByRecursion (IsBlockNoted self.old.past)
+            (take (length self.old.chain.items - depth self.old.db) self.old.chain.items) →
+            AllByRecursion (IsBlockNoted self.new.past)
+            (take (length self.old.chain.items - switch.now.back + length switch.now.blocks.items - k)
+            (without_last switch.now.back self.old.chain.items ++ switch.now.blocks.items))) }
+        ensures chain { self.new.chain ≡ self.old.chain }
+        ensures store { self.new.store ≡ self.old.store }
+        ensures db { self.new.db ≡ self.old.db }
+        ensures mempool { self.new.mempool ≡ self.old.mempool }
+    {
+        let stays = self.chain.len() - switch.back;
+        let past = (stays + switch.blocks.len()).saturating_sub(k as usize);
+        let (to, more) = (past.min(stays), past.saturating_sub(stays));
+        let from = self.immutable().min(to);
+        note_all(&mut self.past, &self.chain[from..to])?;
+        note_all(&mut self.past, &switch.blocks[..more])
+    }
+
     /// Takes the block into the store, and marks the blocks of these hashes. Where memory runs out nothing changes.
     fn insert(&mut self, block: CheckedBlock<S>, invalid: &[BlockHash]) -> Result<(), AllocError>
         ensures ok { OnOk result (IsTakenIn self.old.store block invalid.now self.new.store) }
         ensures chain { self.new.chain ≡ self.old.chain }
         ensures db { self.new.db ≡ self.old.db }
         ensures mempool { self.new.mempool ≡ self.old.mempool }
+        ensures past { self.new.past ≡ self.old.past }
         ensures err { OnErr result (self.new.store ≡ self.old.store) }
     {
         if self.store.insert(block).is_err() {
@@ -173,6 +209,7 @@ impl<S: SigScheme> ChainDb<S> {
         ensures change { IfOk result (λ change.
             (change.back ≡ switch.back) × (change.added ≡ length switch.blocks.items)) }
         ensures mempool { self.new.mempool ≡ self.old.mempool }
+        ensures past { self.new.past ≡ self.old.past }
         ensures err { OnErr result ⊥ }
     {
         let mut blocks = switch.blocks;
@@ -189,7 +226,7 @@ impl<S: SigScheme> ChainDb<S> {
     }
 
     /// Bytes of a transaction are submitted, and judged at the slot after the tip's. Where memory runs out nothing
-    /// changes.
+    /// changes, and it doesn't where the transaction has no parts.
     pub fn submit(&mut self, bytes: &[u8]) -> Result<SubmitReply, AllocError>
         ensures ok { IfOk result (λ reply. (genesis : Genesis) → IsWhole (network_of genesis S.verifies) self.old →
             IsTaken (network_of genesis S.verifies) self.old bytes.now (reply_of reply) self.new) }
@@ -199,6 +236,7 @@ impl<S: SigScheme> ChainDb<S> {
         ensures store { self.new.store ≡ self.old.store }
         ensures db { self.new.db ≡ self.old.db }
         ensures err { OnErr result (self.new.mempool ≡ self.old.mempool) }
+        ensures memory { OnErr result ((t : Transaction) → SpellsTransaction t bytes.now → IsBare t → ⊥) }
     {
         let state = self.db.state();
         self.mempool.submit(state.params(), state.slot() + 1, bytes)
@@ -215,7 +253,9 @@ impl<S: SigScheme> ChainDb<S> {
         ensures store { self.new.store ≡ self.old.store }
         ensures db { self.new.db ≡ self.old.db }
         ensures err { OnErr result (self.new.mempool ≡ self.old.mempool) }
-        ensures memory { OnErr result (IsInPool self.old.mempool.waiting.txs tx → ⊥) }
+        ensures memory { OnErr result ((genesis : Genesis) → IsWhole (network_of genesis S.verifies) self.old →
+            (bytes : List ℕ) → SpellsTransaction tx bytes → IsWantOf (network_of genesis S.verifies)
+            self.old.chain.items self.old.mempool.waiting.txs bytes) }
     {
         let state = self.db.state();
         self.mempool

@@ -8,6 +8,7 @@ mod event;
 mod follower;
 mod forging;
 mod node_core;
+mod past;
 mod place;
 mod refusal;
 

@@ -53,8 +53,9 @@ impl<S: SigScheme> Model for Core<S> {
 
 impl<S: SigScheme> Core<S> {
     ghost use Rattle.std.specs.Prelude.{◌≡◌, ◌≤◌, ℕ, List, [], length, Some, IfOk, IfErr, OnErr, map};
-    ghost use Rattle.model.specs.Transaction.{SpellsTransaction};
-    ghost use Rattle.model.specs.Mempool.{IsInPool};
+    ghost use Rattle.model.specs.Transaction.{Transaction, SpellsTransaction};
+    ghost use Rattle.tx.specs.Bare.{IsBare};
+    ghost use Rattle.chain_core.specs.Pools.{IsWantOf};
     ghost use Rattle.model.specs.Block.{Block as Plain, SpellsBlock};
     ghost use Rattle.model.specs.Chain.{tip_point};
     ghost use Rattle.model.specs.Ledger.{Ledger, network_of, ledger_of};
@@ -91,9 +92,9 @@ impl<S: SigScheme> Core<S> {
     /// Reads and hashes the bytes once, and copies them once where they aren't refused. A refusal takes no memory, but
     /// for the transactions that are read before it is known. A block that extends the tip is judged once, and one of
     /// a fork that is not longer isn't judged. A few look-ups among the live blocks, and one more for each block on the
-    /// way to the new one, for each that goes on from it and for each that becomes immutable. The hashes of the chain's
-    /// blocks are compared once. Where the chain changes, each transaction of the mempool is judged once. Each follower
-    /// is looked at once.
+    /// way to the new one, for each that goes on from it and for each that becomes immutable; one among the hashes of
+    /// immutable blocks, and one more for each that becomes immutable. Where the chain changes, each transaction of the
+    /// mempool is judged once. Each follower is looked at once.
     pub fn arrive(&mut self, bytes: &[u8]) -> Result<ArriveReply, AllocError>
         // For every state of the definitions that the core stands for, this is a step to one that it then stands for.
         ensures step { (s : State) → Stands self.old s → (t : State)
@@ -170,12 +171,15 @@ impl<S: SigScheme> Core<S> {
     /// chain's unspent outputs, at the slot after its tip's, and the transaction waits at the mempool's end, or the
     /// reply says why it doesn't. Where memory runs out nothing changes.
     ///
-    /// Linear in the bytes, with a look-up of the identifier; only a transaction that is new has its signatures
-    /// verified.
+    /// Linear in the bytes, with a look-up of the identifier; only a transaction that is new, and against which none of
+    /// the reasons 1 to 7 is there, has its signatures verified. Memory is asked for from the first part of a
+    /// transaction on that is read.
     pub fn submit(&mut self, bytes: &[u8]) -> Result<SubmitReply, AllocError>
         ensures step { (s : State) → Stands self.old s → (t : State)
             × Step (network_of self.old.genesis S.verifies) s (Submit bytes.now) (submit_reply_of result) t
             × Stands self.new t }
+        // Memory is asked for while the parts of a transaction are read, and then only where the answer isn't known.
+        ensures memory { OnErr result ((t : Transaction) → SpellsTransaction t bytes.now → IsBare t → ⊥) }
         ensures genesis { self.new.genesis ≡ self.old.genesis }
         ensures err { OnErr result (self.new ≡ self.old) }
     {
@@ -183,13 +187,15 @@ impl<S: SigScheme> Core<S> {
     }
 
     /// A transaction is submitted whose signatures and scripts were judged before, on this thread or another. The
-    /// answer is that of [`Core::submit`] to its bytes. Where memory runs out nothing changes.
+    /// answer is that of [`Core::submit`] to its bytes. Where memory runs out nothing changes; it is asked for only
+    /// where the transaction isn't known, and none of the reasons 1 to 7 is there.
     pub fn submit_checked(&mut self, tx: CheckedTx<S>) -> Result<SubmitReply, AllocError>
         ensures step { (bytes : List ℕ) → SpellsTransaction tx bytes → (s : State) → Stands self.old s → (t : State)
             × Step (network_of self.old.genesis S.verifies) s (Submit bytes) (submit_reply_of result) t
             × Stands self.new t }
-        // Memory is asked for only where the transaction isn't known.
-        ensures memory { OnErr result (IsInPool self.old.mempool tx → ⊥) }
+        // Memory is asked for only where it isn't known without it what is answered.
+        ensures memory { OnErr result ((bytes : List ℕ) → SpellsTransaction tx bytes →
+            IsWantOf (network_of self.old.genesis S.verifies) self.old.chain self.old.mempool bytes) }
         ensures genesis { self.new.genesis ≡ self.old.genesis }
         ensures err { OnErr result (self.new ≡ self.old) }
     {

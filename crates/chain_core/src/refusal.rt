@@ -5,12 +5,14 @@ ghost use Rattle.block.specs.Read.{IsRead};
 ghost use Rattle.model.specs.Block.{Block as Plain};
 ghost use Rattle.model.specs.Ledger.{Network};
 ghost use Rattle.model.specs.History.{State};
+ghost use Rattle.blockstore.specs.Answers.{HasNoneAt};
 ghost use Rattle.chain_core.specs.Views.{refusal_of};
 ghost use Rattle.chain_core.specs.ChainDbs.{IsWhole, HasState};
 ghost use Rattle.chain_core.specs.Judgements.{IsClashWith, IsPointOf, IsJudged};
 
 use crate::arrival::Refusal;
 use crate::chain_db::ChainDb;
+use crate::past::is_noted;
 use block::CheckedBlock;
 use ident::{BlockHash, Point};
 use witness_pool::SigScheme;
@@ -34,8 +36,18 @@ fn has_clash<S: SigScheme>(chain: &[CheckedBlock<S>], hash: BlockHash, bytes: &[
     false
 }
 
+/// The same of the selected chain, where no live block has the hash. The chain is looked through only where the hash is
+/// that of a block which is never rolled back, since the others of the chain are live.
+fn clashes_with_chain<S: SigScheme>(chain_db: &ChainDb<S>, hash: BlockHash, bytes: &[u8]) -> bool
+    ensures { (network : Network) → IsWhole network chain_db.now → HasNoneAt chain_db.now.store hash.bytes
+        → (IsTrue result ↔ Any (λ c. IsClashWith hash.bytes bytes.now c) chain_db.now.chain.items) }
+{
+    is_noted(&chain_db.past, hash) && has_clash(&chain_db.chain, hash, bytes)
+}
+
 /// Why the block at this point that was read from these bytes is not kept: the first reason that applies, if any does.
-/// Takes a look-up in the store, time that grows with the chain, and no memory. Texts are compared where hashes agree.
+/// Takes a look-up in the store, one among the hashes of the chain's older blocks, and no memory. Texts are compared,
+/// and the chain is looked through, only where hashes agree.
 pub fn first_refusal<S: SigScheme>(
     chain_db: &ChainDb<S>,
     point: Point,
@@ -55,7 +67,7 @@ pub fn first_refusal<S: SigScheme>(
         }
         return Some(Refusal::Clash);
     }
-    if has_clash(&chain_db.chain, point.hash, bytes) {
+    if clashes_with_chain(chain_db, point.hash, bytes) {
         return Some(Refusal::Clash);
     }
     if chain_db.store.is_full() {

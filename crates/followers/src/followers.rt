@@ -144,8 +144,8 @@ impl Followers {
         Ok(())
     }
 
-    /// Closes the follower of this number, which is then free. Where none is open nothing changes. Takes time that grows
-    /// with the logarithm of how many numbers are free, and no memory.
+    /// Closes the follower of this number, which is then free. Where none is open nothing changes. Takes time that
+    /// grows with the logarithm of how many numbers are free, and no memory.
     pub fn close(&mut self, id: FollowerId) -> Result<(), UnknownFollower>
         ensures ok { OnOk result (IsClosed self.old id.number self.new) }
         ensures unknown { OnErr result (follower_of self.old id.number ≡ None) }

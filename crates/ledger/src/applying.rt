@@ -77,9 +77,9 @@ fn with_block<S: SigScheme>(
     Ok((after, BlockDiff { diffs, tip, fees }))
 }
 
-/// The state after one more block (Shelley, CHAIN and BBODY): the block follows the tip, and its transactions are judged
-/// at its slot and applied, one after the other. Else the first of its faults, or OutOfMemory, which stands for none of
-/// the first four. The state that it is applied to stays. Takes, for each transaction, the look-ups of
+/// The state after one more block (Shelley, CHAIN and BBODY): the block follows the tip, and its transactions are
+/// judged at its slot and applied, one after the other. Else the first of its faults, or OutOfMemory, which stands for
+/// none of the first four. The state that it is applied to stays. Takes, for each transaction, the look-ups of
 /// [`utxo_rules::check`] and [`utxo_rules::applied`], and memory for what changes: what doesn't is shared, and each
 /// node is copied at most once a block.
 ///

@@ -22,8 +22,8 @@ pub enum BlockFault {
     /// Its body has more bytes than the network allows.
     #[error("the body is too big")]
     BodyTooBig,
-    /// The first of its transactions, counted from 0, against which there is a reason at the block's slot, on what those
-    /// before it leave, with that reason.
+    /// The first of its transactions, counted from 0, against which there is a reason at the block's slot, on what
+    /// those before it leave, with that reason.
     #[error("transaction {0}: {1}")]
     TxFault(usize, Reason),
 }

@@ -15,8 +15,8 @@ use witness_pool::SigScheme;
 const MOST_DIFFS: u64 = 0x7fff_ffff_ffff_ffff;
 
 /// The state of a chain and what each of its last k blocks changed, so that a fork from up to k blocks back can be
-/// judged without applying the chain anew (the Consensus and Storage Layer report, ledger database). One state is whole,
-/// the newest; those before it are had by undoing. Each block takes memory for what it changed.
+/// judged without applying the chain anew (the Consensus and Storage Layer report, ledger database). One state is
+/// whole, the newest; those before it are had by undoing. Each block takes memory for what it changed.
 #[derive(Drop)]
 pub struct LedgerDb {
     alloc: Global,

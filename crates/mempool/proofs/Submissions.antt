@@ -1,12 +1,15 @@
 -- What becomes of a transaction that is submitted.
-use Rattle.std.proofs.Common.{◌≡◌, ℕ, ◌<◌, Bool, true, false, true≢false, List, [], ◌∷◌, ◌++◌, length, map, None, Result, Ok, Err, OnErr, Contains, refl, sym, ap, subst, ◌∙◌}
+use Rattle.std.proofs.Common.{◌≡◌, ℕ, ◌<◌, ◌≤◌, Bool, true, false, true≢false, List, [], ◌∷◌, ◌++◌, length, map, nat_lt, Some, None, Result, Ok, Err, OnErr, Contains, refl, sym, ap, subst, ◌∙◌, arith}
 use Rattle.model.specs.Transaction.{Transaction, SpellsTransaction, transaction_id_of}
 use Rattle.model.specs.Signature.{Verifies}
 use Rattle.model.specs.Utxo.{Utxo, utxo_after}
-use Rattle.model.specs.Rules.{Params, reason_against}
-use Rattle.model.specs.Mempool.{utxo_after_all, IsInPool, InMempool, Added}
+use Rattle.model.specs.Rules.{Params, Reason, NoInputs, reasons, passes, reason_against}
+use Rattle.model.specs.Mempool.{utxo_after_all, IsInPool, NoTransaction, InMempool, IsAgainst, MempoolFull, Added}
+use Rattle.model.proofs.Reasons.{fails_in}
+use Rattle.model.proofs.TransactionTexts.{one_transaction}
+use Rattle.tx.specs.Bare.{IsBare}
 use Rattle.mempool.specs.Pool.{Pool}
-use Rattle.mempool.specs.Calls.{with_tx, IsSubmission}
+use Rattle.mempool.specs.Calls.{with_tx, IsSubmission, IsNew, IsWantFor}
 
 after_last : (utxo : Utxo) (ts : List Transaction) (t : Transaction) → utxo_after_all utxo (ts ++ t ∷ []) ≡ utxo_after (utxo_after_all utxo ts) t
 after_last utxo [] t = refl
@@ -32,6 +35,14 @@ module _ (verifies : Verifies) (params : Params) (slot : ℕ) (old : Pool) (t : 
     capacity = refl;
   }
 
+  -- there is a reason against it
+  pub against : (reason : Reason) → (IsInPool old.waiting.txs t → ⊥) → reason_against verifies params old.waiting.unspent slot t ≡ Some reason → IsSubmission verifies params slot old bytes (IsAgainst reason) old
+  against reason fresh is = record { answers = (t, spells, (fresh, is)); after = refl; unspent = λ utxo e. e; capacity = refl }
+
+  -- there is no room for it
+  pub full : (IsInPool old.waiting.txs t → ⊥) → reason_against verifies params old.waiting.unspent slot t ≡ None → old.capacity ≤ length old.waiting.txs → IsSubmission verifies params slot old bytes MempoolFull old
+  full fresh none no_room = record { answers = (t, spells, ((fresh, none), no_room)); after = refl; unspent = λ utxo e. e; capacity = refl }
+
   -- it waits, after the others
   pub added : (new : Pool) → (IsInPool old.waiting.txs t → ⊥) → reason_against verifies params old.waiting.unspent slot t ≡ None → length old.waiting.txs < old.capacity
       → new ≡ record { capacity = old.capacity; waiting = with_tx old.waiting t } → IsSubmission verifies params slot old bytes Added new
@@ -41,3 +52,29 @@ module _ (verifies : Verifies) (params : Params) (slot : ℕ) (old : Pool) (t : 
     unspent = λ utxo e. ap (λ u. utxo_after u t) e ∙ sym (after_last utxo old.waiting.txs t);
     capacity = refl;
   }
+
+-- ---- where memory is wanting
+
+module _ (verifies : Verifies) (params : Params) (slot : ℕ) (pool : Pool) (t : Transaction) (new : IsNew verifies params slot pool t) where
+  reason_fails : (r : Reason) → reason_against verifies params pool.waiting.unspent slot t ≡ Some r → passes verifies params pool.waiting.unspent slot t r ≡ false
+  unfolding reason_against
+  reason_fails r is = fails_in (passes verifies params pool.waiting.unspent slot t) reasons r is
+
+  -- what is new has none of the answers that are known without memory
+  pub new_wants : (bytes : List ℕ) → SpellsTransaction t bytes → IsWantFor verifies params slot pool bytes
+  new_wants bytes spells NoTransaction early answers = early
+  new_wants bytes spells InMempool early answers = new.unknown (subst (IsInPool pool.waiting.txs) (one_transaction answers.0 t bytes answers.1 spells) answers.2)
+  new_wants bytes spells (IsAgainst r) early answers =
+      let same = one_transaction answers.0 t bytes answers.1 spells in
+      let against = subst (λ (x : Transaction). reason_against verifies params pool.waiting.unspent slot x ≡ Some r) same answers.2.1 in
+      true≢false (sym (new.early r early) ∙ reason_fails r against)
+  new_wants bytes spells MempoolFull early answers = early
+  new_wants bytes spells Added early answers = early
+
+  -- it spends something
+  pub new_spends : (bytes : List ℕ) → SpellsTransaction t bytes → (u : Transaction) → SpellsTransaction u bytes → IsBare u → ⊥
+  new_spends bytes spells u spelled bare =
+      let same = one_transaction u t bytes spelled spells in
+      let some : nat_lt 0 (length t.inputs) ≡ true = new.early NoInputs (omega arith) in
+      let none : t.inputs ≡ [] = ap (λ (x : Transaction). x.inputs) (sym same) ∙ bare.inputs in
+      true≢false (sym some ∙ ap (λ (xs : _). nat_lt 0 (length xs)) none)

@@ -1,10 +1,11 @@
 -- What the calls of the mempool promise.
-use Rattle.std.specs.Prelude.{◌≡◌, ℕ, List, ◌++◌, [], ◌∷◌, is_some, if◌then◌else◌}
-use Rattle.model.specs.Transaction.{Transaction, SpellsTransaction}
+use Rattle.std.specs.Prelude.{◌≡◌, ℕ, ◌<◌, ◌≤◌, ◌^◌, List, ◌++◌, [], ◌∷◌, is_some, if◌then◌else◌}
+use Rattle.model.specs.Transaction.{Transaction, SpellsTransaction, size_of}
 use Rattle.model.specs.Signature.{Verifies}
 use Rattle.model.specs.Utxo.{Utxo, utxo_after}
-use Rattle.model.specs.Rules.{Params, reason_against}
-use Rattle.model.specs.Mempool.{utxo_after_all, passed, SubmitReply, Answers, IsPoolAfter}
+use Rattle.model.specs.Rules.{Params, reason_number, reason_against}
+use Rattle.model.specs.Mempool.{utxo_after_all, passed, SubmitReply, InMempool, IsAgainst, Answers, IsPoolAfter, IsInPool}
+use Rattle.utxo_rules.specs.Check.{PassesEarly}
 use Rattle.mempool.specs.Pool.{Waiting, Pool}
 
 -- one more transaction waits
@@ -37,3 +38,20 @@ pub record IsSubmission (verifies : Verifies) (params : Params) (slot : ℕ) (ol
 abbrev pub IsSubmissionOf : Verifies → Params → ℕ → Pool → Transaction → SubmitReply → Pool → Type 0
 IsSubmissionOf verifies params slot old t reply new = (bytes : List ℕ) → SpellsTransaction t bytes
     → IsSubmission verifies params slot old bytes reply new
+
+-- it isn't known, and none of the reasons 1 to 7 is there
+pub record IsNew (verifies : Verifies) (params : Params) (slot : ℕ) (pool : Pool) (t : Transaction) : Type 0 where
+  pub unknown : IsInPool pool.waiting.txs t → ⊥
+  pub early : PassesEarly verifies params pool.waiting.unspent slot t
+  pub small : size_of t ≤ 2 ^ 32
+
+-- what is known of a transaction before memory is asked for: that it waits, or one of the reasons 1 to 7
+abbrev pub IsEarly : SubmitReply → Type 0
+IsEarly InMempool = Unit {0}
+IsEarly (IsAgainst reason) = reason_number reason < 8
+IsEarly other = ⊥
+
+-- so memory is wanting only where the answer is none of these
+abbrev pub IsWantFor : Verifies → Params → ℕ → Pool → List ℕ → Type 0
+IsWantFor verifies params slot pool bytes = (reply : SubmitReply) → IsEarly reply
+    → Answers verifies params slot pool.waiting.unspent pool.capacity pool.waiting.txs bytes reply → ⊥

@@ -1,14 +1,17 @@
 //! The mempool.
 
-ghost use Rattle.std.specs.Prelude.{◌≡◌, ◌↔◌, [], length, map, IsTrue, IfOk, OnOk, OnErr};
+ghost use Rattle.std.specs.Prelude.{◌≡◌, ◌↔◌, ◌≤◌, ◌^◌, ℕ, List, [], length, map, IsTrue, IfOk, OnOk, OnErr};
+ghost use Rattle.std.specs.Prelude.{MatchOption};
 ghost use Rattle.std.specs.List.{AllByRecursion};
 ghost use Rattle.std.specs.Arc.{arc_value};
 ghost use Rattle.model.specs.Cbor.{text_of};
-ghost use Rattle.model.specs.Transaction.{SpellsTransaction, item_of_transaction};
+ghost use Rattle.model.specs.Transaction.{Transaction, SpellsTransaction, item_of_transaction, size_of};
 ghost use Rattle.model.specs.Block.{item_of_transactions};
 ghost use Rattle.model.specs.Mempool.{IsInPool, picked};
+ghost use Rattle.model.specs.Rules as model;
+ghost use Rattle.tx.specs.Bare.{IsBare};
 ghost use Rattle.utxo_rules.specs.View.{params_of};
-ghost use Rattle.mempool.specs.Calls.{passed_on, IsSubmission, IsSubmissionOf};
+ghost use Rattle.mempool.specs.Calls.{passed_on, IsSubmission, IsSubmissionOf, IsNew, IsWantFor};
 ghost use Rattle.mempool.specs.Picking.{IsSpelled};
 ghost use Rattle.mempool.specs.View.{reply_of};
 
@@ -139,25 +142,32 @@ impl<S: SigScheme> Mempool<S> {
         self.waiting = resynced.waiting;
     }
 
-    /// A transaction with its verdicts is submitted, and judged at this slot: that after the tip's. Err where memory
-    /// runs out, which it does not where the transaction is known: nothing changes.
-    pub fn submit_checked(
-        &mut self,
-        params: &Params,
-        slot: u64,
-        tx: CheckedTx<S>,
-    ) -> Result<SubmitReply, AllocError>
-        ensures ok { IfOk result (λ reply.
-            IsSubmissionOf S.verifies (params_of params.now) slot self.old tx (reply_of reply) self.new) }
-        ensures err { OnErr result (self.new ≡ self.old) }
-        ensures memory { OnErr result (IsInPool self.old.waiting.txs tx → ⊥) }
-        // A transaction that was checked has a text.
-        ensures spelled { SpellsTransaction tx (text_of (item_of_transaction tx)) }
+    /// What is answered to a transaction before memory is asked for: that it is known, or the first of the reasons 1 to
+    /// 7. None where it is neither. Takes no memory.
+    fn early_answer(&self, params: &Params, slot: u64, tx: &Tx) -> Option<SubmitReply>
+        ensures { MatchOption result
+            (IsNew S.verifies (params_of params.now) slot self.now tx.now)
+            (λ reply. IsSubmissionOf S.verifies (params_of params.now) slot self.now tx.now (reply_of reply) self.now) }
     {
-        if self.waiting.has(tx.tx().id()) {
-            return Ok(SubmitReply::Known);
+        if self.waiting.has(tx.id()) {
+            return Some(SubmitReply::Known);
         }
-        match self.waiting.judge(params, slot, &tx) {
+        match self.waiting.judge_early(params, slot, tx) {
+            Ok(()) => None,
+            Err(reason) => Some(SubmitReply::Refused(reason)),
+        }
+    }
+
+    /// What is answered to a transaction that is new, and against which there is none of the reasons 1 to 7.
+    fn late_answer(&mut self, tx: CheckedTx<S>) -> Result<SubmitReply, AllocError>
+        requires unknown { IsInPool self.old.waiting.txs tx → ⊥ }
+        requires small { size_of tx ≤ 2 ^ 32 }
+        ensures ok { IfOk result (λ reply. (params : model.Params) (slot : ℕ) →
+            IsNew S.verifies params slot self.old tx →
+            IsSubmissionOf S.verifies params slot self.old tx (reply_of reply) self.new) }
+        ensures err { OnErr result (self.new ≡ self.old) }
+    {
+        match self.waiting.judge_late(&tx) {
             Ok(()) => {}
             Err(CheckFault::Refused(reason)) => return Ok(SubmitReply::Refused(reason)),
             Err(CheckFault::OutOfMemory) => return Err(AllocError),
@@ -169,9 +179,33 @@ impl<S: SigScheme> Mempool<S> {
         Ok(SubmitReply::Added)
     }
 
+    /// A transaction with its verdicts is submitted, and judged at this slot: that after the tip's. Err where memory
+    /// runs out, which it does not where the transaction is known or one of the reasons 1 to 7 is there: nothing
+    /// changes.
+    pub fn submit_checked(
+        &mut self,
+        params: &Params,
+        slot: u64,
+        tx: CheckedTx<S>,
+    ) -> Result<SubmitReply, AllocError>
+        ensures ok { IfOk result (λ reply.
+            IsSubmissionOf S.verifies (params_of params.now) slot self.old tx (reply_of reply) self.new) }
+        ensures err { OnErr result (self.new ≡ self.old) }
+        // Memory is asked for only where the answer isn't known without it.
+        ensures memory { OnErr result ((bytes : List ℕ) → SpellsTransaction tx bytes →
+            IsWantFor S.verifies (params_of params.now) slot self.old bytes) }
+        // A transaction that was checked has a text.
+        ensures spelled { SpellsTransaction tx (text_of (item_of_transaction tx)) }
+    {
+        if let Some(reply) = self.early_answer(params, slot, tx.tx()) {
+            return Ok(reply);
+        }
+        self.late_answer(tx)
+    }
+
     /// Bytes of a transaction are submitted, and judged at this slot: that after the tip's. Err where memory runs out:
-    /// nothing changes. Linear in the bytes, with a look-up of the identifier; only a transaction that is new has its
-    /// signatures verified.
+    /// nothing changes. Linear in the bytes, with a look-up of the identifier; only a transaction that is new, and
+    /// against which there is none of the reasons 1 to 7, has its signatures verified.
     pub fn submit(
         &mut self,
         params: &Params,
@@ -181,15 +215,17 @@ impl<S: SigScheme> Mempool<S> {
         ensures ok { IfOk result (λ reply.
             IsSubmission S.verifies (params_of params.now) slot self.old bytes.now (reply_of reply) self.new) }
         ensures err { OnErr result (self.new ≡ self.old) }
+        // Memory is asked for while the parts of a transaction are read, and then only where the answer isn't known.
+        ensures memory { OnErr result ((t : Transaction) → SpellsTransaction t bytes.now → IsBare t → ⊥) }
     {
         let tx = match Tx::decode(self.alloc, bytes) {
             Ok(tx) => tx,
             Err(CborFault::Malformed) => return Ok(SubmitReply::Malformed),
             Err(CborFault::OutOfMemory) => return Err(AllocError),
         };
-        if self.waiting.has(tx.id()) {
-            return Ok(SubmitReply::Known);
+        if let Some(reply) = self.early_answer(params, slot, &tx) {
+            return Ok(reply);
         }
-        self.submit_checked(params, slot, plain(self.alloc, tx)?)
+        self.late_answer(plain(self.alloc, tx)?)
     }
 }

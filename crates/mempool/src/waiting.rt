@@ -1,12 +1,14 @@
 //! Transactions that wait, in the order in which they came.
 
-ghost use Rattle.std.specs.Prelude.{◌≡◌, ◌↔◌, [], length, map, Contains, IsTrue, IfOk, OnOk, OnErr, IfErr, None};
+ghost use Rattle.std.specs.Prelude.{◌≡◌, ◌↔◌, ◌≤◌, ◌^◌, ℕ, [], length, map, Contains, IsTrue, IfOk, OnOk, OnErr, IfErr};
+ghost use Rattle.std.specs.Prelude.{Some, None};
 ghost use Rattle.std.specs.Arc.{arc_value};
-ghost use Rattle.model.specs.Transaction.{transaction_id_of};
+ghost use Rattle.model.specs.Transaction.{transaction_id_of, size_of};
 ghost use Rattle.model.specs.Mempool.{IsInPool, picked};
+ghost use Rattle.model.specs.Rules as model;
 ghost use Rattle.model.specs.Rules.{reason_against};
-ghost use Rattle.utxo_rules.specs.View.{params_of};
-ghost use Rattle.utxo_rules.specs.Check.{IsCheckFault};
+ghost use Rattle.utxo_rules.specs.View.{params_of, reason_of};
+ghost use Rattle.utxo_rules.specs.Check.{IsCheckFault, PassesEarly};
 ghost use Rattle.mempool.specs.Calls.{with_tx, kept_with, passed_on};
 
 use crate::picking::Picked;
@@ -16,7 +18,8 @@ use indexmap::map::Values;
 use std::alloc::{AllocError, Global};
 use std::marker::Model;
 use std::sync::Arc;
-use utxo_rules::{CheckFault, Params, Utxo, apply, check};
+use tx::Tx;
+use utxo_rules::{CheckFault, Params, Reason, Utxo, apply, check, check_early, check_late};
 use witness_pool::{CheckedTx, SigScheme};
 
 /// Transactions that wait, each at its identifier, in the order in which they came, and what they leave unspent.
@@ -91,12 +94,37 @@ impl<S: SigScheme> Waiting<S> {
     }
 
     /// Judges a transaction at a slot, on what those that wait leave unspent.
-    pub fn judge(&self, params: &Params, slot: u64, tx: &CheckedTx<S>) -> Result<(), CheckFault>
+    fn judge(&self, params: &Params, slot: u64, tx: &CheckedTx<S>) -> Result<(), CheckFault>
         ensures accepted { OnOk result (
             reason_against S.verifies (params_of params.now) self.now.unspent slot tx.now ≡ None) }
         ensures refused { IfErr result (IsCheckFault S.verifies (params_of params.now) self.now.unspent slot tx.now) }
     {
         check(self.alloc, params, &self.unspent, slot, tx)
+    }
+
+    /// The first of the reasons 1 to 7 against a transaction, on what those that wait leave unspent, if there is one.
+    /// Takes no memory.
+    pub fn judge_early(&self, params: &Params, slot: u64, tx: &Tx) -> Result<(), Reason>
+        ensures refused { IfErr result (λ reason.
+            reason_against S.verifies (params_of params.now) self.now.unspent slot tx.now ≡ Some (reason_of reason)) }
+        ensures passed { OnOk result (
+            PassesEarly S.verifies (params_of params.now) self.now.unspent slot tx.now) }
+        ensures small { OnOk result (size_of tx.now ≤ 2 ^ 32) }
+    {
+        check_early(params, &self.unspent, slot, tx)
+    }
+
+    /// The first of the reasons 8 to 14 against a transaction that passed the others, if there is one.
+    pub fn judge_late(&self, tx: &CheckedTx<S>) -> Result<(), CheckFault>
+        requires { size_of tx.now ≤ 2 ^ 32 }
+        ensures accepted { OnOk result ((params : model.Params) (slot : ℕ) →
+            PassesEarly S.verifies params self.now.unspent slot tx.now →
+            reason_against S.verifies params self.now.unspent slot tx.now ≡ None) }
+        ensures refused { IfErr result (λ fault. (params : model.Params) (slot : ℕ) →
+            PassesEarly S.verifies params self.now.unspent slot tx.now →
+            IsCheckFault S.verifies params self.now.unspent slot tx.now fault) }
+    {
+        check_late(self.alloc, &self.unspent, tx)
     }
 
     /// Has a transaction wait after the others. Err where memory runs out: nothing changes.

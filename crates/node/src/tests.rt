@@ -4,79 +4,99 @@ use crate::start::start;
 use std::io::Write;
 use std::process::Abort;
 use std::rt::Files;
-use std::test::Fail;
 use std::{fs, io};
+
+// Each way out of a function drops all that it owns, which makes its proof longer. So want of memory and what can't be
+// otherwise end a test on the spot.
+
+/// What is said where memory runs out.
+const MEMORY: &str = "memory";
 
 /// The words of a command line.
 fn words_of(rt: &(impl Abort + AllocGlobal), words: &[&str]) -> Vec<String> {
     let mut all = Vec::new(rt.alloc());
     for word in words {
-        let text = (*word).to_string(rt.alloc()).expect(rt, "memory");
-        all.push(text).expect(rt, "memory");
+        let text = (*word).to_string(rt.alloc()).expect(rt, MEMORY);
+        all.push(text).expect(rt, MEMORY);
     }
     all
 }
 
-/// What the program answers, and what it writes on standard output and on standard error.
-fn started(rt: &(impl Abort + Files + AllocGlobal), words: &[&str]) -> (u8, Vec<u8>, Vec<u8>) {
+/// The program ends with this status. On standard output it has printed this text, or one that begins so where two
+/// points stand at its end; on standard error it has told this, or where it is `?` something.
+fn ends(
+    rt: &(impl Abort + Files + AllocGlobal),
+    words: &[&str],
+    status: u8,
+    printed: &str,
+    told: &str,
+) {
     let words = words_of(rt, words);
     let mut out = Vec::new(rt.alloc());
     let mut err = Vec::new(rt.alloc());
-    let status = start(rt, words.as_slice(), &mut out, &mut err);
-    (status, out, err)
+    let answer = start(rt, words.as_slice(), &mut out, &mut err);
+    let (out, err) = (out.as_slice(), err.as_slice());
+    assert!(rt; answer == status);
+    match printed.strip_suffix("..") {
+        Some(beginning) => assert!(rt; out.starts_with(beginning.as_bytes())),
+        None => assert!(rt; out == printed.as_bytes()),
+    }
+    match told {
+        "?" => assert!(rt; !err.is_empty()),
+        _ => assert!(rt; err == told.as_bytes()),
+    }
 }
+
+/// Command lines that are refused.
+const REFUSED: &[&[&str]] = &[
+    &["node"],
+    &["node", "walk"],
+    &["node", "run"],
+    &["node", "run", "--genesis", "g"],
+    &["node", "run", "--genesis", "g", "--script"],
+    &["node", "run", "--genesis", "g", "--script", "s", "t"],
+    &[
+        "node",
+        "run",
+        "--genesis",
+        "g",
+        "--script",
+        "s",
+        "--script",
+        "t",
+    ],
+];
 
 #[test]
 fn refused_command_lines(rt: HostRuntime) {
-    for words in [
-        ["node"].as_slice(),
-        ["node", "walk"].as_slice(),
-        ["node", "run"].as_slice(),
-        ["node", "run", "--genesis", "g"].as_slice(),
-        ["node", "run", "--genesis", "g", "--script"].as_slice(),
-        ["node", "run", "--genesis", "g", "--script", "s", "t"].as_slice(),
-        [
-            "node",
-            "run",
-            "--genesis",
-            "g",
-            "--script",
-            "s",
-            "--script",
-            "t",
-        ]
-        .as_slice(),
-    ] {
-        let (status, out, err) = started(&rt, words);
-        assert_eq!(rt; status, 2);
-        assert!(rt; out.is_empty() && !err.is_empty());
+    for words in REFUSED {
+        ends(&rt, *words, 2, "", "?");
     }
 }
+
+/// Command lines that are answered by the program alone, and what is printed.
+const ANSWERED: &[(&[&str], &str)] = &[
+    (&["node", "--help"], "The chain database of a node\n.."),
+    (&["node", "run", "--help"], "Run a script.."),
+    (&["node", "--version"], "node 0.1.0\n"),
+];
 
 #[test]
 fn help_and_version(rt: HostRuntime) {
-    let (status, out, err) = started(&rt, ["node", "--help"].as_slice());
-    assert_eq!(rt; status, 0);
-    assert!(rt; out.starts_with(b"The chain database of a node\n") && err.is_empty());
-    let (status, out, err) = started(&rt, ["node", "run", "--help"].as_slice());
-    assert_eq!(rt; status, 0);
-    assert!(rt; out.starts_with(b"Run a script") && err.is_empty());
-    let (status, out, err) = started(&rt, ["node", "--version"].as_slice());
-    assert_eq!(rt; status, 0);
-    assert_eq!(rt; out.as_slice(), b"node 0.1.0\n".as_slice());
-    assert!(rt; err.is_empty());
+    for (words, printed) in ANSWERED {
+        ends(&rt, *words, 0, *printed, "");
+    }
 }
 
 /// Makes a folder that this test alone writes to: the first of these names that is free.
-fn own_folder(rt: &(impl Files + AllocGlobal)) -> Result<String, Fail> {
+fn own_folder(rt: &(impl Abort + Files + AllocGlobal)) -> String {
     for number in 0..1000u64 {
-        let path = format!(in rt.alloc(); "/tmp/node_tests_{number}")?;
+        let path = format!(in rt.alloc(); "/tmp/node_tests_{number}").expect(rt, MEMORY);
         if fs::create_dir(rt, path.as_str()).is_ok() {
-            return Ok(path);
+            return path;
         }
     }
-    let none: Option<String> = None;
-    Ok(none.ok_or("no folder is free")?)
+    panic!(rt; "no folder is free")
 }
 
 /// The lines of a genesis behind its network and k.
@@ -100,18 +120,18 @@ const GENESIS: &[&str] = &["network = 0\nk = 2\n", OTHER_NUMBERS, OUTPUT];
 
 /// Writes parts to the file of this name in a folder, and answers its path.
 fn write_file(
-    rt: &(impl Files + AllocGlobal),
+    rt: &(impl Abort + Files + AllocGlobal),
     folder: &str,
     name: &str,
     parts: &[&str],
-) -> Result<String, Fail> {
+) -> String {
     let mut text = String::new(rt.alloc());
     for part in parts {
-        text.push_str(part)?;
+        text.push_str(part).expect(rt, MEMORY);
     }
-    let path = format!(in rt.alloc(); "{folder}/{name}")?;
-    fs::write(rt, path.as_str(), text.as_bytes())?;
-    Ok(path)
+    let path = format!(in rt.alloc(); "{folder}/{name}").expect(rt, MEMORY);
+    fs::write(rt, path.as_str(), text.as_bytes()).expect(rt, "a file");
+    path
 }
 
 /// The script of a file is run under the genesis of another, with this status, and this is printed and told.
@@ -122,32 +142,38 @@ fn runs(
     (status, printed, told): (u8, &str, &str),
 ) {
     let words = ["node", "run", "--script", script, "--genesis", genesis];
-    let (answer, out, err) = started(rt, words.as_slice());
-    assert_eq!(rt; err.as_slice(), told.as_bytes());
-    assert_eq!(rt; out.as_slice(), printed.as_bytes());
-    assert_eq!(rt; answer, status);
+    ends(rt, words.as_slice(), status, printed, told);
 }
 
+/// Removes a folder.
+fn remove(rt: &(impl Abort + Files + AllocGlobal), folder: &str) {
+    fs::remove_dir_all(rt, folder).expect(rt, "a folder");
+}
+
+/// Scripts that can't be read, and what is told.
+const NO_SCRIPTS: &[(&str, &str)] = &[
+    ("no/such.script", "cannot read no/such.script\n"),
+    ("/", "read failed\n"),
+];
+
+/// Files that can't be read as a genesis, which is read first: a folder and a file without end neither.
+const NO_GENESIS: &[(&str, &str)] = &[
+    ("no/such.toml", "cannot read no/such.toml\n"),
+    ("/", "cannot read /\n"),
+    ("/dev/zero", "cannot read /dev/zero\n"),
+];
+
 #[test]
-fn files_that_cannot_be_read(rt: HostRuntime) -> Result<(), Fail> {
-    let folder = own_folder(&rt)?;
-    let genesis = write_file(&rt, &folder, "genesis.toml", GENESIS)?;
-    for (path, told) in [
-        ("no/such.script", "cannot read no/such.script\n"),
-        ("/", "read failed\n"),
-    ] {
-        runs(&rt, &genesis, path, (1, "", told));
+fn files_that_cannot_be_read(rt: HostRuntime) {
+    let folder = own_folder(&rt);
+    let genesis = write_file(&rt, &folder, "genesis.toml", GENESIS);
+    for (path, told) in NO_SCRIPTS {
+        runs(&rt, &genesis, *path, (1, "", *told));
     }
-    // The genesis is read first. A folder and a file without end can't be read as one.
-    for (path, told) in [
-        ("no/such.toml", "cannot read no/such.toml\n"),
-        ("/", "cannot read /\n"),
-        ("/dev/zero", "cannot read /dev/zero\n"),
-    ] {
-        runs(&rt, path, "no/such.script", (1, "", told));
+    for (path, told) in NO_GENESIS {
+        runs(&rt, *path, "no/such.script", (1, "", *told));
     }
-    fs::remove_dir_all(&rt, folder.as_str())?;
-    Ok(())
+    remove(&rt, &folder);
 }
 
 /// Texts of genesis files with a fault, in parts, and what is told of them.
@@ -186,18 +212,18 @@ const FAULTS: &[(&[&str], &str)] = &[
 
 // The first fault of the genesis is told, and no script is opened.
 #[test]
-fn faults_of_the_genesis(rt: HostRuntime) -> Result<(), Fail> {
-    let folder = own_folder(&rt)?;
+fn faults_of_the_genesis(rt: HostRuntime) {
+    let folder = own_folder(&rt);
     for (parts, told) in FAULTS {
-        let genesis = write_file(&rt, &folder, "genesis.toml", parts)?;
-        runs(&rt, &genesis, "no/such.script", (1, "", told));
+        let genesis = write_file(&rt, &folder, "genesis.toml", parts);
+        runs(&rt, &genesis, "no/such.script", (1, "", *told));
     }
-    let genesis = format!(in rt.alloc(); "{folder}/bytes")?;
-    fs::write(&rt, genesis.as_str(), b"# \xff\n".as_slice())?;
+    // Bytes that are no text.
+    let genesis = write_file(&rt, &folder, "bytes", &[]);
+    fs::write(&rt, genesis.as_str(), b"# \xff\n".as_slice()).expect(&rt, "a file");
     let told = "genesis: 1 NotToml\n";
     runs(&rt, &genesis, "no/such.script", (1, "", told));
-    fs::remove_dir_all(&rt, folder.as_str())?;
-    Ok(())
+    remove(&rt, &folder);
 }
 
 /// A writer that takes nothing.
@@ -236,15 +262,14 @@ const SCRIPTS: &[(&str, (u8, &str, &str))] = &[
 ];
 
 #[test]
-fn scripts_of_files(rt: HostRuntime) -> Result<(), Fail> {
-    let folder = own_folder(&rt)?;
-    let genesis = write_file(&rt, &folder, "genesis.toml", GENESIS)?;
+fn scripts_of_files(rt: HostRuntime) {
+    let folder = own_folder(&rt);
+    let genesis = write_file(&rt, &folder, "genesis.toml", GENESIS);
     for (text, end) in SCRIPTS {
-        let script = write_file(&rt, &folder, "some.script", &[*text])?;
+        let script = write_file(&rt, &folder, "some.script", &[*text]);
         runs(&rt, &genesis, &script, *end);
     }
-    fs::remove_dir_all(&rt, folder.as_str())?;
-    Ok(())
+    remove(&rt, &folder);
 }
 
 /// These words end with status 1 where standard output takes nothing, and that is told.
@@ -252,15 +277,15 @@ fn fails_to_write(rt: &(impl Abort + Files + AllocGlobal), words: &[&str]) {
     let words = words_of(rt, words);
     let mut err = Vec::new(rt.alloc());
     let status = start(rt, words.as_slice(), &mut Closed {}, &mut err);
-    assert_eq!(rt; status, 1);
-    assert_eq!(rt; err.as_slice(), b"write failed\n".as_slice());
+    assert!(rt; status == 1);
+    assert!(rt; err.as_slice() == b"write failed\n".as_slice());
 }
 
 #[test]
-fn output_that_is_closed(rt: HostRuntime) -> Result<(), Fail> {
-    let folder = own_folder(&rt)?;
-    let genesis = write_file(&rt, &folder, "genesis.toml", GENESIS)?;
-    let script = write_file(&rt, &folder, "some.script", &["tip\n"])?;
+fn output_that_is_closed(rt: HostRuntime) {
+    let folder = own_folder(&rt);
+    let genesis = write_file(&rt, &folder, "genesis.toml", GENESIS);
+    let script = write_file(&rt, &folder, "some.script", &["tip\n"]);
     let words = [
         "node",
         "run",
@@ -271,6 +296,5 @@ fn output_that_is_closed(rt: HostRuntime) -> Result<(), Fail> {
     ];
     fails_to_write(&rt, words.as_slice());
     fails_to_write(&rt, ["node", "--help"].as_slice());
-    fs::remove_dir_all(&rt, folder.as_str())?;
-    Ok(())
+    remove(&rt, &folder);
 }

@@ -12,4 +12,5 @@ pub mod MadeTexts
 pub mod Sealing
 pub mod Makings
 pub mod OneOrder
+pub mod Bare
 pub mod ForCallers

@@ -1,25 +1,27 @@
 -- The two laws of reading a transaction, and what its public calls promise by them.
-use Rattle.std.proofs.Common.{◌≡◌, ℕ, suc, ◌+◌, ◌-◌, ◌<◌, ◌≤◌, min, List, [], ◌∷◌, ◌++◌, length, take, map, Some, None, refl, sym, ap, subst, ◌∙◌, append-nil, arith, Bor, Bool, true, false, eqb}
+use Rattle.std.proofs.Common.{◌≡◌, ℕ, suc, ◌+◌, ◌-◌, ◌≤◌, min, List, [], ◌∷◌, ◌++◌, length, take, map, Some, refl, sym, ap, subst, ◌∙◌, append-nil, arith, Bor, Bool, true, false, eqb}
 use Rattle.std.specs.Prelude.{Result, Ok, Err, IfOk, IfErr}
 use Rattle.std.specs.List.{AllByRecursion}
-use Rattle.std.proofs.lemmas.List.{take_at, length-append}
+use Rattle.std.proofs.lemmas.Bool.{eqb-true}
+use Rattle.std.proofs.lemmas.List.{take_at, length-append, nil_from_length}
 use Rattle.sha2.specs.Sha256.{sha256}
-use Rattle.model.specs.Cbor.{Item, Items, Array, Null, NoItems, NextItem, text_of, items_of, nesting, items_nesting, map_of, HasText}
+use Rattle.model.specs.Cbor.{Array, Null, NoItems, NextItem, text_of, items_of, nesting, items_nesting, map_of, HasText}
 use Rattle.model.specs.Script.{Script, item_of_script, IsScript}
-use Rattle.model.specs.Transaction.{Transaction, KeyWitness, unless_empty, item_of_body, item_of_transaction, IsTransaction, SpellsTransaction, transaction_id_of, size_of}
+use Rattle.model.specs.Transaction.{Transaction, KeyWitness, item_of_body, item_of_transaction, IsTransaction, SpellsTransaction, transaction_id_of, size_of}
 use Rattle.model.proofs.TransactionTexts.{transactions_apart}
 use Rattle.cbor.specs.Reading.{null_at}
-use Rattle.cbor.specs.Gives.{Gives, Refuses, IfMalformed}
+use Rattle.cbor.specs.Gives.{Gives, GivesNo, Refuses, IfMalformed, IfWant}
 use Rattle.cbor.specs.Shapes.{as_at, array_at, both_at, members_at}
 use Rattle.cbor.specs.Texts.{BeginsWithText}
 use Rattle.cbor.specs.declared.fault.CborFault.{CborFault}
 use Rattle.cbor.specs.declared.fault.CborFault.TheVariants as faults
-use Rattle.cbor.proofs.ForCallers.{IsBytes, Fits, bind_some, some_is, null_takes, null_again, TakesItem, ReadsItem, deeper_reads, as_reads, last_reads, both_reads, array_reads, members_takes, has_text, text_fits, reads_found, reads_refused}
+use Rattle.cbor.proofs.ForCallers.{IsBytes, Fits, bind_some, some_is, null_takes, null_again, TakesItem, ReadsItem, deeper_reads, as_reads, last_reads, both_reads, array_reads, members_takes, has_text, text_fits, reads_found, reads_refused, want_map}
 use Rattle.timelock.proofs.ForCallers.{IsWithin}
+use Rattle.tx.specs.Bare.{IsBare}
 use Rattle.tx.specs.Body.{Body, body_item, IsBody, transaction_with}
 use Rattle.tx.specs.BodyReading.{body_at}
 use Rattle.tx.specs.TransactionReading.{witnesses_at, nothing_more_at, transaction_of, transaction_at, nested_transaction_at}
-use Rattle.tx.specs.WitnessesView.{scripts_item, witness_entries}
+use Rattle.tx.specs.WitnessesView.{witness_entries}
 use Rattle.tx.proofs.BodyTexts.{body_reads}
 use Rattle.tx.proofs.WitnessTexts.{AreWitnesses, AreScripts, witnesses_reads}
 
@@ -96,15 +98,16 @@ is_within t depth is le =
 pub transaction_found : (bytes : List ℕ) (t : Transaction) (rest : List ℕ) → IsBytes bytes → transaction_at 61 bytes ≡ Some (t, rest) → BeginsWithText (SpellsTransaction t) bytes rest
 transaction_found = reads_found (transaction_reads 61 61 (omega arith) (omega arith) (omega arith)) SpellsTransaction (omega arith) (λ t p h. record { shape = p.is_transaction; text = record { has_text = h; spelled = refl } })
 
+-- what a transaction's text has
+spelled : (t : Transaction) (text : List ℕ) → SpellsTransaction t text → IsTransactionWithin 61 t × Fits (item_of_transaction t) × (text ≡ text_of (item_of_transaction t))
+spelled t text spells =
+    let s = spells.text in
+    let has = s.has_text in
+    (is_within t 61 spells.shape has.nests, text_fits has, s.spelled)
+
 -- where none is read none stands first
 pub transaction_refused : (fault : CborFault) (bytes : List ℕ) → Refuses fault (transaction_at 61 bytes) → IfMalformed fault ((t : Transaction) (rest : List ℕ) → BeginsWithText (SpellsTransaction t) bytes rest → ⊥)
 transaction_refused = reads_refused (transaction_reads 61 61 (omega arith) (omega arith) (omega arith)) SpellsTransaction spelled
-  where
-    spelled : (t : Transaction) (text : List ℕ) → SpellsTransaction t text → IsTransactionWithin 61 t × Fits (item_of_transaction t) × (text ≡ text_of (item_of_transaction t))
-    spelled t text spells =
-        let s = spells.text in
-        let has = s.has_text in
-        (is_within t 61 spells.shape has.nests, text_fits has, s.spelled)
 
 -- a transaction, where one was found
 pub first_found : (bytes : List ℕ) → IsBytes bytes → (r : Result (Transaction × Bor (List ℕ)) CborFault) → Gives (λ x. (x.0, x.1.now)) r (transaction_at 61 bytes) → IfOk r (λ x. BeginsWithText (SpellsTransaction x.0) bytes x.1.now)
@@ -120,6 +123,28 @@ first_refused bytes (Err fault) e = transaction_refused fault bytes e
 pub whole_refused : (fault : CborFault) (bytes : List ℕ) → IfMalformed fault ((t : Transaction) (rest : List ℕ) → BeginsWithText (SpellsTransaction t) bytes rest → ⊥) → IfMalformed fault ((t : Transaction) → SpellsTransaction t bytes → ⊥)
 whole_refused faults.Malformed bytes h = λ t p. h t [] (record { text = bytes; spelled = p; parts = sym (append-nil bytes) })
 whole_refused faults.OutOfMemory bytes h = tt
+
+-- where nothing that is read was bare, no bytes that begin with a bare transaction's text were read
+first_bare : (bytes : List ℕ) → GivesNo (λ x. IsBare x.0) (transaction_at 61 bytes) → (t : Transaction) (rest : List ℕ) → BeginsWithText (SpellsTransaction t) bytes rest → IsBare t → ⊥
+first_bare bytes none t rest b bare =
+    let laws = transaction_reads 61 61 (omega arith) (omega arith) (omega arith) in
+    let s = spelled t b.text b.spelled in
+    none (t, rest) (ap (transaction_at 61) (b.parts ∙ ap (λ (text : List ℕ). text ++ rest) s.2) ∙ laws.again t rest s.1 s.0) bare
+
+pub first_wants : {X : Type 0} (r : Result X CborFault) (bytes : List ℕ) → IfErr r (λ fault. IfWant fault (GivesNo (λ x. IsBare x.0) (transaction_at 61 bytes)))
+    → IfErr r (λ fault. IfWant fault ((t : Transaction) (rest : List ℕ) → BeginsWithText (SpellsTransaction t) bytes rest → IsBare t → ⊥))
+first_wants (Ok x) bytes w = tt
+first_wants (Err fault) bytes w = want_map fault (first_bare bytes) w
+
+-- the same of a transaction that is all of the bytes
+pub whole_wants : (fault : CborFault) (bytes : List ℕ) → IfWant fault ((t : Transaction) (rest : List ℕ) → BeginsWithText (SpellsTransaction t) bytes rest → IsBare t → ⊥) → IfWant fault ((t : Transaction) → SpellsTransaction t bytes → IsBare t → ⊥)
+whole_wants fault bytes = want_map fault (λ none t p. none t [] (record { text = bytes; spelled = p; parts = sym (append-nil bytes) }))
+
+-- where nothing follows the front is the whole
+pub whole_found : (t : Transaction) (bytes rest : List ℕ) (b : Bool) → b ≡ eqb (length rest) 0 → b ≡ true → BeginsWithText (SpellsTransaction t) bytes rest → SpellsTransaction t bytes
+whole_found t bytes rest b is empty found =
+    let none : rest ≡ [] = nil_from_length rest (eqb-true (length rest) 0 (sym is ∙ empty)) in
+    subst (SpellsTransaction t) (sym (append-nil found.text) ∙ ap (λ (r : List ℕ). found.text ++ r) (sym none) ∙ sym found.parts) found.spelled
 
 -- bytes of which only the front is a transaction's text are none
 pub more_follows : (bytes : List ℕ) (found : Transaction) (rest : List ℕ) → (rest ≡ [] → ⊥) → BeginsWithText (SpellsTransaction found) bytes rest → (t : Transaction) → SpellsTransaction t bytes → ⊥

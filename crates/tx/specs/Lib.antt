@@ -12,3 +12,4 @@ pub mod Order
 pub mod Repeats
 pub mod Parts
 pub mod Making
+pub mod Bare

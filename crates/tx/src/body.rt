@@ -1,13 +1,14 @@
 //! Bodies of transactions (Shelley-MA): what a transaction does, and what its identifier is the hash of.
 
-ghost use Rattle.std.specs.Prelude.{◌≡◌, ◌<◌, ◌≤◌, ◌+◌, ◌++◌, length, OnOk, OnErr, vec_len, vec_capacity};
+ghost use Rattle.std.specs.Prelude.{◌≡◌, ◌<◌, ◌≤◌, ◌+◌, ◌++◌, [], length, OnOk, OnErr, IfErr, vec_len, vec_capacity};
 ghost use Rattle.model.specs.Cbor.{text_of, pairs_of, pairs_text, nesting};
-ghost use Rattle.cbor.specs.Gives.{Gives};
+ghost use Rattle.cbor.specs.Gives.{Gives, GivesNo, IfWant};
 ghost use Rattle.cbor.specs.Texts.{Keeps};
 ghost use Rattle.value.specs.Reading.{mint_at};
 ghost use Rattle.tx.specs.Body.{body_item, required_entries, optional_entries};
 ghost use Rattle.tx.specs.BodyReading.{minted_field_at, body_at};
 ghost use Rattle.tx.specs.BodyView.{body_of};
+ghost use Rattle.tx.specs.Bare.{IsBareBody};
 
 use crate::input::Input;
 use crate::keys::{END, FEE, INPUTS, MINT, OUTPUTS, START};
@@ -46,7 +47,8 @@ fn read_minted(alloc: Global, bytes: &[u8]) -> Result<(Mint, &[u8]), CborFault>
 /// on.
 #[tactic(auto, unfolding(crate::specs::BodyReading::minted_field_at, cbor::specs::Shapes::as_fields_at, cbor::specs::Shapes::optional_field_at))]
 fn read_mint(alloc: Global, left: u64, bytes: &[u8]) -> Result<(Mint, u64, &[u8]), CborFault>
-    ensures { Gives (λ x. (x.0, x.1, x.2.now)) result (minted_field_at left bytes.now) }
+    ensures exact { Gives (λ x. (x.0, x.1, x.2.now)) result (minted_field_at left bytes.now) }
+    ensures want { IfErr result (λ fault. IfWant fault (GivesNo (λ x. x.0 ≡ []) (minted_field_at left bytes.now))) }
 {
     let Some((after, text)) = cbor::field_key(left, MINT, bytes) else {
         return Ok((Mint::nothing(alloc), left, bytes));
@@ -57,11 +59,12 @@ fn read_mint(alloc: Global, left: u64, bytes: &[u8]) -> Result<(Mint, u64, &[u8]
 
 impl Body {
     /// The body whose text stands first, and the bytes after it (RFC 8949, section 4.2.1; a map with the keys in rising
-    /// order). Malformed where no body's text stands there, OutOfMemory where memory ran out before that was known.
-    /// Linear in the bytes of the text.
+    /// order). Malformed where no body's text stands there, OutOfMemory where memory ran out before that was known,
+    /// which it does only where something is spent, made or minted. Linear in the bytes of the text.
     #[tactic(auto, unfolding(crate::specs::BodyReading::body_at, cbor::specs::Shapes::as_at, cbor::specs::Shapes::record_at, cbor::specs::Shapes::fields_at, cbor::specs::Shapes::field_at))]
     pub fn read(alloc: Global, bytes: &[u8]) -> Result<(Body, &[u8]), CborFault>
-        ensures { Gives (λ x. (body_of x.0, x.1.now)) result (body_at bytes.now) }
+        ensures exact { Gives (λ x. (body_of x.0, x.1.now)) result (body_at bytes.now) }
+        ensures want { IfErr result (λ fault. IfWant fault (GivesNo (λ x. IsBareBody x.0) (body_at bytes.now))) }
     {
         let (left, rest) = cbor::map(bytes).ok_or(Malformed)?;
         let (left, rest) = cbor::field_key(left, INPUTS, rest).ok_or(Malformed)?;

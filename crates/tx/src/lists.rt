@@ -1,8 +1,8 @@
 //! The lists of a transaction (RFC 8949, section 4.2.1): from a slice to what stands first and the bytes after it.
 
-ghost use Rattle.std.specs.Prelude.{◌≡◌, map};
+ghost use Rattle.std.specs.Prelude.{◌≡◌, [], map, IfErr};
 ghost use Rattle.model.specs.Transaction.{input_cmp, witness_cmp, script_cmp};
-ghost use Rattle.cbor.specs.Gives.{Gives};
+ghost use Rattle.cbor.specs.Gives.{Gives, GivesNo, IfWant};
 ghost use Rattle.tx.specs.Rising.{rises_by};
 ghost use Rattle.tx.specs.Reading.{inputs_at, outputs_at, signatures_at};
 ghost use Rattle.tx.specs.TransactionReading.{scripts_at};
@@ -35,10 +35,11 @@ fn keys_rise(signatures: &[KeyWitness]) -> bool
     signatures.is_sorted_by(|a, b| a.key.cmp(&b.key).is_lt())
 }
 
-/// The inputs of a body, maybe none, in strictly rising order.
+/// The inputs of a body, maybe none, in strictly rising order. Where there is none no memory is asked for.
 #[tactic(auto, unfolding(crate::specs::Reading::inputs_at, cbor::specs::Shapes::such_at))]
 pub fn read_inputs(alloc: Global, bytes: &[u8]) -> Result<(Vec<Input>, &[u8]), CborFault>
-    ensures { Gives (λ x. (map input_of x.0.items, x.1.now)) result (inputs_at bytes.now) }
+    ensures exact { Gives (λ x. (map input_of x.0.items, x.1.now)) result (inputs_at bytes.now) }
+    ensures want { IfErr result (λ fault. IfWant fault (GivesNo (λ x. x.0 ≡ []) (inputs_at bytes.now))) }
 {
     let (inputs, rest) = cbor::list_array::<Input>(alloc, NESTING, bytes)?;
     if !inputs_rise(&inputs) {
@@ -47,10 +48,11 @@ pub fn read_inputs(alloc: Global, bytes: &[u8]) -> Result<(Vec<Input>, &[u8]), C
     Ok((inputs, rest))
 }
 
-/// The outputs of a body, maybe none, and at most 65,536.
+/// The outputs of a body, maybe none, and at most 65,536. Where there is none no memory is asked for.
 #[tactic(auto, unfolding(crate::specs::Reading::outputs_at, cbor::specs::Shapes::such_at))]
 pub fn read_outputs(alloc: Global, bytes: &[u8]) -> Result<(Vec<Output>, &[u8]), CborFault>
-    ensures { Gives (λ x. (map output_of x.0.items, x.1.now)) result (outputs_at bytes.now) }
+    ensures exact { Gives (λ x. (map output_of x.0.items, x.1.now)) result (outputs_at bytes.now) }
+    ensures want { IfErr result (λ fault. IfWant fault (GivesNo (λ x. x.0 ≡ []) (outputs_at bytes.now))) }
 {
     let (outputs, rest) = cbor::list_array::<Output>(alloc, NESTING, bytes)?;
     if outputs.len() > MAX_OUTPUTS {

@@ -6,11 +6,12 @@ ghost use Rattle.model.specs.Cbor.{text_of, nesting};
 ghost use Rattle.model.specs.Transaction as model;
 ghost use Rattle.model.specs.Transaction.{item_of_transaction, SpellsTransaction, transaction_id_of, size_of};
 ghost use Rattle.model.specs.Transaction.{interval_of_transaction};
-ghost use Rattle.cbor.specs.Gives.{Gives, IfMalformed};
+ghost use Rattle.cbor.specs.Gives.{Gives, GivesNo, IfMalformed, IfWant};
 ghost use Rattle.cbor.specs.Texts.{BeginsWithText, Keeps, Writes};
 ghost use Rattle.timelock.specs.View.{interval_of};
 ghost use Rattle.tx.specs.View.{input_of, output_of, witness_of};
 ghost use Rattle.tx.specs.TransactionReading.{transaction_at};
+ghost use Rattle.tx.specs.Bare.{IsBare};
 ghost use Rattle.tx.specs.BodyView.{body_of};
 ghost use Rattle.tx.specs.WitnessesView.{witnesses_of};
 ghost use Rattle.tx.specs.Parts.{IsTxOf, IsFirstFault, IfAtFault};
@@ -63,7 +64,9 @@ impl Tx {
     #[tactic(auto, unfolding(crate::specs::TransactionReading::transaction_at, crate::specs::TransactionReading::nothing_more_at, cbor::specs::Shapes::as_at, cbor::specs::Shapes::array_at, cbor::specs::Shapes::both_at))]
     fn first(alloc: Global, depth: usize, bytes: &[u8]) -> Result<(Tx, &[u8]), CborFault>
         requires { depth ≤ 61 }
-        ensures { Gives (λ x. (x.0, x.1.now)) result (transaction_at depth bytes.now) }
+        ensures exact { Gives (λ x. (x.0, x.1.now)) result (transaction_at depth bytes.now) }
+        ensures want { IfErr result (λ fault. IfWant fault
+            (GivesNo (λ x. IsBare x.0) (transaction_at depth bytes.now))) }
     {
         let members = cbor::members(bytes, 3).ok_or(CborFault::Malformed)?;
         let (body, after_body) = Body::read(alloc, members)?;
@@ -127,11 +130,14 @@ impl Tx {
 
     /// The transaction whose text stands first, and the bytes after it (RFC 8949, section 4.2.1; an array of the body,
     /// the witness set and null). Malformed where no transaction's text stands there, OutOfMemory where memory ran out
-    /// before that was known. Linear in the bytes of the text; the body's are hashed where they stand.
+    /// before that was known: memory is asked for by inputs, outputs, mints, signatures and scripts alone. Linear in
+    /// the bytes of the text; the body's are hashed where they stand.
     pub fn read(alloc: Global, bytes: &[u8]) -> Result<(Tx, &[u8]), CborFault>
         ensures found { IfOk result (λ x. BeginsWithText (SpellsTransaction x.0) bytes.now x.1.now) }
         ensures malformed { IfErr result (λ fault. IfMalformed fault ((tx : model.Transaction) (rest : List ℕ) →
             BeginsWithText (SpellsTransaction tx) bytes.now rest → ⊥)) }
+        ensures want { IfErr result (λ fault. IfWant fault ((tx : model.Transaction) (rest : List ℕ) →
+            BeginsWithText (SpellsTransaction tx) bytes.now rest → IsBare tx → ⊥)) }
     {
         Tx::first(alloc, MAX_SCRIPT_NESTING, bytes)
     }
@@ -147,6 +153,8 @@ impl Tx {
         ensures found { IfOk result (λ tx. SpellsTransaction tx bytes.now) }
         ensures malformed { IfErr result (λ fault. IfMalformed fault ((tx : model.Transaction) →
             SpellsTransaction tx bytes.now → ⊥)) }
+        ensures want { IfErr result (λ fault. IfWant fault ((tx : model.Transaction) →
+            SpellsTransaction tx bytes.now → IsBare tx → ⊥)) }
     {
         let (tx, rest) = Tx::read(alloc, bytes)?;
         if !rest.is_empty() {

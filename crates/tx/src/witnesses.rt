@@ -1,12 +1,13 @@
 //! Witness sets (Shelley-MA): the signatures and scripts by which a transaction may do what it does.
 
-ghost use Rattle.std.specs.Prelude.{◌≡◌, ◌<◌, ◌≤◌, ◌+◌, ◌++◌, length, map, OnOk, OnErr, vec_capacity};
+ghost use Rattle.std.specs.Prelude.{◌≡◌, ◌<◌, ◌≤◌, ◌+◌, ◌++◌, [], length, map, OnOk, OnErr, IfErr, vec_capacity};
 ghost use Rattle.model.specs.Cbor.{text_of, map_of, pairs_of, pairs_text, nesting, pairs_nesting};
 ghost use Rattle.model.specs.Transaction.{unless_empty};
-ghost use Rattle.cbor.specs.Gives.{Gives};
+ghost use Rattle.cbor.specs.Gives.{Gives, GivesNo, IfWant};
 ghost use Rattle.cbor.specs.Texts.{Keeps};
 ghost use Rattle.tx.specs.View.{witness_of};
 ghost use Rattle.tx.specs.TransactionReading.{signatures_field_at, scripts_field_at, witnesses_at};
+ghost use Rattle.tx.specs.Bare.{AreBareWitnesses};
 ghost use Rattle.tx.specs.WitnessesView.{witnesses_of, witness_entries, signatures_item, scripts_item};
 
 use crate::key_witness::KeyWitness;
@@ -36,7 +37,8 @@ fn read_signatures(
     left: u64,
     bytes: &[u8],
 ) -> Result<(Vec<KeyWitness>, u64, &[u8]), CborFault>
-    ensures { Gives (λ x. (map witness_of x.0.items, x.1, x.2.now)) result (signatures_field_at left bytes.now) }
+    ensures exact { Gives (λ x. (map witness_of x.0.items, x.1, x.2.now)) result (signatures_field_at left bytes.now) }
+    ensures want { IfErr result (λ fault. IfWant fault (GivesNo (λ x. x.0 ≡ []) (signatures_field_at left bytes.now))) }
 {
     let Some((after, text)) = cbor::field_key(left, SIGNATURES, bytes) else {
         return Ok((Vec::new(alloc), left, bytes));
@@ -53,7 +55,9 @@ fn read_scripts(
     left: u64,
     bytes: &[u8],
 ) -> Result<(Vec<Script>, u64, &[u8]), CborFault>
-    ensures { Gives (λ x. (x.0.items, x.1, x.2.now)) result (scripts_field_at depth left bytes.now) }
+    ensures exact { Gives (λ x. (x.0.items, x.1, x.2.now)) result (scripts_field_at depth left bytes.now) }
+    ensures want { IfErr result (λ fault. IfWant fault
+        (GivesNo (λ x. x.0 ≡ []) (scripts_field_at depth left bytes.now))) }
 {
     let Some((after, text)) = cbor::field_key(left, SCRIPTS, bytes) else {
         return Ok((Vec::new(alloc), left, bytes));
@@ -68,7 +72,9 @@ impl Witnesses {
     /// OutOfMemory where memory ran out before that was known. Linear in the bytes of the text.
     #[tactic(auto, unfolding(crate::specs::TransactionReading::witnesses_at, cbor::specs::Shapes::record_at, cbor::specs::Shapes::fields_at))]
     pub fn read(alloc: Global, depth: usize, bytes: &[u8]) -> Result<(Witnesses, &[u8]), CborFault>
-        ensures { Gives (λ x. (witnesses_of x.0, x.1.now)) result (witnesses_at depth bytes.now) }
+        ensures exact { Gives (λ x. (witnesses_of x.0, x.1.now)) result (witnesses_at depth bytes.now) }
+        ensures want { IfErr result (λ fault. IfWant fault
+            (GivesNo (λ x. AreBareWitnesses x.0) (witnesses_at depth bytes.now))) }
     {
         let (left, rest) = cbor::map(bytes).ok_or(CborFault::Malformed)?;
         let (signatures, left, rest) = read_signatures(alloc, left, rest)?;

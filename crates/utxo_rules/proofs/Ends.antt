@@ -1,5 +1,5 @@
 -- How the parts of a check make its whole.
-use Rattle.std.proofs.Common.{◌≡◌, ℕ, ◌+◌, ◌<◌, ◌≤◌, Bool, true, false, List, [], ◌∷◌, ◌++◌, length, map, Option, Some, None, Result, Ok, Err, IfErr, OnOk, refl, sym, ap, subst, ◌∙◌, arith}
+use Rattle.std.proofs.Common.{◌≡◌, ℕ, ◌+◌, ◌≤◌, Bool, true, false, List, [], ◌∷◌, ◌++◌, length, map, Option, Some, None, Result, Ok, Err, IfErr, OnOk, refl, sym, ap, subst, ◌∙◌, arith}
 use Rattle.std.specs.Prelude.{if◌then◌else◌, option_to_list}
 use Rattle.std.specs.List.{AllByRecursion}
 use Rattle.std.proofs.lemmas.List.{length-map}
@@ -7,7 +7,7 @@ use Rattle.model.specs.Signature.{Verifies}
 use Rattle.model.specs.Transaction.{Transaction, Input, Output, size_of}
 use Rattle.model.specs.Utxo.{Utxo, output_at, outputs_at, spent_outputs}
 use Rattle.model.specs.Balance.{is_balanced}
-use Rattle.model.specs.Rules.{Params, Reason, reason_number, passes, first_failing, reason_against, has_free_places, keys_needed, scripts_needed}
+use Rattle.model.specs.Rules.{Params, Reason, passes, first_failing, reason_against, has_free_places, keys_needed, scripts_needed}
 use Rattle.model.specs.Rules.{OutsideInterval, NoInputs, TooBig, FeeTooSmall, MissingInput, OutputTooSmall, WrongNetwork, NotBalanced, OutputExists, BadSignature, MissingKeyWitness, MissingScript, ExtraScript, ScriptFails}
 use Rattle.model.proofs.TransactionSizes.{inputs_fit, outputs_fit}
 use Rattle.tx.specs.View.{input_of}
@@ -16,7 +16,9 @@ use Rattle.utxo_rules.specs.declared.check_fault.CheckFault.{CheckFault}
 use Rattle.utxo_rules.specs.declared.check_fault.CheckFault.TheVariants.{Refused, OutOfMemory}
 use Rattle.utxo_rules.specs.declared.spent.Spent.{Spent}
 use Rattle.utxo_rules.specs.Spent.{IsSpent}
-use Rattle.utxo_rules.specs.Check.{early_reasons, first_of_witnesses, first_of_spending, IsTold, IsCheckFault}
+use Rattle.utxo_rules.specs.View.{reason_of}
+use Rattle.utxo_rules.specs.declared.reason.Reason.{Reason as CodeReason}
+use Rattle.utxo_rules.specs.Check.{told, early_reasons, first_of_witnesses, first_of_spending, IsTold, IsCheckFault, PassesEarly}
 
 -- ---- what is spent
 
@@ -95,7 +97,7 @@ module _ (verifies : Verifies) (params : Params) (utxo : Utxo) (slot : ℕ) (t :
   unfolding reason_against first_of_spending first_of_witnesses
   told_late none = early_passes (passes verifies params utxo slot t) early_reasons late_reasons none
 
-  early_pass : first_failing (passes verifies params utxo slot t) early_reasons ≡ None → (r : Reason) → reason_number r < 8 → passes verifies params utxo slot t r ≡ true
+  pub early_pass : first_failing (passes verifies params utxo slot t) early_reasons ≡ None → PassesEarly verifies params utxo slot t
   early_pass none OutsideInterval lt = (each_passes (passes verifies params utxo slot t) early_reasons none).0
   early_pass none NoInputs lt = (each_passes (passes verifies params utxo slot t) early_reasons none).1.0
   early_pass none TooBig lt = (each_passes (passes verifies params utxo slot t) early_reasons none).1.1.0
@@ -111,11 +113,56 @@ module _ (verifies : Verifies) (params : Params) (utxo : Utxo) (slot : ℕ) (t :
   early_pass none ExtraScript lt = absurd (omega (arith, lt))
   early_pass none ScriptFails lt = absurd (omega (arith, lt))
 
-  pub accepts : (r : Result (Unit {0}) CheckFault) → first_failing (passes verifies params utxo slot t) early_reasons ≡ None → IsTold (first_of_spending verifies utxo t) r → OnOk r (reason_against verifies params utxo slot t ≡ None)
+  -- where each of them passes none is told
+  next_passes : (x : Reason) (rs : List Reason) → passes verifies params utxo slot t x ≡ true → first_failing (passes verifies params utxo slot t) rs ≡ None → first_failing (passes verifies params utxo slot t) (x ∷ rs) ≡ None
+  next_passes x rs p none = ap (λ (b : Bool). if b then first_failing (passes verifies params utxo slot t) rs else Some x) p ∙ none
+
+  pub none_early : PassesEarly verifies params utxo slot t → first_failing (passes verifies params utxo slot t) early_reasons ≡ None
+  none_early p =
+      let from_7 = next_passes WrongNetwork [] (p WrongNetwork (omega arith)) refl in
+      let from_6 = next_passes OutputTooSmall (WrongNetwork ∷ []) (p OutputTooSmall (omega arith)) from_7 in
+      let from_5 = next_passes MissingInput (OutputTooSmall ∷ WrongNetwork ∷ []) (p MissingInput (omega arith)) from_6 in
+      let from_4 = next_passes FeeTooSmall (MissingInput ∷ OutputTooSmall ∷ WrongNetwork ∷ []) (p FeeTooSmall (omega arith)) from_5 in
+      let from_3 = next_passes TooBig (FeeTooSmall ∷ MissingInput ∷ OutputTooSmall ∷ WrongNetwork ∷ []) (p TooBig (omega arith)) from_4 in
+      let from_2 = next_passes NoInputs (TooBig ∷ FeeTooSmall ∷ MissingInput ∷ OutputTooSmall ∷ WrongNetwork ∷ []) (p NoInputs (omega arith)) from_3 in
+      next_passes OutsideInterval (NoInputs ∷ TooBig ∷ FeeTooSmall ∷ MissingInput ∷ OutputTooSmall ∷ WrongNetwork ∷ []) (p OutsideInterval (omega arith)) from_2
+
+  accepts : (r : Result (Unit {0}) CheckFault) → first_failing (passes verifies params utxo slot t) early_reasons ≡ None → IsTold (first_of_spending verifies utxo t) r → OnOk r (reason_against verifies params utxo slot t ≡ None)
   accepts (Ok unit) none is = told_late none ∙ is
   accepts (Err e) none is = tt
 
-  pub refuses : (r : Result (Unit {0}) CheckFault) → first_failing (passes verifies params utxo slot t) early_reasons ≡ None → IsTold (first_of_spending verifies utxo t) r → IfErr r (IsCheckFault verifies params utxo slot t)
+  refuses : (r : Result (Unit {0}) CheckFault) → first_failing (passes verifies params utxo slot t) early_reasons ≡ None → IsTold (first_of_spending verifies utxo t) r → IfErr r (IsCheckFault verifies params utxo slot t)
   refuses (Ok unit) none is = tt
   refuses (Err (Refused reason)) none is = told_late none ∙ is
   refuses (Err OutOfMemory) none is = early_pass none
+
+-- ---- the reasons 8 to 14 by themselves
+
+module _ (verifies : Verifies) (utxo : Utxo) (t : Transaction) where
+  pub accepted_late : (r : Result (Unit {0}) CheckFault) → IsTold (first_of_spending verifies utxo t) r → OnOk r ((params : Params) (slot : ℕ) → PassesEarly verifies params utxo slot t → reason_against verifies params utxo slot t ≡ None)
+  accepted_late (Ok unit) is = λ params slot early. accepts verifies params utxo slot t (Ok unit) (none_early verifies params utxo slot t early) is
+  accepted_late (Err fault) is = tt
+
+  pub refused_late : (r : Result (Unit {0}) CheckFault) → IsTold (first_of_spending verifies utxo t) r → IfErr r (λ fault. (params : Params) (slot : ℕ) → PassesEarly verifies params utxo slot t → IsCheckFault verifies params utxo slot t fault)
+  refused_late (Ok unit) is = tt
+  refused_late (Err fault) is = λ params slot early. refuses verifies params utxo slot t (Err fault) (none_early verifies params utxo slot t early) is
+
+module _ (verifies : Verifies) (params : Params) (utxo : Utxo) (slot : ℕ) (t : Transaction) where
+  pub accepted_at : (r : Result (Unit {0}) CheckFault) → PassesEarly verifies params utxo slot t → OnOk r ((params : Params) (slot : ℕ) → PassesEarly verifies params utxo slot t → reason_against verifies params utxo slot t ≡ None) → OnOk r (reason_against verifies params utxo slot t ≡ None)
+  accepted_at (Ok unit) early late = late params slot early
+  accepted_at (Err fault) early late = tt
+
+  pub refused_at : (r : Result (Unit {0}) CheckFault) → PassesEarly verifies params utxo slot t → IfErr r (λ fault. (params : Params) (slot : ℕ) → PassesEarly verifies params utxo slot t → IsCheckFault verifies params utxo slot t fault) → IfErr r (IsCheckFault verifies params utxo slot t)
+  refused_at (Ok unit) early late = tt
+  refused_at (Err fault) early late = late params slot early
+
+-- ---- the reasons 1 to 7 by themselves
+
+module _ (params : Params) (utxo : Utxo) (slot : ℕ) (t : Transaction) where
+  pub refused_early : (r : Result (Unit {0}) CodeReason) → ((verifies : Verifies) → told r ≡ first_failing (passes verifies params utxo slot t) early_reasons) → IfErr r (λ reason. (verifies : Verifies) → reason_against verifies params utxo slot t ≡ Some (reason_of reason))
+  refused_early (Ok unit) first = tt
+  refused_early (Err reason) first = λ verifies. told_early verifies params utxo slot t (reason_of reason) (sym (first verifies))
+
+  pub passed_early : (r : Result (Unit {0}) CodeReason) → ((verifies : Verifies) → told r ≡ first_failing (passes verifies params utxo slot t) early_reasons) → OnOk r ((verifies : Verifies) → PassesEarly verifies params utxo slot t)
+  passed_early (Ok unit) first = λ verifies. early_pass verifies params utxo slot t (sym (first verifies))
+  passed_early (Err reason) first = tt

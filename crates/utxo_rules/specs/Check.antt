@@ -14,12 +14,15 @@ use Rattle.utxo_rules.specs.declared.check_fault.CheckFault.{CheckFault}
 use Rattle.utxo_rules.specs.declared.check_fault.CheckFault.TheVariants.{Refused, OutOfMemory}
 use Rattle.utxo_rules.specs.View.{reason_of}
 
+-- none of the reasons 1 to 7 is there
+abbrev pub PassesEarly : Verifies → Params → Utxo → (slot : ℕ) → Transaction → Type 0
+PassesEarly verifies params utxo slot t = (r : Reason) → reason_number r < 8 → passes verifies params utxo slot t r ≡ true
+
 -- a fault of a check: the first reason, or want of memory, which is told only where none of the reasons 1 to 7 applies
 abbrev pub IsCheckFault : Verifies → Params → Utxo → (slot : ℕ) → Transaction → CheckFault → Type 0
 IsCheckFault verifies params utxo slot t (Refused reason) =
     reason_against verifies params utxo slot t ≡ Some (reason_of reason)
-IsCheckFault verifies params utxo slot t OutOfMemory =
-    (r : Reason) → reason_number r < 8 → passes verifies params utxo slot t r ≡ true
+IsCheckFault verifies params utxo slot t OutOfMemory = PassesEarly verifies params utxo slot t
 
 -- ---- the parts of a check
 

@@ -32,6 +32,6 @@ pub use diff::Diff;
 pub use entries::Entries;
 pub use params::Params;
 pub use reason::Reason;
-pub use rules::check;
+pub use rules::{check, check_early, check_late};
 pub use undoing::{undo, undone};
 pub use utxo::Utxo;

@@ -1,12 +1,13 @@
 //! The rules of a transaction.
 
-ghost use Rattle.std.specs.Prelude.{◌≡◌, ◌≤◌, ◌^◌, None, OnOk, IfErr};
+ghost use Rattle.std.specs.Prelude.{◌≡◌, ◌≤◌, ◌^◌, ℕ, Some, None, OnOk, IfErr};
 ghost use Rattle.model.specs.Signature.{Verifies};
 ghost use Rattle.model.specs.Transaction.{size_of};
+ghost use Rattle.model.specs.Rules as model;
 ghost use Rattle.model.specs.Rules.{passes, first_failing, reason_against};
-ghost use Rattle.utxo_rules.specs.View.{params_of};
+ghost use Rattle.utxo_rules.specs.View.{params_of, reason_of};
 ghost use Rattle.utxo_rules.specs.Check.{told, early_reasons, first_of_witnesses, first_of_spending};
-ghost use Rattle.utxo_rules.specs.Check.{IsTold, IsCheckFault};
+ghost use Rattle.utxo_rules.specs.Check.{IsTold, IsCheckFault, PassesEarly};
 
 use crate::balance::is_balanced;
 use crate::check_fault::CheckFault;
@@ -104,11 +105,44 @@ fn check_spending<S: SigScheme>(
     check_witnesses(alloc, &spent.keys, scripts, checked)
 }
 
+/// The first of the reasons 1 to 7 against a transaction at a slot and on a UTXO, if there is one: the part of
+/// [`check`] that asks neither for sums nor for signatures and scripts, so that whoever has a transaction without its
+/// verdicts needs none where it is refused here. Takes no memory, and one look-up in the UTXO for each input.
+pub fn check_early(params: &Params, utxo: &Utxo, slot: u64, tx: &Tx) -> Result<(), Reason>
+    ensures refused { IfErr result (λ reason. (verifies : Verifies) →
+        reason_against verifies (params_of params.now) utxo.now slot tx.now ≡ Some (reason_of reason)) }
+    ensures passed { OnOk result ((verifies : Verifies) →
+        PassesEarly verifies (params_of params.now) utxo.now slot tx.now) }
+    ensures small { OnOk result (size_of tx.now ≤ 2 ^ 32) }
+{
+    check_parts(params, utxo, slot, tx)
+}
+
+/// The first of the reasons 8 to 14 against a transaction that [`check_early`] let pass on this UTXO, if there is one:
+/// the rest of [`check`]. OutOfMemory where memory ran out before that was known. Takes a look-up in the UTXO for each
+/// input and one for each output; its own memory is linear in the assets and the hashes that it adds up and looks up,
+/// and none of them is copied more than once.
+pub fn check_late<S: SigScheme>(
+    alloc: Global,
+    utxo: &Utxo,
+    checked: &CheckedTx<S>,
+) -> Result<(), CheckFault>
+    requires { size_of checked.now ≤ 2 ^ 32 }
+    // Whatever the parameters and the slot are at which the first seven let it pass.
+    ensures accepted { OnOk result ((params : model.Params) (slot : ℕ) →
+        PassesEarly S.verifies params utxo.now slot checked.now →
+        reason_against S.verifies params utxo.now slot checked.now ≡ None) }
+    ensures refused { IfErr result (λ fault. (params : model.Params) (slot : ℕ) →
+        PassesEarly S.verifies params utxo.now slot checked.now →
+        IsCheckFault S.verifies params utxo.now slot checked.now fault) }
+{
+    check_spending(alloc, utxo, checked)
+}
+
 /// Judges a transaction at a slot and on a UTXO (Shelley and Shelley-MA, UTXO and UTXOW; the order of the reasons is
 /// this project's own). Ok where there is no reason against it, and else the first. OutOfMemory where memory ran out
-/// before that was known, which it does only where none of the reasons 1 to 7 applies. Takes two look-ups in the UTXO
-/// for each input and one for each output; its own memory is linear in the assets and the hashes that it adds up and
-/// looks up, and none of them is copied more than once.
+/// before that was known, which it does only where none of the reasons 1 to 7 applies. It is [`check_early`] with
+/// [`check_late`] after it, and costs what they cost.
 ///
 /// ```text
 /// match check(alloc, &params, &utxo, slot, &tx) {
@@ -127,6 +161,6 @@ pub fn check<S: SigScheme>(
         reason_against S.verifies (params_of params.now) utxo.now slot checked.now ≡ None) }
     ensures refused { IfErr result (IsCheckFault S.verifies (params_of params.now) utxo.now slot checked.now) }
 {
-    check_parts(params, utxo, slot, checked.tx())?;
-    check_spending(alloc, utxo, checked)
+    check_early(params, utxo, slot, checked.tx())?;
+    check_late(alloc, utxo, checked)
 }

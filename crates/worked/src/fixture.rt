@@ -4,10 +4,19 @@ use block::{Header, empty_body_hash, read, write_empty};
 use chain_core::{ArriveReply, Core, RawEvent, Reply};
 use genesis::Genesis;
 use ident::BlockHash;
-use std::alloc::{AllocError, Global};
 use std::process::Abort;
-use std::test::Fail;
 use witness_pool::TestScheme;
+
+// Each way out of a function drops all that it owns, which makes its proof longer. So want of memory and what can't be
+// otherwise end a test on the spot, and what has much to drop stands in a box, whose drop is a call.
+
+/// What is said where memory runs out.
+pub const MEMORY: &str = "memory";
+
+/// The value in a box.
+pub fn boxed<T: Drop>(rt: &(impl Abort + AllocGlobal), value: T) -> Box<T> {
+    Box::new(rt.alloc(), value).expect(rt, MEMORY)
+}
 
 /// The genesis of a network where 2 blocks may be rolled back and 100 live ones are kept.
 pub const SMALL_NETWORK: &str = "network = 0
@@ -47,11 +56,6 @@ pub struct Made {
     pub hash: BlockHash,
 }
 
-/// The hash of the block of a text.
-fn hash_of(alloc: Global, text: &[u8]) -> Result<BlockHash, Fail> {
-    Ok(read(alloc, text)?.hash())
-}
-
 /// The header of the block without transactions that goes on from the parent, or of the first one, in this slot.
 fn header_of(parent: Option<&Made>, slot: u64) -> Header {
     let (number, previous) = match parent {
@@ -67,50 +71,51 @@ fn header_of(parent: Option<&Made>, slot: u64) -> Header {
 }
 
 /// That block.
-pub fn make(alloc: Global, parent: Option<&Made>, slot: u64) -> Result<Made, Fail> {
+pub fn make(rt: &(impl Abort + AllocGlobal), parent: Option<&Made>, slot: u64) -> Made {
     let header = header_of(parent, slot);
-    let text = write_empty(alloc, &header)?;
-    let hash = hash_of(alloc, &text)?;
-    Ok(Made {
+    let text = write_empty(rt.alloc(), &header).expect(rt, "a block");
+    let hash = boxed(rt, read(rt.alloc(), &text).expect(rt, "a block")).hash();
+    Made {
         text,
         number: header.number,
         hash,
-    })
+    }
 }
 
 /// The blocks of a chain, in the slots from 1 on.
-pub fn chain_of(alloc: Global, count: u64) -> Result<Vec<Made>, Fail> {
-    let mut blocks: Vec<Made> = Vec::new(alloc);
+pub fn chain_of(rt: &(impl Abort + AllocGlobal), count: u64) -> Vec<Made> {
+    let mut blocks: Vec<Made> = Vec::new(rt.alloc());
     for slot in 0..count {
-        let next = make(alloc, blocks.last(), slot.saturating_add(1))?;
-        blocks.push(next)?;
+        let next = make(rt, blocks.last(), slot.saturating_add(1));
+        blocks.push(next).expect(rt, MEMORY);
     }
-    Ok(blocks)
+    blocks
 }
 
-/// A core that nothing has come to, on the network of this text. In a box it is dropped by a call, which keeps the
-/// proofs of the tests short.
-pub fn core_on(alloc: Global, network: &str) -> Result<Box<Core<TestScheme>>, Fail> {
-    let genesis = Genesis::from_toml(alloc, network)?;
-    Ok(Box::new(alloc, Core::new(alloc, genesis)?)?)
-}
-
-/// A core that nothing has come to, on the small network.
-pub fn new_core(alloc: Global) -> Result<Box<Core<TestScheme>>, Fail> {
-    core_on(alloc, SMALL_NETWORK)
+/// A core that nothing has come to, on the network of this text.
+pub fn core_on(rt: &(impl Abort + AllocGlobal), network: &str) -> Box<Core<TestScheme>> {
+    let genesis = Genesis::from_toml(rt.alloc(), network).expect(rt, "a genesis");
+    boxed(rt, Core::new(rt.alloc(), genesis).expect(rt, MEMORY))
 }
 
 /// What the core answers to bytes. It promises nothing, which keeps the proofs of the tests short, as those below do.
-pub fn arrive_at(core: &mut Core<TestScheme>, bytes: &[u8]) -> Result<ArriveReply, Fail> {
-    Ok(core.arrive(bytes)?)
+pub fn arrive_at(rt: &impl Abort, core: &mut Core<TestScheme>, bytes: &[u8]) -> ArriveReply {
+    core.arrive(bytes).expect(rt, MEMORY)
+}
+
+/// The core answers these bytes so.
+pub fn answers(rt: &impl Abort, core: &mut Core<TestScheme>, bytes: &[u8], want: ArriveReply) {
+    let reply = arrive_at(rt, core, bytes);
+    assert!(rt; reply == want);
 }
 
 /// What the core answers to events.
 pub fn run_all(
+    rt: &(impl Abort + AllocGlobal),
     core: &mut Core<TestScheme>,
     events: &[RawEvent],
-) -> Result<Vec<Reply<TestScheme>>, AllocError> {
-    core.run(events)
+) -> Box<Vec<Reply<TestScheme>>> {
+    boxed(rt, core.run(events).expect(rt, MEMORY))
 }
 
 /// What is said of a block that is kept.
@@ -120,5 +125,5 @@ pub fn kept(back: u64, added: u64) -> ArriveReply {
 
 /// The number that this is said of is the one that is wanted.
 pub fn same(rt: &impl Abort, about: &str, found: u64, want: u64) {
-    assert_eq!(rt; found, want, "{about}");
+    assert!(rt; found == want, "{about}: {found} in place of {want}");
 }

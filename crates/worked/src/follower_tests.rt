@@ -1,73 +1,67 @@
 //! What followers are told.
 
-use super::fixture::{make, new_core, run_all};
+use super::fixture::{MEMORY, SMALL_NETWORK, boxed, core_on, make, run_all};
 use chain_core::{
     ArriveReply, Core, FollowerId, Instruction, NextFault, OpenFault, RawEvent, Reply,
     UnknownFollower,
 };
 use ident::Point;
-use std::alloc::Global;
 use std::process::Abort;
-use std::test::Fail;
 use witness_pool::TestScheme;
 
-/// Whether no follower has this number.
-fn is_unknown(core: &mut Core<TestScheme>, number: u64) -> bool {
-    matches!(
-        core.next(FollowerId { number }),
-        Err(NextFault::UnknownFollower)
-    )
+/// No follower has this number.
+fn is_unknown(rt: &impl Abort, core: &mut Core<TestScheme>, number: u64) {
+    let fault = core.next(FollowerId { number }).err();
+    assert!(rt; fault == Some(NextFault::UnknownFollower));
 }
 
-/// What the core answers to the opening of a follower.
-fn open(core: &mut Core<TestScheme>) -> Result<FollowerId, OpenFault> {
-    core.open()
+/// A follower is opened under this number.
+fn opens(rt: &impl Abort, core: &mut Core<TestScheme>, number: u64) {
+    let opened = core.open();
+    assert!(rt; opened == Ok(FollowerId { number }));
 }
 
-/// So many followers are opened, each under the next number, and no more.
-fn opens_so_many(rt: &impl Abort, core: &mut Core<TestScheme>, count: u64) {
-    for number in 0..count {
-        assert!(rt; is_unknown(core, number));
-        assert!(rt; open(core) == Ok(FollowerId { number }));
+/// No follower more is opened.
+fn is_full(rt: &impl Abort, core: &mut Core<TestScheme>) {
+    let opened = core.open();
+    assert!(rt; opened == Err(OpenFault::TooManyFollowers));
+}
+
+// 1,024 followers are opened, each under the next number, and no more. Then one is closed, and its number given again.
+#[test]
+fn follower_ids(rt: HostRuntime) {
+    let mut core = core_on(&rt, SMALL_NETWORK);
+    for number in 0..1024 {
+        is_unknown(&rt, &mut core, number);
+        opens(&rt, &mut core, number);
     }
-    assert!(rt; open(core) == Err(OpenFault::TooManyFollowers));
-    assert!(rt; is_unknown(core, count));
-}
-
-/// The follower of this number is closed, and its number given again.
-fn gives_again(rt: &impl Abort, core: &mut Core<TestScheme>, number: u64) {
-    let id = FollowerId { number };
+    is_full(&rt, &mut core);
+    is_unknown(&rt, &mut core, 1024);
+    let id = FollowerId { number: 5 };
     assert!(rt; core.close(id) == Ok(()));
     assert!(rt; core.close(id) == Err(UnknownFollower {}));
-    assert!(rt; is_unknown(core, number));
-    assert!(rt; open(core) == Ok(id));
-    assert!(rt; open(core) == Err(OpenFault::TooManyFollowers));
-}
-
-#[test]
-fn follower_ids(rt: HostRuntime) -> Result<(), Fail> {
-    let mut core = new_core(rt.alloc())?;
-    opens_so_many(&rt, &mut core, 1024);
-    gives_again(&rt, &mut core, 5);
-    Ok(())
+    is_unknown(&rt, &mut core, 5);
+    opens(&rt, &mut core, 5);
+    is_full(&rt, &mut core);
 }
 
 /// A question of a follower that is not open, its opening, an arrival, two questions, and that it is set to genesis and
 /// closed.
-fn events_of(alloc: Global, text: Vec<u8>) -> Result<Vec<RawEvent>, Fail> {
+fn events_of(rt: &(impl Abort + AllocGlobal), text: Vec<u8>) -> Box<Vec<RawEvent>> {
     let id = FollowerId { number: 0 };
-    Ok(Vec::from_array(
-        alloc,
-        [
-            RawEvent::Next(id),
-            RawEvent::Open,
-            RawEvent::Arrive(text),
-            RawEvent::Next(id),
-            RawEvent::Next(id),
-            RawEvent::Forward(id, Vec::from_array(alloc, [Point::genesis()])?),
-            RawEvent::Close(id),
-        ],
-    )?)
+    let genesis = vec![in rt.alloc(); Point::genesis()].expect(rt, MEMORY);
+    let mut events = boxed(rt, Vec::new(rt.alloc()));
+    events.push(RawEvent::Next(id)).expect(rt, MEMORY);
+    events.push(RawEvent::Open).expect(rt, MEMORY);
+    events.push(RawEvent::Arrive(text)).expect(rt, MEMORY);
+    for _ in 0..2 {
+        events.push(RawEvent::Next(id)).expect(rt, MEMORY);
+    }
+    events
+        .push(RawEvent::Forward(id, genesis))
+        .expect(rt, MEMORY);
+    events.push(RawEvent::Close(id)).expect(rt, MEMORY);
+    events
 }
 
 /// Whether the answers to those are that the follower is told the block of this text.
@@ -86,19 +80,13 @@ fn is_told(replies: &[Reply<TestScheme>], text: &[u8]) -> bool {
     }
 }
 
-/// What a new core answers to those.
-fn replies_to(alloc: Global, text: Vec<u8>) -> Result<Vec<Reply<TestScheme>>, Fail> {
-    let events = events_of(alloc, text)?;
-    let mut core = new_core(alloc)?;
-    Ok(run_all(&mut core, &events)?)
-}
-
 // Events in a list are answered as one by one.
 #[test]
-fn run_with_a_follower(rt: HostRuntime) -> Result<(), Fail> {
-    let again = make(rt.alloc(), None, 1)?.text;
-    let text = make(rt.alloc(), None, 1)?.text;
-    let replies = replies_to(rt.alloc(), text)?;
+fn run_with_a_follower(rt: HostRuntime) {
+    let again = make(&rt, None, 1).text;
+    let text = make(&rt, None, 1).text;
+    let events = events_of(&rt, text);
+    let mut core = core_on(&rt, SMALL_NETWORK);
+    let replies = run_all(&rt, &mut core, &events);
     assert!(rt; is_told(&replies, &again));
-    Ok(())
 }

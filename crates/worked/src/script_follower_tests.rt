@@ -1,46 +1,38 @@
 //! Scripts with followers, as many as there can be, and with want of memory.
 
+use super::fixture::MEMORY;
 use super::script_tests::{ends, run_script};
 use scenario::{LineFault, ScenarioFault};
-use std::alloc::Global;
-use std::test::Fail;
+use std::process::Abort;
 
-/// Puts the opening of 1,024 followers behind a text, each line with this end.
-fn put_openings(alloc: Global, text: &mut Vec<u8>, end: &str) -> Result<(), Fail> {
+/// The lines of 1,024 openings, each with this end, and then others.
+fn openings(rt: &(impl Abort + AllocGlobal), end: &str, others: &str) -> String {
+    let mut text = String::new(rt.alloc());
     for number in 0..1024u64 {
-        let line = format!(in alloc; "open F{number}{end}\n")?;
-        text.extend_from_slice(line.as_bytes())?;
+        write!(text, "open F{number}{end}\n").expect(rt, MEMORY);
     }
-    Ok(())
-}
-
-/// The lines of 1,024 openings, with this end, and then others.
-fn openings(alloc: Global, end: &str, others: &[u8]) -> Result<Vec<u8>, Fail> {
-    let mut text = Vec::new(alloc);
-    put_openings(alloc, &mut text, end)?;
-    text.extend_from_slice(others)?;
-    Ok(text)
+    text.push_str(others).expect(rt, MEMORY);
+    text
 }
 
 /// What comes behind them.
-const ONE_MORE: &[u8] =
-    b"open G\nopen G\nnext F1023\nblock G genesis 1\narrive G\nnext F0\nnext G\n";
+const ONE_MORE: &str = "open G\nopen G\nnext F1023\nblock G genesis 1\narrive G\nnext F0\nnext G\n";
 
 /// What that prints.
-const ONE_MORE_PRINTS: &[u8] =
-    b"open G: refused TooManyFollowers\nopen G: refused TooManyFollowers\nnext F1023: none\narrive G: kept back 0 added 1\nnext F0: add G\n";
+const ONE_MORE_PRINTS: &str =
+    "open G: refused TooManyFollowers\nopen G: refused TooManyFollowers\nnext F1023: none\n\
+    arrive G: kept back 0 added 1\nnext F0: add G\n";
 
 // There is room for 1,024 followers. One more is refused, and its name stays free.
 #[test]
-fn one_follower_too_many(rt: HostRuntime) -> Result<(), Fail> {
-    let script = openings(rt.alloc(), "", ONE_MORE)?;
-    let printed = openings(rt.alloc(), ": ok", ONE_MORE_PRINTS)?;
+fn one_follower_too_many(rt: HostRuntime) {
+    let script = openings(&rt, "", ONE_MORE);
+    let printed = openings(&rt, ": ok", ONE_MORE_PRINTS);
     let want = Err(ScenarioFault::Line {
         number: 1031,
         fault: LineFault::UnknownName,
     });
-    ends(&rt, rt.alloc(), "one more", &script, want, &printed);
-    Ok(())
+    ends(&rt, script.as_bytes(), want, printed.as_bytes());
 }
 
 /// How a run may end, and what was printed then.
@@ -102,10 +94,9 @@ fn may_end(ended: Result<(), ScenarioFault>, out: &[u8]) -> bool {
 }
 
 #[test]
-fn want_of_memory_with_a_follower(rt: HostRuntime) -> Result<(), Fail> {
-    let mut out = Vec::with_capacity(rt.alloc(), 256)?;
+fn want_of_memory_with_a_follower(rt: HostRuntime) {
+    let mut out = Vec::with_capacity(rt.alloc(), 256).expect(&rt, MEMORY);
     let mut reader = b"block A genesis 1\narrive A\nopen F\nnext F\nnext F\n".as_slice();
     let result = run_script(rt.alloc(), &mut reader, &mut out);
     assert!(rt; may_end(result, &out));
-    Ok(())
 }

@@ -1,11 +1,10 @@
 //! Scripts whose reader or writer fails.
 
-use super::script_tests::{run_script, same_bytes, same_end};
+use super::fixture::MEMORY;
+use super::script_tests::{is_end, run_script};
 use scenario::ScenarioFault;
-use std::alloc::Global;
 use std::io;
 use std::io::{BufReader, Read, Write};
-use std::test::Fail;
 
 /// A predecessor that comes last.
 const SCRIPT: &[u8] = b"block A1 genesis 1
@@ -42,18 +41,17 @@ impl Read for FailsLater {
 }
 
 #[test]
-fn a_reader_that_fails(rt: HostRuntime) -> Result<(), Fail> {
-    let mut reader = BufReader::new(rt.alloc(), FailsLater { reads: 0 })?;
+fn a_reader_that_fails(rt: HostRuntime) {
+    let mut reader = BufReader::new(rt.alloc(), FailsLater { reads: 0 }).expect(&rt, MEMORY);
     let mut out = Vec::new(rt.alloc());
     let result = run_script(rt.alloc(), &mut reader, &mut out);
-    same_end(
+    is_end(
         &rt,
-        "the second read",
         result,
+        &out,
         Err(ScenarioFault::ReadFailed),
+        b"tip: 0 genesis\n",
     );
-    same_bytes(&rt, "the second read", &out, b"tip: 0 genesis\n");
-    Ok(())
 }
 
 /// A writer that takes no more than so many bytes.
@@ -79,32 +77,21 @@ impl Write for Limited {
     }
 }
 
-/// What a script ends with where there is room for so many bytes, and what it prints.
-fn run_limited(alloc: Global, script: &[u8], room: usize) -> (Result<(), ScenarioFault>, Vec<u8>) {
-    let mut reader = script;
-    let mut writer = Limited {
-        room,
-        written: Vec::new(alloc),
-    };
-    let result = run_script(alloc, &mut reader, &mut writer);
-    (result, writer.written)
-}
-
-/// What it is to end with, where it prints so many bytes.
-fn end_with_room(room: usize, printed: usize) -> Result<(), ScenarioFault> {
-    if room < printed {
-        Err(ScenarioFault::WriteFailed)
-    } else {
-        Ok(())
-    }
-}
-
 #[test]
 fn a_writer_that_fails(rt: HostRuntime) {
     for room in 0..PRINTED.len() + 1 {
-        let (result, written) = run_limited(rt.alloc(), SCRIPT, room);
-        same_end(&rt, "less room", result, end_with_room(room, PRINTED.len()));
-        same_bytes(&rt, "less room", &written, &PRINTED[..room]);
+        let mut reader = SCRIPT;
+        let mut writer = Limited {
+            room,
+            written: Vec::new(rt.alloc()),
+        };
+        let result = run_script(rt.alloc(), &mut reader, &mut writer);
+        let want = if room < PRINTED.len() {
+            Err(ScenarioFault::WriteFailed)
+        } else {
+            Ok(())
+        };
+        is_end(&rt, result, &writer.written, want, &PRINTED[..room]);
     }
 }
 
@@ -139,6 +126,5 @@ fn a_writer_that_is_interrupted(rt: HostRuntime) {
         written: Vec::new(rt.alloc()),
     };
     let result = run_script(rt.alloc(), &mut reader, &mut writer);
-    same_end(&rt, "interruptions", result, Ok(()));
-    same_bytes(&rt, "interruptions", &writer.written, PRINTED);
+    is_end(&rt, result, &writer.written, Ok(()), PRINTED);
 }

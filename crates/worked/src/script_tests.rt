@@ -1,12 +1,11 @@
 //! Scripts whose bytes a file of cases can't say.
 
-use super::fixture::SMALL_NETWORK;
+use super::fixture::{MEMORY, SMALL_NETWORK};
 use genesis::Genesis;
 use scenario::{LineFault, ScenarioFault, run};
 use std::alloc::Global;
 use std::io::{BufRead, Write};
 use std::process::Abort;
-use std::test::Fail;
 
 /// What the script of a reader ends with on the small network. It promises nothing, which keeps the proofs of the tests
 /// short.
@@ -22,41 +21,29 @@ pub fn run_script<R: BufRead, W: Write>(
     run(alloc, genesis, reader, writer)
 }
 
-/// What a script ends with and what it prints.
-fn run_text(alloc: Global, text: &[u8]) -> (Result<(), ScenarioFault>, Vec<u8>) {
-    let mut reader = text;
-    let mut out = Vec::new(alloc);
-    let result = run_script(alloc, &mut reader, &mut out);
-    (result, out)
-}
-
-/// The run that this is said of ended as is wanted.
-pub fn same_end(
+/// A run ended as is wanted, and printed what is wanted before.
+pub fn is_end(
     rt: &impl Abort,
-    about: &str,
     found: Result<(), ScenarioFault>,
+    out: &[u8],
     want: Result<(), ScenarioFault>,
+    printed: &[u8],
 ) {
-    assert!(rt; found == want, "at {about}");
+    assert!(rt; found == want);
+    assert!(rt; out == printed);
 }
 
-/// The bytes that this is said of are those that are wanted.
-pub fn same_bytes(rt: &impl Abort, about: &str, found: &[u8], want: &[u8]) {
-    assert!(rt; found == want, "at {about}");
-}
-
-/// The script that this is said of ends so, and prints so before.
+/// The script ends so, and prints so before.
 pub fn ends(
-    rt: &impl Abort,
-    alloc: Global,
-    about: &str,
+    rt: &(impl Abort + AllocGlobal),
     script: &[u8],
     want: Result<(), ScenarioFault>,
     printed: &[u8],
 ) {
-    let (result, out) = run_text(alloc, script);
-    same_end(rt, about, result, want);
-    same_bytes(rt, about, &out, printed);
+    let mut reader = script;
+    let mut out = Vec::new(rt.alloc());
+    let result = run_script(rt.alloc(), &mut reader, &mut out);
+    is_end(rt, result, &out, want, printed);
 }
 
 /// Line 1 is none.
@@ -95,22 +82,8 @@ const UNENDED: &[(&str, Result<(), ScenarioFault>, &str)] = &[
 #[test]
 fn last_lines_without_a_line_feed(rt: HostRuntime) {
     for (script, want, printed) in UNENDED {
-        ends(
-            &rt,
-            rt.alloc(),
-            *script,
-            script.as_bytes(),
-            *want,
-            printed.as_bytes(),
-        );
+        ends(&rt, script.as_bytes(), *want, printed.as_bytes());
     }
-}
-
-/// A comment of so many bytes, and a question.
-fn filled(alloc: Global, fill: usize) -> Result<Vec<u8>, Fail> {
-    let mut script = vec![in alloc; b'#'; fill]?;
-    script.extend_from_slice(b"\ntip\n")?;
-    Ok(script)
 }
 
 /// How many bytes there are in a comment before a question, what the script ends with, and what it prints.
@@ -122,17 +95,10 @@ const LARGEST: &[(usize, Result<(), ScenarioFault>, &str)] = &[
 
 // The last line of 4,194,304 bytes is run, and that of the next byte is not.
 #[test]
-fn the_largest_script(rt: HostRuntime) -> Result<(), Fail> {
+fn the_largest_script(rt: HostRuntime) {
     for (fill, want, printed) in LARGEST {
-        let script = filled(rt.alloc(), *fill)?;
-        ends(
-            &rt,
-            rt.alloc(),
-            "the end",
-            &script,
-            *want,
-            printed.as_bytes(),
-        );
+        let mut script = vec![in rt.alloc(); b'#'; *fill].expect(&rt, MEMORY);
+        script.extend_from_slice(b"\ntip\n").expect(&rt, MEMORY);
+        ends(&rt, &script, *want, printed.as_bytes());
     }
-    Ok(())
 }

@@ -1,175 +1,140 @@
 //! Texts that the crates write, printed as hexadecimal for another reader of CBOR.
 
+use super::fixture::{MEMORY, boxed};
 use ident::{BlockHash, KeyHash, ScriptHash, TxId};
-use std::alloc::{AllocError, Global};
-use std::test::Fail;
+use std::io;
+use std::process::Abort;
 use timelock::{Interval, Script, Timelock, Timelocks};
 use tx::{Address, Credential, Input, KeyWitness, Output, Tx, TxParts};
-use value::{AssetFault, AssetQuantity, Mint, Value};
+use value::{AssetQuantity, Mint, Value};
 
-/// The timelock that asks for one of two slots.
-fn one_of_two_slots(alloc: Global) -> Result<Timelock, AllocError> {
-    let mut slots = Vec::new(alloc);
-    slots.push(Timelock::RequireTimeStart(24))?;
-    slots.push(Timelock::RequireTimeExpire(65_536))?;
-    Ok(Timelock::RequireAnyOf(Timelocks::from_vec(slots)))
+/// The script that asks for all of a signature, one of two slots, and two of nothing: each kind once.
+fn script(rt: &(impl Abort + AllocGlobal)) -> Script {
+    let mut slots = Vec::new(rt.alloc());
+    slots
+        .push(Timelock::RequireTimeStart(24))
+        .expect(rt, MEMORY);
+    slots
+        .push(Timelock::RequireTimeExpire(65_536))
+        .expect(rt, MEMORY);
+    let slots = Timelocks::from_vec(slots);
+    let none = Timelocks::from_vec(Vec::new(rt.alloc()));
+    let mut members = Vec::new(rt.alloc());
+    members
+        .push(Timelock::RequireSignature(KeyHash::of_key(&[1; 32])))
+        .expect(rt, MEMORY);
+    members
+        .push(Timelock::RequireAnyOf(slots))
+        .expect(rt, MEMORY);
+    members
+        .push(Timelock::RequireMOf(2, none))
+        .expect(rt, MEMORY);
+    let all = Timelock::RequireAllOf(Timelocks::from_vec(members));
+    Script::new(rt.alloc(), all).expect(rt, "a script")
 }
 
-/// Puts behind timelocks those that ask for a signature, for one of two slots, and for two of nothing.
-fn put_members(alloc: Global, members: &mut Vec<Timelock>) -> Result<(), AllocError> {
-    members.push(Timelock::RequireSignature(KeyHash::of_key(&[1; 32])))?;
-    members.push(one_of_two_slots(alloc)?)?;
-    let none = Timelocks::from_vec(Vec::new(alloc));
-    members.push(Timelock::RequireMOf(2, none))?;
-    Ok(())
-}
-
-/// The script that asks for all of those: each kind once.
-fn script(alloc: Global) -> Result<Script, Fail> {
-    let mut members = Vec::new(alloc);
-    put_members(alloc, &mut members)?;
-    Ok(Script::new(alloc, Timelock::RequireAllOf(Timelocks::from_vec(members)))?)
-}
-
-/// Puts behind assets so many of this name of the script's policy.
-fn put_asset<Q: Drop>(
-    alloc: Global,
-    assets: &mut Vec<AssetQuantity<Q>>,
+/// Assets of the policy: so many of one name, and so many of another.
+fn assets<Q: Drop>(
+    rt: &(impl Abort + AllocGlobal),
     policy: ScriptHash,
-    name: &[u8],
-    quantity: Q,
-) -> Result<(), AllocError> {
-    assets.push(AssetQuantity {
+    (name, quantity): (&[u8], Q),
+    (other_name, other_quantity): (&[u8], Q),
+) -> Vec<AssetQuantity<Q>> {
+    let mut assets = Vec::new(rt.alloc());
+    let one = AssetQuantity {
         policy,
-        name: Vec::from_slice(alloc, name)?,
+        name: Vec::from_slice(rt.alloc(), name).expect(rt, MEMORY),
         quantity,
-    })?;
-    Ok(())
+    };
+    assets.push(one).expect(rt, MEMORY);
+    let other = AssetQuantity {
+        policy,
+        name: Vec::from_slice(rt.alloc(), other_name).expect(rt, MEMORY),
+        quantity: other_quantity,
+    };
+    assets.push(other).expect(rt, MEMORY);
+    assets
 }
 
-/// A value with assets: 5 of the empty name and as many as can be of another.
-fn held(alloc: Global, policy: ScriptHash) -> Result<Value, AssetFault> {
-    let mut assets = Vec::new(alloc);
-    put_asset(alloc, &mut assets, policy, b"", 5u64)?;
-    put_asset(alloc, &mut assets, policy, b"token", u64::MAX)?;
-    Value::new(alloc, 23, assets)
-}
-
-/// What is minted of one name, and burned of the other.
-fn minted(alloc: Global, policy: ScriptHash) -> Result<Mint, AssetFault> {
-    let mut assets = Vec::new(alloc);
-    put_asset(alloc, &mut assets, policy, b"token", 256i64)?;
-    put_asset(alloc, &mut assets, policy, b"", -5i64)?;
-    Mint::new(alloc, assets)
-}
-
-/// An output of this value, to the key of 32 bytes 01 on network 1.
-fn output(value: Value) -> Result<Output, Fail> {
+/// Puts an output of this value behind others, to the key of 32 bytes 01 on network 1.
+fn put_output(rt: &impl Abort, outputs: &mut Vec<Output>, value: Value) {
     let key = Credential::Key(KeyHash::of_key(&[1; 32]));
-    let address = Address::new(1, key).ok_or("1 is a network")?;
-    Ok(Output { address, value })
+    let address = Address::new(1, key).expect(rt, "a network");
+    outputs.push(Output { address, value }).expect(rt, MEMORY);
 }
 
-/// Puts both outputs behind others.
-fn put_outputs(alloc: Global, outputs: &mut Vec<Output>, policy: ScriptHash) -> Result<(), Fail> {
-    outputs.push(output(Value::of_coin(alloc, 1_000_000))?)?;
-    outputs.push(output(held(alloc, policy)?)?)?;
-    Ok(())
-}
-
-/// Puts both inputs behind others.
-fn put_inputs(inputs: &mut Vec<Input>) -> Result<(), AllocError> {
+/// The parts of a transaction with a fee, a start and an end, two inputs and a signature, and nothing else.
+fn plain_parts(rt: &(impl Abort + AllocGlobal)) -> TxParts {
+    let transaction = TxId::from_bytes([7; 32]);
+    let mut inputs = Vec::new(rt.alloc());
     for index in [256u16, 1] {
-        inputs.push(Input {
-            transaction: TxId::from_bytes([7; 32]),
-            index,
-        })?;
+        inputs.push(Input { transaction, index }).expect(rt, MEMORY);
     }
-    Ok(())
-}
-
-/// The parts of a transaction with a fee, a start and an end, and nothing else.
-fn no_parts(alloc: Global) -> TxParts {
+    let mut signatures = Vec::new(rt.alloc());
+    signatures
+        .push(KeyWitness::new([1; 32], [9; 64]))
+        .expect(rt, MEMORY);
     TxParts {
-        inputs: Vec::new(alloc),
-        outputs: Vec::new(alloc),
+        inputs,
+        outputs: Vec::new(rt.alloc()),
         fee: 4_294_967_296,
         interval: Interval {
             start: Some(24),
             end: Some(256),
         },
-        mint: Mint::nothing(alloc),
-        signatures: Vec::new(alloc),
-        scripts: Vec::new(alloc),
+        mint: Mint::nothing(rt.alloc()),
+        signatures,
+        scripts: Vec::new(rt.alloc()),
     }
 }
 
-/// Puts the script, inputs, outputs, what is minted and a signature into parts.
-fn put_parts(alloc: Global, parts: &mut TxParts, script: Script) -> Result<(), Fail> {
+/// The transaction that spends two outputs of a transaction, mints and burns, and leaves two outputs, of which one has
+/// assets, 5 of the empty name and as many as can be of another; with a start and an end, a signature and the script.
+fn transaction(rt: &(impl Abort + AllocGlobal)) -> Tx {
+    let script = script(rt);
     let policy = script.hash();
-    parts.scripts.push(script)?;
-    put_inputs(&mut parts.inputs)?;
-    put_outputs(alloc, &mut parts.outputs, policy)?;
-    parts.mint = minted(alloc, policy)?;
-    parts.signatures.push(KeyWitness::new([1; 32], [9; 64]))?;
-    Ok(())
-}
-
-/// The transaction that spends two outputs of a transaction, mints and burns, and leaves two outputs, with a start and
-/// an end, a signature and the script.
-fn transaction(alloc: Global) -> Result<Tx, Fail> {
-    let script = script(alloc)?;
-    let mut parts = no_parts(alloc);
-    put_parts(alloc, &mut parts, script)?;
-    Ok(Tx::new(alloc, parts)?)
-}
-
-/// The block of that transaction, in slot 5 after a block of number 1.
-fn block_text(alloc: Global) -> Result<Vec<u8>, Fail> {
-    let tx = transaction(alloc)?;
-    let hash = BlockHash::from_bytes([8; 32]);
-    Ok(block::write(alloc, 2, 5, Some(hash), &[tx])?)
-}
-
-/// The hash of the block of a text, as text for people.
-fn shown_hash(alloc: Global, text: &[u8]) -> Result<String, Fail> {
-    let block = block::read(alloc, text)?;
-    Ok(format!(in alloc; "{}", block.hash())?)
+    let held = assets(rt, policy, (b"", 5u64), (b"token", u64::MAX));
+    let held = Value::new(rt.alloc(), 23, held).expect(rt, "a value");
+    let minted = assets(rt, policy, (b"token", 256i64), (b"", -5i64));
+    let mut parts = plain_parts(rt);
+    put_output(
+        rt,
+        &mut parts.outputs,
+        Value::of_coin(rt.alloc(), 1_000_000),
+    );
+    put_output(rt, &mut parts.outputs, held);
+    parts.mint = Mint::new(rt.alloc(), minted).expect(rt, "a mint");
+    parts.scripts.push(script).expect(rt, MEMORY);
+    Tx::new(rt.alloc(), parts).expect(rt, "a transaction")
 }
 
 /// Prints the text behind its name, as hexadecimal.
-fn print(rt: &HostRuntime, name: &str, text: &[u8]) -> Result<(), Fail> {
+fn print<R: Print>(rt: &R, name: &str, text: &[u8]) -> io::Result<()> {
     print!(rt; "{name} ")?;
     for byte in text {
         print!(rt; "{byte:02x}")?;
     }
-    println!(rt;)?;
-    Ok(())
-}
-
-/// Prints the script's text.
-fn print_script(rt: &HostRuntime) -> Result<(), Fail> {
-    let script = script(rt.alloc())?;
-    print(rt, "script", &script.encode()?)
-}
-
-/// Prints the transaction's text.
-fn print_transaction(rt: &HostRuntime) -> Result<(), Fail> {
-    let tx = transaction(rt.alloc())?;
-    print(rt, "transaction", &tx.encode()?)
+    println!(rt;)
 }
 
 // `rt try --test` prints them.
 #[test]
-fn texts_for_another_reader(rt: HostRuntime) -> Result<(), Fail> {
-    print_script(&rt)?;
-    print_transaction(&rt)?;
-    let block = block_text(rt.alloc())?;
-    print(&rt, "block", &block)?;
+fn texts_for_another_reader(rt: HostRuntime) {
+    let text = boxed(&rt, script(&rt)).encode().expect(&rt, MEMORY);
+    print(&rt, "script", &text).expect(&rt, "output");
+    let tx = boxed(&rt, transaction(&rt));
+    let text = tx.encode().expect(&rt, MEMORY);
+    print(&rt, "transaction", &text).expect(&rt, "output");
+    let mut txs = boxed(&rt, Vec::new(rt.alloc()));
+    txs.push(Box::into_inner(tx)).expect(&rt, MEMORY);
+    // In slot 5 after a block of number 1.
+    let previous = BlockHash::from_bytes([8; 32]);
+    let text = block::write(rt.alloc(), 2, 5, Some(previous), &txs).expect(&rt, "a block");
+    print(&rt, "block", &text).expect(&rt, "output");
     // As another writer of CBOR and another SHA-256 have it: it names the body's hash, so no byte differs.
-    let hash = shown_hash(rt.alloc(), &block)?;
+    let block = boxed(&rt, block::read(rt.alloc(), &text).expect(&rt, "a block"));
+    let shown = block.hash().to_string(rt.alloc()).expect(&rt, MEMORY);
     assert!(rt;
-        hash.as_str() == "7584a177b65bbba9a8136e54fe6e5e8f4edc3cb52a0e7f5ae9e03e4fd7e38c13"
+        shown.as_str() == "7584a177b65bbba9a8136e54fe6e5e8f4edc3cb52a0e7f5ae9e03e4fd7e38c13"
     );
-    Ok(())
 }

@@ -2,206 +2,165 @@
 //! found dead then. What comes of the chain alone stands in files of cases.
 
 use crate::ledgerdb_tests::{new_db, switch};
-use crate::payment_blocks::{Paid, Row, after, blocks_of, first};
-use crate::payments::same;
+use crate::networks::{MEMORY, boxed, same};
+use crate::payments::{block_of, hash_of, names_of};
 use block::CheckedBlock;
 use blockstore::BlockStore;
 use chainsel::{Choice, Selection, Switch, select};
 use ident::BlockHash;
 use ledgerdb::LedgerDb;
-use std::alloc::{AllocError, Global};
+use script::Names;
 use std::process::Abort;
-use std::test::Fail;
 use witness_pool::TestScheme;
 
-/// Blocks that may come; those that are live, the selected chain, and the states of its last blocks.
+/// The names of blocks that may come; those that are live, the selected chain, and the states of its last blocks.
 #[derive(Drop)]
 struct Chains {
-    alloc: Global,
-    blocks: Box<Vec<CheckedBlock<TestScheme>>>,
+    names: Box<Names>,
     store: BlockStore<TestScheme>,
     db: Box<LedgerDb>,
     chain: Vec<CheckedBlock<TestScheme>>,
 }
 
 /// No chain, of which the last k blocks may be rolled back, and these blocks to come.
-fn new_chains(alloc: Global, k: u64, rows: &[Row]) -> Result<Box<Chains>, Fail> {
-    let blocks = blocks_of(alloc, rows)?;
-    let db = new_db(alloc, k)?;
-    let chains = Chains {
-        alloc,
-        blocks,
-        store: BlockStore::new(alloc, 100),
+fn new_chains(rt: &(impl Abort + AllocGlobal), k: u64, blocks: &str) -> Box<Chains> {
+    boxed(
+        rt,
+        Chains {
+            names: names_of(rt, blocks),
+            store: BlockStore::new(rt.alloc(), 100),
+            db: new_db(rt, k),
+            chain: Vec::new(rt.alloc()),
+        },
+    )
+}
+
+/// What is selected when the block comes.
+fn select_with(
+    rt: &(impl Abort + AllocGlobal),
+    chains: &Chains,
+    block: &CheckedBlock<TestScheme>,
+) -> Selection<TestScheme> {
+    let Chains {
+        store,
         db,
-        chain: Vec::new(alloc),
-    };
-    Ok(Box::new(alloc, chains)?)
-}
-
-/// The block at a place among those that may come.
-fn block_at(chains: &Chains, place: usize) -> Result<&CheckedBlock<TestScheme>, Fail> {
-    Ok(chains.blocks.get(place).ok_or("a block")?)
-}
-
-/// What is selected when the block from a place comes.
-fn select_at(chains: &Chains, place: usize) -> Result<Selection<TestScheme>, Fail> {
-    let block = block_at(chains, place)?;
-    Ok(select(
-        chains.alloc,
-        &chains.store,
-        &chains.db,
-        &chains.chain,
-        block,
-    )?)
+        chain,
+        ..
+    } = chains;
+    select(rt.alloc(), store, db, chain, block).expect(rt, MEMORY)
 }
 
 /// Makes the selected chain what was selected.
-fn put_on(
-    rt: &impl Abort,
-    chains: &mut Chains,
-    selected: Switch<TestScheme>,
-) -> Result<(), AllocError> {
+fn put_on(rt: &impl Abort, chains: &mut Chains, selected: Switch<TestScheme>) {
     let back = selected.back;
     let mut blocks = selected.blocks;
     assert!(rt; switch(&mut chains.db, back, &blocks).is_none());
     let keep = chains.chain.len().saturating_sub(back);
     chains.chain.truncate(keep);
-    chains.chain.append(&mut blocks)
+    chains.chain.append(&mut blocks).expect(rt, MEMORY);
 }
 
-/// Takes the block from a place into the store, with the marks of those that are dead, and drops what can come into no
-/// chain.
-fn keep(chains: &mut Chains, place: usize, dead: &[BlockHash]) -> Result<(), Fail> {
-    let block = block_at(chains, place)?.try_clone()?;
-    chains.store.insert(block)?;
+/// Takes the block into the store, with the marks of those that are dead, and drops what can come into no chain.
+fn keep(rt: &impl Abort, chains: &mut Chains, block: CheckedBlock<TestScheme>, dead: &[BlockHash]) {
+    chains.store.insert(block).expect(rt, "room");
     for hash in dead {
         chains.store.mark_invalid(*hash);
     }
     let immutable = chains.chain.len().saturating_sub(chains.db.depth());
     chains.store.drop_up_to(immutable as u64);
-    Ok(())
 }
 
-/// What comes of the block from a place: how long the chain is then, and how many blocks are found dead.
-fn come(rt: &impl Abort, chains: &mut Chains, place: usize) -> Result<(usize, usize), Fail> {
-    let Selection { choice, invalid } = select_at(chains, place)?;
+/// The block of this name comes; then the chain has so many blocks, and so many are found dead.
+fn comes(rt: &(impl Abort + AllocGlobal), chains: &mut Chains, name: &str, length: u64, dead: u64) {
+    let block = block_of(rt, &chains.names, name);
+    let Selection { choice, invalid } = select_with(rt, chains, &block);
     if let Choice::Switch(selected) = choice {
-        put_on(rt, chains, selected)?;
+        put_on(rt, chains, selected);
     }
-    keep(chains, place, &invalid)?;
-    Ok((chains.chain.len(), invalid.len()))
+    keep(rt, chains, Box::into_inner(block), &invalid);
+    same(rt, name, chains.chain.len() as u64, length);
+    same(rt, name, invalid.len() as u64, dead);
 }
 
-/// Blocks come: the place of each, how long the chain is then, and how many are found dead.
-fn all_come(
-    rt: &impl Abort,
-    chains: &mut Chains,
-    arrivals: &[(usize, usize, usize)],
-) -> Result<(), Fail> {
-    for (place, length, dead) in arrivals {
-        assert!(rt; come(rt, chains, *place)? == (*length, *dead), "{place}");
+/// Blocks come: the name of each, how long the chain is then, and how many are found dead.
+fn all_come(rt: &(impl Abort + AllocGlobal), chains: &mut Chains, arrivals: &[(&str, u64, u64)]) {
+    for (name, length, dead) in arrivals {
+        comes(rt, chains, *name, *length, *dead);
     }
-    Ok(())
 }
 
-/// Whether the live block that came from a place is marked, None where there is none.
-fn is_marked(chains: &Chains, place: usize) -> Option<bool> {
-    let hash = chains.blocks.get(place)?.hash();
+/// Whether the live block of this name is marked, None where there is none.
+fn is_marked(rt: &(impl Abort + AllocGlobal), chains: &Chains, name: &str) -> Option<bool> {
+    let hash = hash_of(rt, &chains.names, name);
     Some(chains.store.get(hash)?.is_invalid())
 }
 
-/// The hash of the block from a place.
-fn hash_at(chains: &Chains, place: usize) -> Option<BlockHash> {
-    Some(chains.blocks.get(place)?.hash())
-}
-
-/// The hash of the chain's last block.
-fn tip(chains: &Chains) -> Option<BlockHash> {
-    Some(chains.chain.last()?.hash())
-}
-
-/// The chain ends in the block from this place, where there are so many fees.
-fn ends_in(rt: &impl Abort, chains: &Chains, place: usize, fees: u64) {
-    assert!(rt; tip(chains) == hash_at(chains, place));
+/// The chain ends in the block of this name, where there are so many fees.
+fn ends_in(rt: &(impl Abort + AllocGlobal), chains: &Chains, name: &str, fees: u64) {
+    let tip = chains.chain.last().expect(rt, "a block");
+    assert!(rt; tip.hash() == hash_of(rt, &chains.names, name));
     same(rt, "fees", chains.db.state().fees(), fees);
 }
 
-/// Over a chain of two blocks a late one connects forks of three blocks and of four.
-fn longest_path(rt: &impl Abort, chains: &mut Chains) -> Result<(), Fail> {
-    all_come(rt, chains, &[(0, 1, 0), (1, 2, 0)])?;
-    all_come(rt, chains, &[(3, 2, 0), (4, 2, 0), (5, 2, 0)])?;
-    all_come(rt, chains, &[(7, 2, 0), (8, 2, 0)])?;
-    all_come(rt, chains, &[(2, 3, 1), (6, 3, 0)])?;
-    ends_in(rt, chains, 8, 600);
-    assert!(rt; is_marked(chains, 4) == Some(true));
-    assert!(rt; is_marked(chains, 3) == Some(false));
-    Ok(())
-}
-
-// The longer fork's third block spends an output once more that its first one spends; what comes after it later is
-// judged no more.
+// Over a chain of two blocks a late one connects forks of three blocks and of four. The longer fork's third block
+// spends an output once more that its first one spends; what comes after it later is judged no more.
 #[test]
-fn bad_block_in_the_longest_path(rt: HostRuntime) -> Result<(), Fail> {
-    let rows = [
-        first(1, Paid::Nothing),
-        after(0, 2, Paid::Nothing),
-        first(3, Paid::Good),
-        after(2, 4, Paid::Nothing),
-        after(3, 5, Paid::Other),
-        after(4, 6, Paid::Nothing),
-        after(5, 7, Paid::Nothing),
-        after(2, 8, Paid::Next),
-        after(7, 9, Paid::Nothing),
+fn bad_block_in_the_longest_path(rt: HostRuntime) {
+    let blocks =
+        "block A1 genesis 1\nblock A2 A1 2\nblock B1 genesis 3 Good\nblock B2 B1 4\nblock B3 B2 5 Other\n\
+        block B4 B3 6\nblock B5 B4 7\nblock C2 B1 8 Next\nblock C3 C2 9";
+    let mut chains = new_chains(&rt, 5, blocks);
+    let arrivals = [
+        ("A1", 1, 0),
+        ("A2", 2, 0),
+        ("B2", 2, 0),
+        ("B3", 2, 0),
+        ("B4", 2, 0),
+        ("C2", 2, 0),
+        ("C3", 2, 0),
+        ("B1", 3, 1),
+        ("B5", 3, 0),
     ];
-    let mut chains = new_chains(rt.alloc(), 5, &rows)?;
-    longest_path(&rt, &mut chains)
+    all_come(&rt, &mut chains, &arrivals);
+    ends_in(&rt, &chains, "C3", 600);
+    assert!(rt; is_marked(&rt, &chains, "B3") == Some(true));
+    assert!(rt; is_marked(&rt, &chains, "B2") == Some(false));
 }
 
-/// A block comes for which another waits; it is bad, and a good one comes next.
-fn bad_one(rt: &impl Abort, chains: &mut Chains) -> Result<(), Fail> {
-    all_come(rt, chains, &[(0, 1, 0), (3, 1, 0), (2, 1, 1)])?;
-    assert!(rt; is_marked(chains, 2) == Some(true));
-    all_come(rt, chains, &[(1, 2, 0)])?;
-    ends_in(rt, chains, 1, 290);
-    Ok(())
-}
-
+// A block comes for which another waits; it is bad, and a good one comes next.
 #[test]
-fn bad_block_that_comes(rt: HostRuntime) -> Result<(), Fail> {
-    let rows = [
-        first(1, Paid::Good),
-        after(0, 2, Paid::Nothing),
-        after(0, 3, Paid::Other),
-        after(2, 4, Paid::Nothing),
-    ];
-    let mut chains = new_chains(rt.alloc(), 2, &rows)?;
-    bad_one(&rt, &mut chains)
+fn bad_block_that_comes(rt: HostRuntime) {
+    let blocks = "block A1 genesis 1 Good\nblock A2 A1 2\nblock B2 A1 3 Other\nblock B3 B2 4";
+    let mut chains = new_chains(&rt, 2, blocks);
+    all_come(
+        &rt,
+        &mut chains,
+        &[("A1", 1, 0), ("B3", 1, 0), ("B2", 1, 1)],
+    );
+    assert!(rt; is_marked(&rt, &chains, "B2") == Some(true));
+    all_come(&rt, &mut chains, &[("A2", 2, 0)]);
+    ends_in(&rt, &chains, "A2", 290);
 }
 
-/// A fork of four that leaves the chain after its first block comes too late, also when its blocks are all there; one
-/// of four that leaves it after the second block is taken.
-fn late_forks(rt: &impl Abort, chains: &mut Chains) -> Result<(), Fail> {
-    all_come(rt, chains, &[(0, 1, 0), (1, 2, 0), (2, 3, 0)])?;
-    all_come(rt, chains, &[(5, 3, 0), (4, 3, 0), (3, 3, 0), (6, 3, 0)])?;
-    ends_in(rt, chains, 2, 0);
-    all_come(rt, chains, &[(7, 4, 0)])?;
-    ends_in(rt, chains, 7, 0);
-    Ok(())
-}
-
-// Of three blocks the last one may be rolled back.
+// Of three blocks the last one may be rolled back. A fork of four that leaves the chain after its first block comes too
+// late, also when its blocks are all there; one of four that leaves it after the second block is taken.
 #[test]
-fn no_fork_behind_the_immutable_tip(rt: HostRuntime) -> Result<(), Fail> {
-    let rows = [
-        first(1, Paid::Nothing),
-        after(0, 2, Paid::Nothing),
-        after(1, 3, Paid::Nothing),
-        after(0, 4, Paid::Nothing),
-        after(3, 5, Paid::Nothing),
-        after(4, 6, Paid::Nothing),
-        after(1, 7, Paid::Nothing),
-        after(6, 8, Paid::Nothing),
+fn no_fork_behind_the_immutable_tip(rt: HostRuntime) {
+    let blocks =
+        "block A1 genesis 1\nblock A2 A1 2\nblock A3 A2 3\nblock B2 A1 4\nblock B3 B2 5\nblock B4 B3 6\n\
+        block C3 A2 7\nblock C4 C3 8";
+    let mut chains = new_chains(&rt, 1, blocks);
+    let arrivals = [
+        ("A1", 1, 0),
+        ("A2", 2, 0),
+        ("A3", 3, 0),
+        ("B4", 3, 0),
+        ("B3", 3, 0),
+        ("B2", 3, 0),
+        ("C3", 3, 0),
     ];
-    let mut chains = new_chains(rt.alloc(), 1, &rows)?;
-    late_forks(&rt, &mut chains)
+    all_come(&rt, &mut chains, &arrivals);
+    ends_in(&rt, &chains, "A3", 0);
+    all_come(&rt, &mut chains, &[("C4", 4, 0)]);
+    ends_in(&rt, &chains, "C4", 0);
 }

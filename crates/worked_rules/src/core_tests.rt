@@ -1,66 +1,26 @@
 //! Chains of blocks with payments, on a genesis of one output of 1,200 lovelace.
 
-use crate::documents::{OUTPUT, document};
-use crate::payment_blocks::text_of;
-use crate::payments::{GOOD, OTHER, Payment};
+use crate::networks::{MEMORY, OUTPUT, boxed, genesis_of, same};
+use crate::payments::{bytes_of, names_of};
 use chain_core::{ArriveReply, Core};
-use genesis::Genesis;
-use ident::BlockHash;
-use std::alloc::{AllocError, Global};
+use std::alloc::AllocError;
 use std::process::Abort;
-use std::test::Fail;
 use witness_pool::TestScheme;
 
-/// A core that nothing has come to, where one of the numbers of its genesis has this value. In a box it is dropped by a
-/// call, which keeps the proofs of the tests short.
-pub fn core_with(alloc: Global, key: &str, value: &str) -> Result<Box<Core<TestScheme>>, Fail> {
-    let text = document(alloc, key, value, &[OUTPUT])?;
-    let genesis = Genesis::from_toml(alloc, text.as_str())?;
-    Ok(Box::new(alloc, Core::new(alloc, genesis)?)?)
+/// A core that nothing has come to.
+pub fn new_core(rt: &(impl Abort + AllocGlobal)) -> Box<Core<TestScheme>> {
+    let genesis = genesis_of(rt, OUTPUT);
+    boxed(rt, Core::new(rt.alloc(), genesis).expect(rt, MEMORY))
 }
 
-/// A core that nothing has come to, with k 2.
-pub fn new_core(alloc: Global) -> Result<Box<Core<TestScheme>>, Fail> {
-    core_with(alloc, "k", "2")
-}
-
-/// A block's text, with what the next block has to know of it.
-#[derive(Drop)]
-pub struct Made {
-    pub text: Vec<u8>,
-    number: u64,
-    pub hash: BlockHash,
-}
-
-/// The hash of the block of a text.
-fn hash_of(alloc: Global, text: &[u8]) -> Result<BlockHash, Fail> {
-    Ok(block::read(alloc, text)?.hash())
-}
-
-/// Where a block goes on: its number, and the block before it.
-pub type Place = (u64, Option<BlockHash>);
-
-/// The place of a first block.
-pub fn first() -> Place {
-    (1, None)
-}
-
-/// The place after a block.
-pub fn after(made: &Made) -> Place {
-    (made.number.saturating_add(1), Some(made.hash))
-}
-
-/// The block of these payments at a place, in this slot.
-pub fn make(alloc: Global, place: Place, slot: u64, payments: &[Payment]) -> Result<Made, Fail> {
-    let (number, previous) = place;
-    let text = text_of(alloc, number, slot, previous, payments)?;
-    let hash = hash_of(alloc, &text)?;
-    Ok(Made { text, number, hash })
-}
-
-/// The answer to bytes that arrive.
-pub fn arrive_at(core: &mut Core<TestScheme>, bytes: &[u8]) -> Result<ArriveReply, AllocError> {
+/// The answer to bytes that arrive. It promises nothing, which keeps the proofs of the tests short.
+fn try_arrive(core: &mut Core<TestScheme>, bytes: &[u8]) -> Result<ArriveReply, AllocError> {
     core.arrive(bytes)
+}
+
+/// The same where there is memory.
+pub fn arrive(rt: &impl Abort, core: &mut Core<TestScheme>, bytes: &[u8]) -> ArriveReply {
+    try_arrive(core, bytes).expect(rt, MEMORY)
 }
 
 /// What is told of a block that is kept.
@@ -68,35 +28,20 @@ pub fn kept(back: u64, added: u64) -> ArriveReply {
     ArriveReply::Kept { back, added }
 }
 
-/// The number of the tip, how many outputs are unspent with how much lovelace, and the fees.
-pub fn seen(core: &Core<TestScheme>) -> Result<(u64, usize, u128, u64), AllocError> {
-    let utxo = core.utxo();
-    Ok((core.tip().number, utxo.len(), utxo.coin()?, core.fees()))
-}
-
-/// The core answers the block so.
-fn answers(
-    rt: &impl Abort,
-    core: &mut Core<TestScheme>,
-    made: &Made,
-    want: ArriveReply,
-) -> Result<(), AllocError> {
-    let reply = arrive_at(core, &made.text)?;
-    assert!(rt; reply == want);
-    Ok(())
-}
-
 /// The core's tip has this number, and one output is unspent, of this lovelace, beside these fees.
-pub fn is_seen(
-    rt: &impl Abort,
-    core: &Core<TestScheme>,
-    tip: u64,
-    coin: u128,
-    fees: u64,
-) -> Result<(), AllocError> {
-    let found = seen(core)?;
-    assert!(rt; found == (tip, 1, coin, fees));
-    Ok(())
+pub fn is_seen(rt: &impl Abort, core: &Core<TestScheme>, tip: u64, coin: u64, fees: u64) {
+    let utxo = core.utxo();
+    let found = utxo.coin().expect(rt, MEMORY);
+    assert!(rt; found == u128::from(coin));
+    same(rt, "tip", core.tip().number, tip);
+    same(rt, "outputs", utxo.len() as u64, 1);
+    same(rt, "fees", core.fees(), fees);
+}
+
+/// The core answers the bytes so.
+fn answers(rt: &impl Abort, core: &mut Core<TestScheme>, bytes: &[u8], want: ArriveReply) {
+    let reply = arrive(rt, core, bytes);
+    assert!(rt; reply == want);
 }
 
 /// A first block, one of another chain, and one that goes on there arrive, the last once more where memory ran out.
@@ -104,35 +49,32 @@ pub fn is_seen(
 fn switch_at_last(
     rt: &impl Abort,
     core: &mut Core<TestScheme>,
-    blocks: &[Made],
-) -> Result<(), AllocError> {
-    let [first, other, last] = blocks else {
-        return Err(AllocError);
-    };
-    answers(rt, core, first, kept(0, 1))?;
-    answers(rt, core, other, kept(0, 0))?;
-    if answers(rt, core, last, kept(1, 2)).is_err() {
-        is_seen(rt, core, 1, 910, 290)?;
-        answers(rt, core, last, kept(1, 2))?;
+    first: &[u8],
+    other: &[u8],
+    last: &[u8],
+) {
+    answers(rt, core, first, kept(0, 1));
+    answers(rt, core, other, kept(0, 0));
+    match try_arrive(core, last) {
+        Ok(reply) => assert!(rt; reply == kept(1, 2)),
+        Err(_) => {
+            is_seen(rt, core, 1, 910, 290);
+            answers(rt, core, last, kept(1, 2));
+        }
     }
-    is_seen(rt, core, 2, 900, 300)
-}
-
-/// Puts those blocks behind others.
-fn put_three(alloc: Global, blocks: &mut Vec<Made>) -> Result<(), Fail> {
-    blocks.push(make(alloc, first(), 1, &[GOOD])?)?;
-    let other = make(alloc, first(), 2, &[OTHER])?;
-    let place = after(&other);
-    blocks.push(other)?;
-    blocks.push(make(alloc, place, 3, &[])?)?;
-    Ok(())
+    is_seen(rt, core, 2, 900, 300);
 }
 
 // Under `rt try --test --fail-alloc N` the refused arrival says so and changes nothing, and then succeeds.
 #[test]
-fn switched_again_after_want_of_memory(rt: HostRuntime) -> Result<(), Fail> {
-    let mut blocks = Vec::new(rt.alloc());
-    put_three(rt.alloc(), &mut blocks)?;
-    let mut core = new_core(rt.alloc())?;
-    Ok(switch_at_last(&rt, &mut core, &blocks)?)
+fn switched_again_after_want_of_memory(rt: HostRuntime) {
+    let names = names_of(
+        &rt,
+        "block A1 genesis 1 Good\nblock B1 genesis 2 Other\nblock B2 B1 3",
+    );
+    let first = bytes_of(&rt, &names, "A1");
+    let other = bytes_of(&rt, &names, "B1");
+    let last = bytes_of(&rt, &names, "B2");
+    let mut core = new_core(&rt);
+    switch_at_last(&rt, &mut core, first, other, last);
 }

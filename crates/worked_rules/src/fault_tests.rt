@@ -1,10 +1,8 @@
 //! Documents of many outputs, and the numbers and names of the faults.
 
-use crate::documents::{document, fault_of, many_outputs};
-use genesis::GenesisFault;
-use std::alloc::{AllocError, Global};
+use crate::networks::{MEMORY, NUMBERS};
+use genesis::{Genesis, GenesisFault};
 use std::process::Abort;
-use std::test::Fail;
 
 /// The faults with their numbers and names.
 const FAULTS: &[(GenesisFault, Option<u8>, &str)] = &[
@@ -17,43 +15,33 @@ const FAULTS: &[(GenesisFault, Option<u8>, &str)] = &[
     (GenesisFault::OutOfMemory, None, "OutOfMemory"),
 ];
 
-/// The text of the fault is this name.
-fn is_named(
-    rt: &impl Abort,
-    alloc: Global,
-    fault: GenesisFault,
-    name: &str,
-) -> Result<(), AllocError> {
-    let text = fault.to_string(alloc)?;
-    assert!(rt; text.as_str() == name);
-    Ok(())
-}
-
 #[test]
-fn numbers_and_names(rt: HostRuntime) -> Result<(), Fail> {
+fn numbers_and_names(rt: HostRuntime) {
     for (fault, number, name) in FAULTS {
         assert!(rt; fault.number() == *number, "{name}");
-        is_named(&rt, rt.alloc(), *fault, *name)?;
+        let text = fault.to_string(rt.alloc()).expect(&rt, MEMORY);
+        assert!(rt; text.as_str() == *name, "{name}");
     }
-    Ok(())
 }
 
-/// Outputs to the key of 32 bytes 01 and a coin of 1, and of 0.
-const ONE: &str =
-    "{ key = \"0101010101010101010101010101010101010101010101010101010101010101\", coin = 1 }";
-
-const ZERO: &str =
-    "{ key = \"0101010101010101010101010101010101010101010101010101010101010101\", coin = 0 }";
-
-/// So many outputs that are alike, and the fault.
+/// So many outputs that are alike, to the key of 32 bytes 01 in the first two rows and those of a coin of 0, and the
+/// fault. Of too many outputs with another fault each that one is told.
 const COUNTS: &[(u32, &str, Option<GenesisFault>)] = &[
-    (10_000, ONE, None),
-    (10_001, ONE, Some(GenesisFault::BadOutputs)),
-];
-
-/// Too many outputs, each with another fault, which is told.
-const FAULTY: &[(u32, &str, Option<GenesisFault>)] = &[
-    (10_001, ZERO, Some(GenesisFault::BadCoin)),
+    (
+        10_000,
+        "{ key = \"0101010101010101010101010101010101010101010101010101010101010101\", coin = 1 }",
+        None,
+    ),
+    (
+        10_001,
+        "{ key = \"0101010101010101010101010101010101010101010101010101010101010101\", coin = 1 }",
+        Some(GenesisFault::BadOutputs),
+    ),
+    (
+        10_001,
+        "{ key = \"0101010101010101010101010101010101010101010101010101010101010101\", coin = 0 }",
+        Some(GenesisFault::BadCoin),
+    ),
     (
         10_001,
         "{ key = \"01\", coin = 1 }",
@@ -63,36 +51,23 @@ const FAULTY: &[(u32, &str, Option<GenesisFault>)] = &[
     (10_001, "{ key }", Some(GenesisFault::NotToml)),
 ];
 
-/// The fault of a document of so many outputs.
-fn told_of_many(
-    alloc: Global,
-    count: u32,
-    output: &str,
-) -> Result<Option<GenesisFault>, AllocError> {
-    let outputs = many_outputs(alloc, output, count)?;
-    let text = document(alloc, "", "", &[outputs.as_str()])?;
-    Ok(fault_of(alloc, text.as_str()))
+/// The document of so many outputs that are alike.
+fn document_of(rt: &(impl Abort + AllocGlobal), count: u32, output: &str) -> String {
+    let mut text = NUMBERS.to_string(rt.alloc()).expect(rt, MEMORY);
+    text.push_str("output = [").expect(rt, MEMORY);
+    for _ in 0..count {
+        text.push_str(output).expect(rt, MEMORY);
+        text.push_str(",\n").expect(rt, MEMORY);
+    }
+    text.push_str("]\n").expect(rt, MEMORY);
+    text
 }
 
-/// The faults of the documents are those that are wanted.
-fn judge(
-    rt: &impl Abort,
-    alloc: Global,
-    rows: &[(u32, &str, Option<GenesisFault>)],
-) -> Result<(), AllocError> {
-    for (count, output, want) in rows {
-        let told = told_of_many(alloc, *count, *output)?;
+#[test]
+fn counts(rt: HostRuntime) {
+    for (count, output, want) in COUNTS {
+        let text = document_of(&rt, *count, *output);
+        let told = Genesis::from_toml(rt.alloc(), text.as_str()).err();
         assert!(rt; told == *want, "{output}");
     }
-    Ok(())
-}
-
-#[test]
-fn counts(rt: HostRuntime) -> Result<(), Fail> {
-    Ok(judge(&rt, rt.alloc(), COUNTS)?)
-}
-
-#[test]
-fn counts_beside_another_fault(rt: HostRuntime) -> Result<(), Fail> {
-    Ok(judge(&rt, rt.alloc(), FAULTY)?)
 }

@@ -1,20 +1,18 @@
 //! A ledger database on a genesis of one output of 1,200 lovelace.
 
 use crate::ledger_tests::opening;
-use crate::payment_blocks::{Paid, after, blocks_of, first};
-use crate::payments::same;
+use crate::networks::{MEMORY, boxed, same};
+use crate::payments::{blocks_of, names_of};
 use block::CheckedBlock;
 use ledger::BlockFault;
 use ledgerdb::{ForkFault, LedgerDb};
-use std::alloc::{AllocError, Global};
+use script::Names;
 use std::process::Abort;
-use std::test::Fail;
 use witness_pool::TestScheme;
 
 /// A database of the chain without a block.
-pub fn new_db(alloc: Global, k: u64) -> Result<Box<LedgerDb>, Fail> {
-    let opening = opening(alloc)?;
-    Ok(Box::new(alloc, LedgerDb::new(alloc, opening, k))?)
+pub fn new_db(rt: &(impl Abort + AllocGlobal), k: u64) -> Box<LedgerDb> {
+    boxed(rt, LedgerDb::new(rt.alloc(), opening(rt), k))
 }
 
 /// What a fork that rolls so many blocks back is refused for, or None where it is put on.
@@ -35,128 +33,125 @@ pub fn switch(
     }
 }
 
-/// The slot and the fees of the state so many blocks ago, of which there is one.
-fn seen(db: &LedgerDb, back: usize) -> Result<(u64, u64), AllocError> {
-    if back > db.depth() {
-        return Err(AllocError);
-    }
-    let state = db.state_at(back)?;
-    Ok((state.slot(), state.fees()))
+/// The state so many blocks ago has this slot and these fees.
+fn is_seen(rt: &(impl Abort + AllocGlobal), db: &LedgerDb, back: usize, slot: u64, fees: u64) {
+    assert!(rt; back <= db.depth());
+    let state = boxed(rt, db.state_at(back).expect(rt, MEMORY));
+    same(rt, "slot", state.slot(), slot);
+    same(rt, "fees", state.fees(), fees);
 }
 
 /// The slot and the fees of the newest state and of those before it are these, and there are no more.
-fn judge(rt: &impl Abort, db: &LedgerDb, want: &[(u64, u64)]) -> Result<(), AllocError> {
-    same(
-        rt,
-        "states",
-        db.depth() as u64,
-        want.len().saturating_sub(1) as u64,
-    );
-    for (back, one) in want.iter().enumerate() {
-        assert!(rt; seen(db, back)? == *one);
+fn judge(rt: &(impl Abort + AllocGlobal), db: &LedgerDb, want: &[(u64, u64)]) {
+    let before = want.len().saturating_sub(1);
+    same(rt, "states", db.depth() as u64, before as u64);
+    for (back, (slot, fees)) in want.iter().enumerate() {
+        is_seen(rt, db, back, *slot, *fees);
     }
     let newest = db.state();
-    assert!(rt; seen(db, 0)? == (newest.slot(), newest.fees()));
-    Ok(())
+    is_seen(rt, db, 0, newest.slot(), newest.fees());
 }
 
-/// The fork is put on, and then the states are these.
+/// The fork of these blocks is put on, and then the states are these.
 fn puts_on(
-    rt: &impl Abort,
+    rt: &(impl Abort + AllocGlobal),
+    names: &Names,
     db: &mut LedgerDb,
     back: usize,
-    blocks: &[CheckedBlock<TestScheme>],
+    blocks: &[&str],
     want: &[(u64, u64)],
-) -> Result<(), AllocError> {
-    assert!(rt; switch(db, back, blocks).is_none());
-    judge(rt, db, want)
+) {
+    let blocks = blocks_of(rt, names, blocks);
+    assert!(rt; switch(db, back, &blocks).is_none());
+    judge(rt, db, want);
 }
 
 #[test]
-fn a_new_database_has_the_anchor(rt: HostRuntime) -> Result<(), Fail> {
+fn a_new_database_has_the_anchor(rt: HostRuntime) {
     for k in [0, 1, 2160, u64::MAX] {
-        let db = new_db(rt.alloc(), k)?;
-        judge(&rt, &db, &[(0, 0)])?;
+        let db = new_db(&rt, k);
+        judge(&rt, &db, &[(0, 0)]);
     }
-    Ok(())
 }
 
-/// Two blocks are put on, then two others in the place of the second, and these are rolled back again with nothing in
-/// their place.
-fn forks(
-    rt: &impl Abort,
-    db: &mut LedgerDb,
-    blocks: &[CheckedBlock<TestScheme>],
-) -> Result<(), AllocError> {
-    assert!(rt; blocks.len() == 4);
-    puts_on(rt, db, 0, &blocks[..2], &[(2, 290), (1, 290), (0, 0)])?;
-    puts_on(rt, db, 1, &blocks[2..], &[(4, 600), (3, 600), (1, 290)])?;
-    puts_on(rt, db, 2, &[], &[(1, 290)])
-}
-
-// The second of two blocks is left for two others; k is 2, so that the anchor moves on to the first one's state.
+// Two blocks are put on, then two others in the place of the second, and these are rolled back again with nothing in
+// their place. k is 2, so that the anchor moves on to the first one's state.
 #[test]
-fn fork_of_two_blocks(rt: HostRuntime) -> Result<(), Fail> {
-    let rows = [
-        first(1, Paid::Good),
-        after(0, 2, Paid::Nothing),
-        after(0, 3, Paid::Next),
-        after(2, 4, Paid::Nothing),
-    ];
-    let blocks = blocks_of(rt.alloc(), &rows)?;
-    let mut db = new_db(rt.alloc(), 2)?;
-    Ok(forks(&rt, &mut db, &blocks)?)
+fn fork_of_two_blocks(rt: HostRuntime) {
+    let names = names_of(
+        &rt,
+        "block A1 genesis 1 Good\nblock A2 A1 2\nblock B2 A1 3 Next\nblock B3 B2 4",
+    );
+    let mut db = new_db(&rt, 2);
+    puts_on(
+        &rt,
+        &names,
+        &mut db,
+        0,
+        &["A1", "A2"],
+        &[(2, 290), (1, 290), (0, 0)],
+    );
+    puts_on(
+        &rt,
+        &names,
+        &mut db,
+        1,
+        &["B2", "B3"],
+        &[(4, 600), (3, 600), (1, 290)],
+    );
+    puts_on(&rt, &names, &mut db, 2, &[], &[(1, 290)]);
 }
 
-/// Two blocks are refused for the second one, two others too, and the last block for its payment.
-fn refuses(
-    rt: &impl Abort,
+/// What the fork of these blocks is refused for. The database stays as it was, with the anchor alone.
+fn refusal(
+    rt: &(impl Abort + AllocGlobal),
+    names: &Names,
     db: &mut LedgerDb,
-    blocks: &[CheckedBlock<TestScheme>],
-) -> Result<(), AllocError> {
-    assert!(rt; blocks.len() == 5);
-    let early = switch(db, 0, &blocks[..2]);
+    blocks: &[&str],
+) -> Option<ForkFault> {
+    let blocks = blocks_of(rt, names, blocks);
+    let fault = switch(db, 0, &blocks);
+    judge(rt, db, &[(0, 0)]);
+    fault
+}
+
+// The second block of the fork doesn't follow the first, or the only one holds a payment that is too late.
+#[test]
+fn bad_block_is_told_at_its_place(rt: HostRuntime) {
+    let names = names_of(
+        &rt,
+        "block A1 genesis 1\nblock A2 A1 1\nblock B1 genesis 1\nblock C1 genesis 2\nblock D1 genesis 7 Expiring",
+    );
+    let mut db = new_db(&rt, 5);
+    let early = refusal(&rt, &names, &mut db, &["A1", "A2"]);
     assert!(rt;
         matches!(
             early,
             Some(ForkFault::Refused(1, BlockFault::SlotNotRising))
         )
     );
-    judge(rt, db, &[(0, 0)])?;
-    let again = switch(db, 0, &blocks[2..4]);
+    let again = refusal(&rt, &names, &mut db, &["B1", "C1"]);
     assert!(rt; matches!(again, Some(ForkFault::Refused(1, BlockFault::WrongNumber))));
-    judge(rt, db, &[(0, 0)])?;
-    let late = switch(db, 0, &blocks[4..]);
+    let late = refusal(&rt, &names, &mut db, &["D1"]);
     assert!(rt; matches!(late, Some(ForkFault::Refused(0, BlockFault::TxFault(0, _)))));
-    judge(rt, db, &[(0, 0)])
-}
-
-// The second block of the fork doesn't follow the first, or holds a payment that is too late; the database stays.
-#[test]
-fn bad_block_is_told_at_its_place(rt: HostRuntime) -> Result<(), Fail> {
-    let rows = [
-        first(1, Paid::Nothing),
-        after(0, 1, Paid::Nothing),
-        first(1, Paid::Nothing),
-        first(2, Paid::Nothing),
-        first(7, Paid::Expiring),
-    ];
-    let blocks = blocks_of(rt.alloc(), &rows)?;
-    let mut db = new_db(rt.alloc(), 5)?;
-    Ok(refuses(&rt, &mut db, &blocks)?)
 }
 
 // Where k is 0 there is only the anchor, and where it is 1 there is one state after it.
 #[test]
-fn older_states_are_dropped(rt: HostRuntime) -> Result<(), Fail> {
-    let rows = [
-        first(1, Paid::Good),
-        after(0, 2, Paid::Next),
-        after(1, 3, Paid::Nothing),
-    ];
-    let blocks = blocks_of(rt.alloc(), &rows)?;
-    let mut none = new_db(rt.alloc(), 0)?;
-    puts_on(&rt, &mut none, 0, &blocks, &[(3, 600)])?;
-    let mut one = new_db(rt.alloc(), 1)?;
-    Ok(puts_on(&rt, &mut one, 0, &blocks, &[(3, 600), (2, 600)])?)
+fn older_states_are_dropped(rt: HostRuntime) {
+    let names = names_of(
+        &rt,
+        "block A1 genesis 1 Good\nblock A2 A1 2 Next\nblock A3 A2 3",
+    );
+    let mut none = new_db(&rt, 0);
+    puts_on(&rt, &names, &mut none, 0, &["A1", "A2", "A3"], &[(3, 600)]);
+    let mut one = new_db(&rt, 1);
+    puts_on(
+        &rt,
+        &names,
+        &mut one,
+        0,
+        &["A1", "A2", "A3"],
+        &[(3, 600), (2, 600)],
+    );
 }

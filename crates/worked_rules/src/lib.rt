@@ -8,8 +8,6 @@ mod chainsel_tests;
 #[cfg(test)]
 mod core_tests;
 #[cfg(test)]
-mod documents;
-#[cfg(test)]
 mod fault_tests;
 #[cfg(test)]
 mod genesis_tests;
@@ -20,7 +18,7 @@ mod ledgerdb_tests;
 #[cfg(test)]
 mod mempool_tests;
 #[cfg(test)]
-mod payment_blocks;
+mod networks;
 #[cfg(test)]
 mod payments;
 #[cfg(test)]

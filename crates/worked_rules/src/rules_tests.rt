@@ -1,12 +1,13 @@
 //! Payments that are judged where an output stands in the place of their own, or beside want of memory.
 
-use crate::payments::{
-    GOOD, MINTING, Payment, Signed, checked_payment, coin_at, first_of, genesis, opening,
-    put_unspent, same,
-};
-use std::alloc::{AllocError, Global};
+use crate::networks::{MEMORY, same};
+use crate::payments::{names_of, obey, payment_of};
+use crate::unspent_tests::{coin_at, no_outputs, put_unspent};
+use ident::TxId;
+use script::Names;
+use std::alloc::Global;
 use std::process::Abort;
-use std::test::Fail;
+use tx::Input;
 use utxo_rules::{CheckFault, Params, Utxo, apply, check};
 use witness_pool::{CheckedTx, TestScheme};
 
@@ -29,56 +30,47 @@ fn told(alloc: Global, params: &Params, utxo: &Utxo, tx: &CheckedTx<TestScheme>)
     }
 }
 
-/// The payment with its verdicts, in a box for the same reason as the UTXO.
-fn boxed_payment(alloc: Global, payment: &Payment) -> Result<Box<CheckedTx<TestScheme>>, Fail> {
-    let tx = checked_payment(alloc, payment)?;
-    Ok(Box::new(alloc, tx)?)
+/// The output of this index of the genesis.
+fn genesis(index: u16) -> Input {
+    Input {
+        transaction: TxId::from_bytes([0; 32]),
+        index,
+    }
 }
 
-/// What is told of a payment where an output of 10 lovelace stands where its own would.
-fn told_where_taken(alloc: Global, payment: &Payment) -> Result<u64, Fail> {
-    let tx = boxed_payment(alloc, payment)?;
-    let mut utxo = opening(alloc, 1, 1200)?;
-    put_unspent(alloc, &mut utxo, &first_of(&tx), 10)?;
-    Ok(told(alloc, &PARAMS, &utxo, &tx))
+/// The UTXO of so many outputs of the genesis, each of this lovelace.
+fn opening(rt: &(impl Abort + AllocGlobal), count: u16, coin: u64) -> Box<Utxo> {
+    let mut utxo = no_outputs(rt);
+    for index in 0..count {
+        put_unspent(rt, &mut utxo, &genesis(index), coin);
+    }
+    utxo
 }
 
-/// A payment of a lovelace less.
-const UNBALANCED: Payment = Payment { coin: 909, ..GOOD };
+/// The place of a transaction's first output.
+fn first_of(tx: &CheckedTx<TestScheme>) -> Input {
+    Input {
+        transaction: tx.tx().id(),
+        index: 0,
+    }
+}
 
-/// A payment with a signature of zeros.
-const BADLY_SIGNED: Payment = Payment {
-    signed: Signed::Badly,
-    ..GOOD
-};
+/// This is told of a payment where an output of 10 lovelace stands where its own would.
+fn is_told_where_taken(rt: &(impl Abort + AllocGlobal), names: &Names, payment: &str, want: u64) {
+    let tx = payment_of(rt, names, payment);
+    let mut utxo = opening(rt, 1, 1200);
+    put_unspent(rt, &mut utxo, &first_of(&tx), 10);
+    same(rt, payment, told(rt.alloc(), &PARAMS, &utxo, &tx), want);
+}
 
 // Alone, behind the reason before it, and before the one behind it.
 #[test]
-fn places_that_are_taken(rt: HostRuntime) -> Result<(), Fail> {
-    same(&rt, "good", told_where_taken(rt.alloc(), &GOOD)?, 9);
-    same(
-        &rt,
-        "unbalanced",
-        told_where_taken(rt.alloc(), &UNBALANCED)?,
-        8,
-    );
-    same(
-        &rt,
-        "badly signed",
-        told_where_taken(rt.alloc(), &BADLY_SIGNED)?,
-        9,
-    );
-    Ok(())
+fn places_that_are_taken(rt: HostRuntime) {
+    let names = names_of(&rt, "");
+    for (payment, want) in [("Good", 9), ("Unbalanced", 8), ("BadlySigned", 9)] {
+        is_told_where_taken(&rt, &names, payment, want);
+    }
 }
-
-/// A thousand outputs are spent, and nobody signs.
-const GATHERING: Payment = Payment {
-    inputs: 1000,
-    coin: 9000,
-    fee: 1000,
-    signed: Signed::NotAtAll,
-    ..GOOD
-};
 
 /// Nothing is paid for a byte here, so that the fee is no matter.
 const FREE: Params = Params {
@@ -87,35 +79,32 @@ const FREE: Params = Params {
     ..PARAMS
 };
 
-/// The transaction is judged, put into effect whatever is told, and judged once more.
-fn gather(
-    rt: &impl Abort,
-    alloc: Global,
-    utxo: &mut Utxo,
-    tx: &CheckedTx<TestScheme>,
-) -> Result<(), Fail> {
-    same(rt, "told", told(alloc, &FREE, utxo, tx), 11);
-    apply(utxo, tx.tx())?;
-    same(rt, "told again", told(alloc, &FREE, utxo, tx), 5);
-    same(rt, "outputs", utxo.len() as u64, 1);
-    same(rt, "its own", coin_at(utxo, &first_of(tx)), 9000);
-    assert!(rt; utxo.coin()? == 9000);
-    Ok(())
-}
-
-#[test]
-fn a_thousand_inputs(rt: HostRuntime) -> Result<(), Fail> {
-    let tx = boxed_payment(rt.alloc(), &GATHERING)?;
-    let mut utxo = opening(rt.alloc(), 1000, 10)?;
-    gather(&rt, rt.alloc(), &mut utxo, &tx)
-}
-
-/// What is told, once more where memory ran out.
-fn told_at_last(alloc: Global, utxo: &Utxo, tx: &CheckedTx<TestScheme>) -> u64 {
-    match told(alloc, &PARAMS, utxo, tx) {
-        15 => told(alloc, &PARAMS, utxo, tx),
-        told => told,
+/// Names the payment by which a thousand outputs are spent, and which nobody signs.
+fn name_gathering(rt: &(impl Abort + AllocGlobal), names: &mut Names) {
+    obey(rt, names, "tx Gathering");
+    for index in 0..1000u16 {
+        let line = format!(in rt.alloc(); "in genesis {index}").expect(rt, MEMORY);
+        obey(rt, names, line.as_str());
     }
+    for line in ["out key K 9000", "fee 1000", "end"] {
+        obey(rt, names, line);
+    }
+}
+
+// The transaction is judged, put into effect whatever is told, and judged once more.
+#[test]
+fn a_thousand_inputs(rt: HostRuntime) {
+    let mut names = names_of(&rt, "");
+    name_gathering(&rt, &mut names);
+    let tx = payment_of(&rt, &names, "Gathering");
+    let mut utxo = opening(&rt, 1000, 10);
+    same(&rt, "told", told(rt.alloc(), &FREE, &utxo, &tx), 11);
+    apply(&mut utxo, tx.tx()).expect(&rt, MEMORY);
+    same(&rt, "told again", told(rt.alloc(), &FREE, &utxo, &tx), 5);
+    same(&rt, "outputs", utxo.len() as u64, 1);
+    same(&rt, "its own", coin_at(&utxo, &first_of(&tx)), 9000);
+    let coin = utxo.coin().expect(&rt, MEMORY);
+    assert!(rt; coin == 9000);
 }
 
 /// The UTXO has the output of the genesis and no other.
@@ -125,26 +114,26 @@ fn is_opening(rt: &impl Abort, utxo: &Utxo) {
 }
 
 /// Puts the transaction into effect, once more where memory ran out. Nothing had changed before it worked.
-fn apply_at_last(
-    rt: &impl Abort,
-    utxo: &mut Utxo,
-    tx: &CheckedTx<TestScheme>,
-) -> Result<(), AllocError> {
+fn apply_at_last(rt: &impl Abort, utxo: &mut Utxo, tx: &CheckedTx<TestScheme>) {
     is_opening(rt, utxo);
     if apply(utxo, tx.tx()).is_err() {
         is_opening(rt, utxo);
-        apply(utxo, tx.tx())?;
+        apply(utxo, tx.tx()).expect(rt, MEMORY);
     }
     same(rt, "outputs after", utxo.len() as u64, 1);
     same(rt, "its own", coin_at(utxo, &first_of(tx)), 800);
-    Ok(())
 }
 
 // Under `rt try --test --fail-alloc N` the refused call says so and changes nothing, and then succeeds.
 #[test]
-fn judged_again_after_want_of_memory(rt: HostRuntime) -> Result<(), Fail> {
-    let tx = boxed_payment(rt.alloc(), &MINTING)?;
-    let mut utxo = opening(rt.alloc(), 1, 1200)?;
-    same(&rt, "told", told_at_last(rt.alloc(), &utxo, &tx), 0);
-    Ok(apply_at_last(&rt, &mut utxo, &tx)?)
+fn judged_again_after_want_of_memory(rt: HostRuntime) {
+    let names = names_of(&rt, "");
+    let tx = payment_of(&rt, &names, "Minting");
+    let mut utxo = opening(&rt, 1, 1200);
+    let mut number = told(rt.alloc(), &PARAMS, &utxo, &tx);
+    if number == 15 {
+        number = told(rt.alloc(), &PARAMS, &utxo, &tx);
+    }
+    same(&rt, "told", number, 0);
+    apply_at_last(&rt, &mut utxo, &tx);
 }

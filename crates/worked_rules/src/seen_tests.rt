@@ -1,12 +1,13 @@
 //! Blocks that arrive in bytes at one core, and seen at another: the same replies and the same chain.
 
-use crate::core_tests::{Made, after, arrive_at, first, is_seen, kept, make, new_core, seen};
-use crate::payments::{GOOD, OTHER};
+use crate::core_tests::{arrive, is_seen, kept, new_core};
+use crate::networks::MEMORY;
+use crate::payments::{bytes_of, names_of};
 use block::Seen;
 use chain_core::{ArriveReply, Core, Refusal};
+use script::Names;
 use std::alloc::{AllocError, Global};
 use std::process::Abort;
-use std::test::Fail;
 use witness_pool::TestScheme;
 
 /// The answer to the bytes once they are seen.
@@ -15,128 +16,92 @@ fn arrive_seen(
     core: &mut Core<TestScheme>,
     bytes: &[u8],
 ) -> Result<ArriveReply, AllocError> {
-    let seen = Seen::read(alloc, Vec::from_slice(alloc, bytes)?)?;
-    core.arrive_seen(seen)
+    let bytes = Vec::from_slice(alloc, bytes)?;
+    core.arrive_seen(Seen::read(alloc, bytes)?)
 }
 
-/// The answers of a core that gets bytes.
-fn told_bytes(
-    alloc: Global,
-    core: &mut Core<TestScheme>,
-    texts: &[&[u8]],
-) -> Result<Vec<ArriveReply>, AllocError> {
-    let mut replies = Vec::new(alloc);
-    for text in texts {
-        replies.push(arrive_at(core, text)?)?;
-    }
-    Ok(replies)
-}
+/// Bytes that arrive, by the name of their block and what comes behind them, and what is answered.
+type Row = (&'static str, &'static [u8], ArriveReply);
 
-/// The answers of a core that gets them seen.
-fn told_seen(
-    alloc: Global,
-    core: &mut Core<TestScheme>,
-    texts: &[&[u8]],
-) -> Result<Vec<ArriveReply>, AllocError> {
-    let mut replies = Vec::new(alloc);
-    for text in texts {
-        replies.push(arrive_seen(alloc, core, text)?)?;
-    }
-    Ok(replies)
-}
-
-/// Whether two cores answer so, of which one gets the bytes and the other gets them seen, and have the same chain then,
-/// whose tip has this number.
+/// Both cores answer the bytes so, of which one gets them and the other gets them seen.
 fn both_tell(
-    alloc: Global,
+    rt: &(impl Abort + AllocGlobal),
     by_bytes: &mut Core<TestScheme>,
     by_seen: &mut Core<TestScheme>,
-    texts: &[&[u8]],
-    want: &[ArriveReply],
-    number: u64,
-) -> Result<bool, AllocError> {
-    let first = told_bytes(alloc, by_bytes, texts)?;
-    let second = told_seen(alloc, by_seen, texts)?;
-    let same_end = by_bytes.tip() == by_seen.tip() && seen(by_bytes)? == seen(by_seen)?;
-    let same_replies = first.as_slice() == want && second.as_slice() == want;
-    Ok(same_end && same_replies && by_seen.tip().number == number)
+    bytes: &[u8],
+    want: ArriveReply,
+) {
+    let first = arrive(rt, by_bytes, bytes);
+    assert!(rt; first == want);
+    let second = arrive_seen(rt.alloc(), by_seen, bytes).expect(rt, MEMORY);
+    assert!(rt; second == want);
 }
 
-/// Whether two new cores do.
+/// Two new cores answer so, and have the same chain then, whose tip has this number, beside this lovelace and fees.
 fn are_told(
-    alloc: Global,
-    texts: &[&[u8]],
-    want: &[ArriveReply],
+    rt: &(impl Abort + AllocGlobal),
+    names: &Names,
+    rows: &[Row],
     number: u64,
-) -> Result<bool, Fail> {
-    let mut by_bytes = new_core(alloc)?;
-    let mut by_seen = new_core(alloc)?;
-    Ok(both_tell(alloc, &mut by_bytes, &mut by_seen, texts, want, number)?)
+    coin: u64,
+    fees: u64,
+) {
+    let mut by_bytes = new_core(rt);
+    let mut by_seen = new_core(rt);
+    for (name, tail, want) in rows {
+        let mut bytes = Vec::from_slice(rt.alloc(), bytes_of(rt, names, *name)).expect(rt, MEMORY);
+        bytes.extend_from_slice(*tail).expect(rt, MEMORY);
+        both_tell(rt, &mut by_bytes, &mut by_seen, &bytes, *want);
+    }
+    assert!(rt; by_bytes.tip() == by_seen.tip());
+    is_seen(rt, &by_bytes, number, coin, fees);
+    is_seen(rt, &by_seen, number, coin, fees);
 }
 
-/// What is told of bytes that are refused.
-fn refused(refusal: Refusal) -> ArriveReply {
-    ArriveReply::Refused(refusal)
-}
+/// What arrives of the chain of three, and of the one block before it.
+const LATE: &[Row] = &[
+    ("A1", b"", ArriveReply::Kept { back: 0, added: 1 }),
+    ("B3", b"", ArriveReply::Kept { back: 0, added: 0 }),
+    ("B1", b"", ArriveReply::Kept { back: 0, added: 0 }),
+    ("B2", b"", ArriveReply::Kept { back: 1, added: 3 }),
+    ("B1", b"", ArriveReply::Refused(Refusal::TooOld)),
+    ("B2", b"", ArriveReply::Refused(Refusal::Known)),
+];
 
 // The chain of three grows over the one block before it when its second block comes; its first is then immutable.
 #[test]
-fn late_predecessor_and_a_switch(rt: HostRuntime) -> Result<(), Fail> {
-    let alloc = rt.alloc();
-    let a1 = make(alloc, first(), 1, &[GOOD])?;
-    let b1 = make(alloc, first(), 2, &[OTHER])?;
-    let b2 = make(alloc, after(&b1), 3, &[])?;
-    let b3 = make(alloc, after(&b2), 4, &[])?;
-    let texts: [&[u8]; 6] = [&a1.text, &b3.text, &b1.text, &b2.text, &b1.text, &b2.text];
-    let want = [
-        kept(0, 1),
-        kept(0, 0),
-        kept(0, 0),
-        kept(1, 3),
-        refused(Refusal::TooOld),
-        refused(Refusal::Known),
-    ];
-    assert!(rt; are_told(alloc, &texts, &want, 3)?);
-    Ok(())
+fn late_predecessor_and_a_switch(rt: HostRuntime) {
+    let names = names_of(
+        &rt,
+        "block A1 genesis 1 Good\nblock B1 genesis 2 Other\nblock B2 B1 3\nblock B3 B2 4",
+    );
+    are_told(&rt, &names, LATE, 3, 900, 300);
 }
 
-/// The block's text with one more byte behind it.
-fn longer(alloc: Global, made: &Made) -> Result<Vec<u8>, AllocError> {
-    let mut text = Vec::from_slice(alloc, &made.text)?;
-    text.push(0)?;
-    Ok(text)
-}
+/// A block, and before and after it its text with one more byte behind it.
+const LONGER: &[Row] = &[
+    ("A1", b"\0", ArriveReply::Refused(Refusal::Malformed)),
+    ("A1", b"", ArriveReply::Kept { back: 0, added: 1 }),
+    ("A1", b"\0", ArriveReply::Refused(Refusal::Malformed)),
+];
 
 #[test]
-fn bytes_that_are_no_block(rt: HostRuntime) -> Result<(), Fail> {
-    let alloc = rt.alloc();
-    let a1 = make(alloc, first(), 1, &[GOOD])?;
-    let longer = longer(alloc, &a1)?;
-    let texts: [&[u8]; 3] = [&longer, &a1.text, &longer];
-    let malformed = refused(Refusal::Malformed);
-    assert!(rt; are_told(alloc, &texts, &[malformed, kept(0, 1), malformed], 1)?);
-    Ok(())
-}
-
-/// The bytes arrive seen, once more where memory ran out. Nothing had changed before that worked.
-fn arrive_seen_at_last(
-    rt: &impl Abort,
-    alloc: Global,
-    core: &mut Core<TestScheme>,
-    bytes: &[u8],
-) -> Result<(), AllocError> {
-    if arrive_seen(alloc, core, bytes).is_err() {
-        is_seen(rt, core, 0, 1200, 0)?;
-        let reply = arrive_seen(alloc, core, bytes)?;
-        assert!(rt; reply == kept(0, 1));
-    }
-    is_seen(rt, core, 1, 910, 290)
+fn bytes_that_are_no_block(rt: HostRuntime) {
+    let names = names_of(&rt, "block A1 genesis 1 Good");
+    are_told(&rt, &names, LONGER, 1, 910, 290);
 }
 
 // Under `rt try --test --fail-alloc N` the refused arrival says so and changes nothing, and then succeeds.
 #[test]
-fn seen_again_after_want_of_memory(rt: HostRuntime) -> Result<(), Fail> {
-    let a1 = make(rt.alloc(), first(), 1, &[GOOD])?;
-    let mut core = new_core(rt.alloc())?;
-    Ok(arrive_seen_at_last(&rt, rt.alloc(), &mut core, &a1.text)?)
+fn seen_again_after_want_of_memory(rt: HostRuntime) {
+    let names = names_of(&rt, "block A1 genesis 1 Good");
+    let bytes = bytes_of(&rt, &names, "A1");
+    let mut core = new_core(&rt);
+    let mut reply = arrive_seen(rt.alloc(), &mut core, bytes);
+    if reply.is_err() {
+        is_seen(&rt, &core, 0, 1200, 0);
+        reply = arrive_seen(rt.alloc(), &mut core, bytes);
+    }
+    assert!(rt; reply == Ok(kept(0, 1)));
+    is_seen(&rt, &core, 1, 910, 290);
 }

@@ -7,8 +7,8 @@ use Rattle.witness_pool.specs.contracts.test_scheme.TestSchemeSigScheme.TheImpl 
 use Rattle.shared.proofs.ForCallers.{Shared-sync, Caller-send}
 use Rattle.bench.proofs.heights.run.Goals as goal
 
-pub join-watched-requires-send-F : goal.join-watched-requires-send-F
-join-watched-requires-send-F g s k w =
+pub join-requires-send-F : goal.join-requires-send-F
+join-requires-send-F g s k w =
     let rt = s.type_bounds.sync-R in
     let shared = Shared-sync TestScheme.the_row scheme.ghosts (param 0 g.row.B) g.B.Room in
     let caller = Caller-send (param 0 g.row.B) g.B.Room in

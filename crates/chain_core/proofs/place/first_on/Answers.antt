@@ -1,4 +1,4 @@
-use Rattle.std.proofs.Common.{◌≡◌, Some, None, true, false, refl, sym, ◌∙◌, rules}
+use Rattle.std.proofs.Common.{Some, None, rules}
 use Rattle.model.specs.Follower.{IsOn}
 use Rattle.ident.specs.PointView.{point_of}
 use Rattle.chain_core.proofs.Points.{first_here, first_later, first_nowhere}

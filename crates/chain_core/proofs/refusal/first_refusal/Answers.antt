@@ -25,23 +25,26 @@ returns-in-Some g c = λ network s b whole has read at.
     (λ same. let e : false ≡ true = c.if-has_text.ensures.1 (ap block_text c.block.ensures ∙ (same ∙ text)) in cc) in
     judged_clash network c.args.chain_db.now s whole has b young other.0 (inl other.1)
 
-pub returns-then-has_clash : goal.returns-then-has_clash
-returns-then-has_clash g c = λ network s b whole has read at.
+pub returns-then-clashes_with_chain : goal.returns-then-clashes_with_chain
+returns-then-clashes_with_chain g c = λ network s b whole has read at.
     let young : immutable_length network.genesis c.args.chain_db.now.chain.items < b.header.number = let number = at.0 in let young = c.if-point-immutable.false in let is = c.immutable.ensures.immutable network whole in omega arith in
     let none = none_at c.args.chain_db.now.store b c.args.point.hash.bytes (c.get.ensures.one b (read_again b c.args.bytes.now read)) c.in_default.ensures.found at.1 in
-    let clash = clash_in s b c.args.point.hash.bytes c.args.bytes.now c.deref.result.now (c.deref.ensures.value ∙ has.chain) read at.1 in
-    judged_clash network c.args.chain_db.now s whole has b young none.0 (inr (clash.0 (c.if-has_clash.ensures.0 refl)))
+    let clash = clash_in s b c.args.point.hash.bytes c.args.bytes.now c.args.chain_db.now.chain.items has.chain read at.1 in
+    let found = c.if-clashes_with_chain.ensures network whole c.in_default.ensures.found in
+    judged_clash network c.args.chain_db.now s whole has b young none.0 (inr (clash.0 (found.0 refl)))
 
 pub returns-then-is_full : goal.returns-then-is_full
 returns-then-is_full g c = λ network s b whole has read at.
     let young : immutable_length network.genesis c.args.chain_db.now.chain.items < b.header.number = let number = at.0 in let young = c.if-point-immutable.false in let is = c.immutable.ensures.immutable network whole in omega arith in
     let none = none_at c.args.chain_db.now.store b c.args.point.hash.bytes (c.get.ensures.one b (read_again b c.args.bytes.now read)) c.in_default.ensures.found at.1 in
-    let clash = clash_in s b c.args.point.hash.bytes c.args.bytes.now c.deref.result.now (c.deref.ensures.value ∙ has.chain) read at.1 in
-    judged_full network c.args.chain_db.now s whole has b young none.0 none.1 (λ is. let e : false ≡ true = c.if-has_clash.ensures.1 (clash.1 is) in cc) (c.if-is_full.ensures.0 refl)
+    let clash = clash_in s b c.args.point.hash.bytes c.args.bytes.now c.args.chain_db.now.chain.items has.chain read at.1 in
+    let found = c.if-clashes_with_chain.ensures network whole c.in_default.ensures.found in
+    judged_full network c.args.chain_db.now s whole has b young none.0 none.1 (λ is. let e : false ≡ true = found.1 (clash.1 is) in cc) (c.if-is_full.ensures.0 refl)
 
 pub returns : goal.returns
 returns g c = λ network s b whole has read at.
     let young : immutable_length network.genesis c.args.chain_db.now.chain.items < b.header.number = let number = at.0 in let young = c.if-point-immutable.false in let is = c.immutable.ensures.immutable network whole in omega arith in
     let none = none_at c.args.chain_db.now.store b c.args.point.hash.bytes (c.get.ensures.one b (read_again b c.args.bytes.now read)) c.in_default.ensures.found at.1 in
-    let clash = clash_in s b c.args.point.hash.bytes c.args.bytes.now c.deref.result.now (c.deref.ensures.value ∙ has.chain) read at.1 in
-    judged_none network c.args.chain_db.now s whole has b young none.0 none.1 (λ is. let e : false ≡ true = c.if-has_clash.ensures.1 (clash.1 is) in cc) (λ full. let e : false ≡ true = c.if-is_full.ensures.1 full in cc)
+    let clash = clash_in s b c.args.point.hash.bytes c.args.bytes.now c.args.chain_db.now.chain.items has.chain read at.1 in
+    let found = c.if-clashes_with_chain.ensures network whole c.in_default.ensures.found in
+    judged_none network c.args.chain_db.now s whole has b young none.0 none.1 (λ is. let e : false ≡ true = found.1 (clash.1 is) in cc) (λ full. let e : false ≡ true = c.if-is_full.ensures.1 full in cc)

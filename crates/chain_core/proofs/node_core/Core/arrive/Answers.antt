@@ -7,6 +7,7 @@ use Rattle.followers.specs.Places.{moved_places}
 use Rattle.chain_core.specs.ChainDbs.{HasState}
 use Rattle.chain_core.specs.Views.{refusal_of}
 use Rattle.chain_core.proofs.Arrivals.{at_rest, rests, is_ready, IsJudgedAt, refused_arrival, none_applies, kept_arrival}
+use Rattle.chain_core.proofs.Adding.{whole_same}
 use Rattle.chain_core.proofs.Results.{on_err}
 use Rattle.chain_core.proofs.node_core.Core.arrive.Goals as goal
 
@@ -38,3 +39,9 @@ returns-in_err-block-clause-memory g c =
 pub returns-in_err-change-clause-memory : goal.returns-in_err-change-clause-memory
 returns-in_err-change-clause-memory g c =
     on_err c.from_residual-in_err-change.result _ (λ b spells empty. none_applies c.self.inside.genesis c.self.inside.chain_db c.self.inside.followers c.args.self.now c.args.bytes.now c.in-Ok.found c.self.view_is c.in-Ok.ensures.ok (λ s has. c.in_default.ensures (network_of c.self.inside.genesis g.S.SigScheme.verifies) s c.in-Ok.found c.self.invariant.whole has c.bytes.ensures (c.point.ensures.number, c.point.ensures.hash)))
+
+pub invariant_of-self : goal.invariant_of-self
+invariant_of-self g c = record {
+  whole = whole_same (network_of c.self.inside.genesis g.S.SigScheme.verifies) c.self.inside.chain_db c.add.new.self c.in_err-change.ensures.chain c.in_err-change.ensures.store c.in_err-change.ensures.db c.in_err-change.ensures.mempool
+      c.add.ensures.past c.self.invariant.whole;
+}

@@ -1,9 +1,8 @@
-use Rattle.std.proofs.Common.{◌≡◌, None, Option, true, false, map, refl, subst, rules}
+use Rattle.std.proofs.Common.{◌≡◌, None, true, false, map, refl, subst, rules}
 use Rattle.blockstore.specs.Stored.{blocks_of}
 use Rattle.ledgerdb.proofs.ForCallers.{database_valid}
 use Rattle.model.specs.Ledger.{network_of}
 use Rattle.ident.specs.PointView.{point_of}
-use Rattle.ident.specs.declared.point.Point.{Point}
 use Rattle.chain_core.specs.Held.{Held, Stands}
 use Rattle.chain_core.proofs.FollowerCalls.{one_open, none_open, forward_unknown, forwarded_to, forwarded_nowhere}
 use Rattle.chain_core.proofs.node_core.Core.forward.Goals as goal

@@ -1,13 +1,13 @@
 use Rattle.std.proofs.Common.{ℕ, List, subst}
 use Rattle.std.specs.Prelude.{OnErr}
-use Rattle.std.proofs.lemmas.Result.{IfOk-weaker}
+use Rattle.std.proofs.lemmas.Result.{IfOk-weaker, on_err_weaker}
 use Rattle.model.specs.Genesis.{Genesis}
 use Rattle.model.specs.Transaction.{SpellsTransaction}
-use Rattle.model.specs.Mempool.{IsInPool}
 use Rattle.model.specs.Ledger.{network_of}
 use Rattle.mempool.specs.View.{reply_of}
 use Rattle.chain_core.specs.Held.{Held}
 use Rattle.chain_core.specs.ChainDbs.{IsWhole, IsTaken}
+use Rattle.chain_core.specs.Pools.{IsWantOf}
 use Rattle.chain_core.proofs.Arrivals.{submitted}
 use Rattle.chain_core.proofs.node_core.Core.submit_checked.Goals as goal
 
@@ -25,4 +25,8 @@ returns-clause-step g c = λ bytes spelled.
     c.submit_checked.ensures.chain c.submit_checked.ensures.store c.submit_checked.ensures.err
 
 pub returns-clause-memory : goal.returns-clause-memory
-returns-clause-memory g c = subst (λ (h : Held). OnErr c.submit_checked.result (IsInPool h.mempool c.args.tx → ⊥)) c.self.view_is c.submit_checked.ensures.memory
+returns-clause-memory g c =
+    let verifies = g.S.SigScheme.verifies in
+    let genesis = c.self.inside.genesis in
+    subst (λ (h : Held). OnErr c.submit_checked.result ((bytes : List ℕ) → SpellsTransaction c.args.tx bytes → IsWantOf (network_of h.genesis verifies) h.chain h.mempool bytes)) c.self.view_is
+    (on_err_weaker c.submit_checked.result (λ want. want genesis c.self.invariant.whole) c.submit_checked.ensures.memory)

@@ -1,39 +1,28 @@
-use Rattle.std.proofs.Common.{map, Contains, arith, ap, ◌∙◌, subst, refl}
-use Rattle.model.specs.Transaction.{transaction_id_of}
-use Rattle.model.specs.Mempool.{Added, IsInPool}
+use Rattle.std.proofs.Common.{ℕ, List, subst}
+use Rattle.std.proofs.lemmas.Result.{IfOk-weaker}
+use Rattle.model.specs.Transaction.{Transaction, SpellsTransaction}
+use Rattle.model.specs.Rules.{Params}
 use Rattle.utxo_rules.specs.View.{params_of}
-use Rattle.mempool.specs.Pool.{Waiting, Pool}
-use Rattle.mempool.specs.Calls.{with_tx, IsSubmission}
-use Rattle.mempool.proofs.Submissions.{known, added, is_new, on_err}
+use Rattle.mempool.specs.Calls.{IsSubmissionOf, IsNew, IsWantFor}
+use Rattle.mempool.specs.View.{reply_of}
+use Rattle.mempool.proofs.Submissions.{new_wants, on_err}
 use Rattle.mempool.proofs.mempool.Mempool.submit_checked.Goals as goal
 
-pub returns-then-has-clause-ok : goal.returns-then-has-clause-ok
-returns-then-has-clause-ok g c = λ bytes spells.
-    known g.S.SigScheme.verifies (params_of c.args.params.now) c.args.slot c.args.self.now c.args.tx bytes spells c.id.result.bytes (c.id.ensures.is ∙ ap transaction_id_of c.tx-2.ensures)
-    (subst (λ (p : Pool). Contains (map transaction_id_of p.waiting.txs) c.id.result.bytes) c.self.view_is (c.has.ensures.0 c.if-has.true))
-
-pub returns-in_err-new-clause-memory : goal.returns-in_err-new-clause-memory
-returns-in_err-new-clause-memory g c =
-    on_err (IsInPool c.args.self.now.waiting.txs c.args.tx → ⊥)
-    (is_new (record { capacity = c.self.inside.capacity; waiting = c.self.inside.waiting }) c.args.self.now c.args.tx c.id.result.bytes c.has.result c.self.view_is (c.id.ensures.is ∙ ap transaction_id_of c.tx-2.ensures) c.has.ensures.1 c.if-has.false)
-    c.from_residual.result
-
-pub returns-in_err-push-clause-memory : goal.returns-in_err-push-clause-memory
-returns-in_err-push-clause-memory g c =
-    on_err (IsInPool c.args.self.now.waiting.txs c.args.tx → ⊥)
-    (is_new (record { capacity = c.self.inside.capacity; waiting = c.self.inside.waiting }) c.args.self.now c.args.tx c.id.result.bytes c.has.result c.self.view_is (c.id.ensures.is ∙ ap transaction_id_of c.tx-2.ensures) c.has.ensures.1 c.if-has.false)
-    c.from_residual-in_err-push.result
+pub returns-in-Some-clause-ok : goal.returns-in-Some-clause-ok
+returns-in-Some-clause-ok g c =
+    subst (λ (t : Transaction). IsSubmissionOf g.S.SigScheme.verifies (params_of c.args.params.now) c.args.slot c.args.self.now t (reply_of c.in-Some.reply) c.args.self.now) c.tx-2.ensures c.in-Some.ensures
 
 pub returns-clause-ok : goal.returns-clause-ok
-returns-clause-ok g c = λ bytes spells.
+returns-clause-ok g c =
     let v = g.S.SigScheme.verifies in
     let params = params_of c.args.params.now in
-    let inside : Pool = record { capacity = c.self.inside.capacity; waiting = c.self.inside.waiting } in
-    let new : Pool = record { capacity = c.self.inside.capacity; waiting = c.push.new.self } in
-    let full = c.if-len-self.false in
-    let count = c.len.ensures in
-    subst (λ (p : Pool). IsSubmission v params c.args.slot p bytes Added new) c.self.view_is
-    (added v params c.args.slot inside c.args.tx bytes spells new
-    (is_new inside inside c.args.tx c.id.result.bytes c.has.result refl (c.id.ensures.is ∙ ap transaction_id_of c.tx-2.ensures) c.has.ensures.1 c.if-has.false)
-    c.in-Ok.ensures.accepted (omega (arith, full, count))
-    (ap (λ (w : Waiting). record { capacity = c.self.inside.capacity; waiting = w }) (c.in_ok-push.ensures.ok ∙ ap (with_tx c.self.inside.waiting) c.in_ok-new.ensures.ok)))
+    let new = subst (IsNew v params c.args.slot c.args.self.now) c.tx-2.ensures c.in_default.ensures in
+    IfOk-weaker c.late_answer.result (λ reply. (params : Params) (slot : ℕ) → IsNew v params slot c.args.self.now c.args.tx → IsSubmissionOf v params slot c.args.self.now c.args.tx (reply_of reply) c.late_answer.new.self)
+    (λ reply. IsSubmissionOf v params c.args.slot c.args.self.now c.args.tx (reply_of reply) c.late_answer.new.self) (λ reply p. p params c.args.slot new) c.late_answer.ensures.ok
+
+pub returns-clause-memory : goal.returns-clause-memory
+returns-clause-memory g c =
+    let v = g.S.SigScheme.verifies in
+    let params = params_of c.args.params.now in
+    let new = subst (IsNew v params c.args.slot c.args.self.now) c.tx-2.ensures c.in_default.ensures in
+    on_err ((bytes : List ℕ) → SpellsTransaction c.args.tx bytes → IsWantFor v params c.args.slot c.args.self.now bytes) (new_wants v params c.args.slot c.args.self.now c.args.tx new) c.late_answer.result

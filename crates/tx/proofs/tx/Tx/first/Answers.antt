@@ -1,8 +1,7 @@
-use Rattle.std.proofs.Common.{◌≡◌, Some, arith, rules, refl, ◌∙◌, sym}
+use Rattle.std.proofs.Common.{◌≡◌, Some, arith, rules, refl, ◌∙◌}
 use Rattle.cbor.specs.Reading.{null_at}
 use Rattle.cbor.specs.Shapes.{members_at}
 use Rattle.tx.specs.Body.{body_item, transaction_with}
-use Rattle.tx.specs.BodyReading.{body_at}
 use Rattle.tx.specs.BodyView.{body_of}
 use Rattle.tx.specs.WitnessesView.{witnesses_of}
 use Rattle.model.specs.Cbor.{text_of}
@@ -16,7 +15,7 @@ overflow_sub-members c =
     let members = c.in_ok-members.members.now in
     let body = body_of c.in_ok-body.body in
     let fits = members_are_bytes c.args.bytes.now members (λ i. omega (arith, c.type_inv.bytes i)) m in
-    (front_text members (text_of (body_item body)) c.in_ok-body.after_body.now (body_front members body c.in_ok-body.after_body.now fits c.in_ok-body.ensures)).2
+    (front_text members (text_of (body_item body)) c.in_ok-body.after_body.now (body_front members body c.in_ok-body.after_body.now fits c.in_ok-body.ensures.exact)).2
 
 pub overflow_sub-tx : goal.overflow_sub-tx
 overflow_sub-tx c =
@@ -25,7 +24,7 @@ overflow_sub-tx c =
     let body = body_of c.in_ok-body.body in
     let w = witnesses_of c.in_ok-witnesses.witnesses in
     let t = transaction_with body w.0 w.1 in
-    let e = transaction_opened c.args.depth c.args.bytes.now c.in_ok-members.members.now body c.in_ok-body.after_body.now w c.in_ok-witnesses.after_witnesses.now c.in_ok-rest.rest.now m c.in_ok-body.ensures c.in_ok-witnesses.ensures n in
+    let e = transaction_opened c.args.depth c.args.bytes.now c.in_ok-members.members.now body c.in_ok-body.after_body.now w c.in_ok-witnesses.after_witnesses.now c.in_ok-rest.rest.now m c.in_ok-body.ensures.exact c.in_ok-witnesses.ensures.exact n in
     (front_text c.args.bytes.now (text_of (item_of_transaction t)) c.in_ok-rest.rest.now (transaction_front c.args.depth c.requires c.args.bytes.now t c.in_ok-rest.rest.now (λ i. omega (arith, c.type_inv.bytes i)) e)).2
 
 pub invariant_of-tx : goal.invariant_of-tx
@@ -37,7 +36,7 @@ invariant_of-tx c =
     let w = witnesses_of c.in_ok-witnesses.witnesses in
     let t = transaction_with body w.0 w.1 in
     let fits = members_are_bytes c.args.bytes.now members (λ i. omega (arith, c.type_inv.bytes i)) m in
-    let front = (front_text members (text_of (body_item body)) c.in_ok-body.after_body.now (body_front members body c.in_ok-body.after_body.now fits c.in_ok-body.ensures)).1 in
-    let e = transaction_opened c.args.depth c.args.bytes.now members body c.in_ok-body.after_body.now w c.in_ok-witnesses.after_witnesses.now c.in_ok-rest.rest.now m c.in_ok-body.ensures c.in_ok-witnesses.ensures n in
+    let front = (front_text members (text_of (body_item body)) c.in_ok-body.after_body.now (body_front members body c.in_ok-body.after_body.now fits c.in_ok-body.ensures.exact)).1 in
+    let e = transaction_opened c.args.depth c.args.bytes.now members body c.in_ok-body.after_body.now w c.in_ok-witnesses.after_witnesses.now c.in_ok-rest.rest.now m c.in_ok-body.ensures.exact c.in_ok-witnesses.ensures.exact n in
     let kept = read_is_kept c.args.depth c.requires c.args.bytes.now t c.in_ok-rest.rest.now (λ i. omega (arith, c.type_inv.bytes i)) e c.split_at.result.0.now c.of_body.result.bytes _ (c.split_at.ensures.front ∙ front) c.of_body.ensures refl in
     record { is_transaction = kept.is_transaction; has_text = kept.has_text; id = kept.id; size = kept.size }
