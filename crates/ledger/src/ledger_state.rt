@@ -1,10 +1,13 @@
 //! The state that blocks are applied to.
 
-ghost use Rattle.std.specs.Prelude.{◌≡◌, ◌+◌, ◌<◌, [], replicate, unwrap_or, IfOk};
+ghost use Rattle.std.specs.Prelude.{◌≡◌, ◌+◌, ◌<◌, List, [], replicate, unwrap_or, IfOk};
+ghost use Rattle.std.specs.List.{AllByRecursion};
 ghost use Rattle.model.specs.Limits.{number_limit};
 ghost use Rattle.model.specs.Signature.{Verifies};
 ghost use Rattle.model.specs.Utxo.{outputs_of, coin_of};
-ghost use Rattle.model.specs.Ledger.{network_of};
+ghost use Rattle.model.specs.Genesis.{supply_of};
+ghost use Rattle.model.specs.Block.{Block, IsBlock};
+ghost use Rattle.model.specs.Ledger.{Network, network_of};
 ghost use Rattle.model.specs.Applying.{opening_state, IsStateOf};
 ghost use Rattle.utxo_rules.specs.View.{params_of};
 
@@ -79,6 +82,10 @@ impl LedgerState {
     pub fn fees(&self) -> u64
         ensures fees { result ≡ self.now.ledger.fees }
         ensures small { coin_of (outputs_of self.now.ledger.utxo) + self.now.ledger.fees < number_limit }
+        // With what the unspent outputs hold they are what the genesis of the chain granted.
+        ensures supply { (network : Network) (chain : List Block) → AllByRecursion IsBlock chain
+            → IsStateOf network chain self.now
+            → coin_of (outputs_of self.now.ledger.utxo) + result ≡ supply_of network.genesis }
     {
         self.fees
     }

@@ -1,9 +1,12 @@
 -- Transactions at their identifiers.
-use Rattle.std.proofs.Common.{◌≡◌, ℕ, Bool, true, false, cond, List, [], ◌∷◌, ◌++◌, map, Option, Some, None, Contains, refl, sym, ap, subst, ◌∙◌, is_some, nat_eq, inl, inr, arith, true≢false}
+use Rattle.std.proofs.Common.{◌≡◌, ℕ, ◌+◌, Bool, true, false, cond, List, [], ◌∷◌, ◌++◌, map, Option, Some, None, Contains, refl, sym, ap, subst, ◌∙◌, is_some, nat_eq, inl, inr, arith, true≢false}
 use Rattle.std.specs.Bool.{Decides}
 use Rattle.std.specs.Cmp.Lexicographic.{pointwise}
+use Rattle.std.specs.List.{sum}
 use Rattle.std.specs.Map.{lookup, keys_of, values_of}
 use Rattle.std.proofs.lemmas.Slice.Eq.{bytes_eq-Decides}
+use Rattle.std.proofs.lemmas.List.{map-append}
+use Rattle.std.proofs.lemmas.List.Sums.{sum_by_push}
 use Rattle.std.proofs.lemmas.List.Elements.{Contains-get_or, Contains-append_right, Contains-append_cases, Contains-push_cases}
 use Rattle.std.specs.Arc.{arc_value}
 use Rattle.std.specs.declared.alloc.Global.{Global}
@@ -11,7 +14,7 @@ use Rattle.std.specs.declared.sync.Arc.{Arc}
 use Rattle.indexmap.specs.IndexMap.{insert_entry}
 use Rattle.indexmap.proofs.CallerLemmas.{insert_entry-new}
 use Rattle.ident.specs.Kinds.{TxId}
-use Rattle.model.specs.Transaction.{Transaction, transaction_id_of}
+use Rattle.model.specs.Transaction.{Transaction, transaction_id_of, size_of}
 use Rattle.mempool.specs.Pool.{Waiting}
 use Rattle.mempool.specs.HeldPool.{waiting_of, IsHeldWaiting}
 use Rattle.mempool.specs.declared.waiting.Waiting.TheInside.{Inside}
@@ -100,3 +103,12 @@ module _ {S : Type 0} (w : Inside S) (now : Waiting) (id : TxId) (view : waiting
 
     pub pushed_ids : ids_in es ≡ map transaction_id_of (map arc_value (values_of es))
     pushed_ids = ap ids_in last ∙ ids_last w.txs.entries held.ids ∙ sym (ap (λ xs. map transaction_id_of (map arc_value (values_of xs))) last)
+
+    -- the bytes of the texts, with those of one more
+    pub pushed_bytes : (size more : ℕ) → size ≡ size_of (arc_value tx) → more ≡ w.bytes + size → more ≡ sum (map size_of (map arc_value (values_of es)))
+    pushed_bytes size more is added =
+        let all = map size_of (map arc_value (values_of w.txs.entries)) in
+        let split : map size_of (map arc_value (values_of es)) ≡ all ++ size_of (arc_value tx) ∷ [] =
+        ap (λ xs. map size_of (map arc_value (values_of xs))) last ∙ ap (map size_of) (values_last w.txs.entries) ∙ map-append size_of (map arc_value (values_of w.txs.entries)) (arc_value tx ∷ []) in
+        let counted : sum (all ++ size_of (arc_value tx) ∷ []) ≡ sum all + size_of (arc_value tx) = sum_by_push (λ x. x) all (size_of (arc_value tx)) in
+        added ∙ ap (λ (n : ℕ). n + size) held.bytes ∙ ap (λ (n : ℕ). sum all + n) is ∙ sym (ap sum split ∙ counted)

@@ -1,6 +1,6 @@
 -- What the calls of the mempool promise.
-use Rattle.std.specs.Prelude.{◌≡◌, ℕ, ◌<◌, ◌≤◌, ◌^◌, List, ◌++◌, [], ◌∷◌, is_some, if◌then◌else◌}
-use Rattle.model.specs.Transaction.{Transaction, SpellsTransaction, size_of}
+use Rattle.std.specs.Prelude.{◌≡◌, ℕ, ◌<◌, List, ◌++◌, [], ◌∷◌, is_some, if◌then◌else◌}
+use Rattle.model.specs.Transaction.{Transaction, SpellsTransaction}
 use Rattle.model.specs.Signature.{Verifies}
 use Rattle.model.specs.Utxo.{Utxo, utxo_after}
 use Rattle.model.specs.Rules.{Params, reason_number, reason_against}
@@ -43,7 +43,6 @@ IsSubmissionOf verifies params slot old t reply new = (bytes : List ℕ) → Spe
 pub record IsNew (verifies : Verifies) (params : Params) (slot : ℕ) (pool : Pool) (t : Transaction) : Type 0 where
   pub unknown : IsInPool pool.waiting.txs t → ⊥
   pub early : PassesEarly verifies params pool.waiting.unspent slot t
-  pub small : size_of t ≤ 2 ^ 32
 
 -- what is known of a transaction before memory is asked for: that it waits, or one of the reasons 1 to 7
 abbrev pub IsEarly : SubmitReply → Type 0

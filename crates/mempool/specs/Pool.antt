@@ -6,7 +6,7 @@ use Rattle.model.specs.Transaction.{Transaction}
 use Rattle.model.specs.Utxo.{Utxo}
 use Rattle.model.specs.Codes.{coded_transaction, coded_input, coded_output}
 
--- transactions in order, and what they leave unspent
+-- transactions in order, and the outputs on which the next one is judged
 pub record Waiting : Type 0 where
   pub txs : List Transaction
   pub unspent : Utxo

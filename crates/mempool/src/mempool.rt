@@ -1,6 +1,6 @@
 //! The mempool.
 
-ghost use Rattle.std.specs.Prelude.{◌≡◌, ◌↔◌, ◌≤◌, ◌^◌, ℕ, List, [], length, map, IsTrue, IfOk, OnOk, OnErr};
+ghost use Rattle.std.specs.Prelude.{◌≡◌, ◌↔◌, ℕ, List, [], length, map, sum, IsTrue, IfOk, OnOk, OnErr};
 ghost use Rattle.std.specs.Prelude.{MatchOption};
 ghost use Rattle.std.specs.List.{AllByRecursion};
 ghost use Rattle.std.specs.Arc.{arc_value};
@@ -27,8 +27,11 @@ use tx::Tx;
 use utxo_rules::{CheckFault, Params, Utxo};
 use witness_pool::{CheckedTx, SigScheme, plain};
 
-/// Transactions that wait to come into a block, in the order in which they came: each has no reason against it on what
-/// those before it leave. In contracts it is their list, with what they leave unspent and how many there may be.
+/// Transactions that wait to come into a block, in the order in which they came. In contracts it is their list, the
+/// outputs on which the next one is judged, and how many may wait. No two of them have one identifier. The type knows no
+/// chain: that there is no reason against each of them on what those before it leave of the chain's outputs, and that
+/// the outputs here are what all of them leave, is kept by the crate `chain_core`, which submits at the slot after the
+/// tip's, and puts in what stays on each chain that is selected.
 #[derive(Drop)]
 pub struct Mempool<S: SigScheme> {
     alloc: Global,
@@ -83,6 +86,13 @@ impl<S: SigScheme> Mempool<S> {
         ensures { result ≡ length self.now.waiting.txs }
     {
         self.waiting.len()
+    }
+
+    /// How many bytes the texts of the transactions that wait have together, in constant time.
+    pub fn bytes(&self) -> u64
+        ensures { result ≡ sum (map size_of self.now.waiting.txs) }
+    {
+        self.waiting.bytes()
     }
 
     /// Whether no transaction waits, in constant time.
@@ -160,8 +170,7 @@ impl<S: SigScheme> Mempool<S> {
 
     /// What is answered to a transaction that is new, and against which there is none of the reasons 1 to 7.
     fn late_answer(&mut self, tx: CheckedTx<S>) -> Result<SubmitReply, AllocError>
-        requires unknown { IsInPool self.old.waiting.txs tx → ⊥ }
-        requires small { size_of tx ≤ 2 ^ 32 }
+        requires { IsInPool self.old.waiting.txs tx → ⊥ }
         ensures ok { IfOk result (λ reply. (params : model.Params) (slot : ℕ) →
             IsNew S.verifies params slot self.old tx →
             IsSubmissionOf S.verifies params slot self.old tx (reply_of reply) self.new) }
@@ -215,7 +224,7 @@ impl<S: SigScheme> Mempool<S> {
         ensures ok { IfOk result (λ reply.
             IsSubmission S.verifies (params_of params.now) slot self.old bytes.now (reply_of reply) self.new) }
         ensures err { OnErr result (self.new ≡ self.old) }
-        // Memory is asked for while the parts of a transaction are read, and then only where the answer isn't known.
+        // Where the bytes are the text of a transaction without parts, no memory is asked for.
         ensures memory { OnErr result ((t : Transaction) → SpellsTransaction t bytes.now → IsBare t → ⊥) }
     {
         let tx = match Tx::decode(self.alloc, bytes) {

@@ -1,6 +1,6 @@
 //! Transactions that wait, in the order in which they came.
 
-ghost use Rattle.std.specs.Prelude.{◌≡◌, ◌↔◌, ◌≤◌, ◌^◌, ℕ, [], length, map, Contains, IsTrue, IfOk, OnOk, OnErr, IfErr};
+ghost use Rattle.std.specs.Prelude.{◌≡◌, ◌↔◌, ℕ, [], length, map, sum, Contains, IsTrue, IfOk, OnOk, OnErr, IfErr};
 ghost use Rattle.std.specs.Prelude.{Some, None};
 ghost use Rattle.std.specs.Arc.{arc_value};
 ghost use Rattle.model.specs.Transaction.{transaction_id_of, size_of};
@@ -22,11 +22,14 @@ use tx::Tx;
 use utxo_rules::{CheckFault, Params, Reason, Utxo, apply, check, check_early, check_late};
 use witness_pool::{CheckedTx, SigScheme};
 
-/// Transactions that wait, each at its identifier, in the order in which they came, and what they leave unspent.
+/// Transactions that wait, each at its identifier, in the order in which they came, and the outputs on which the next
+/// one is judged.
 #[derive(Drop)]
 pub struct Waiting<S: SigScheme> {
     alloc: Global,
     txs: IndexMap<TxId, Arc<CheckedTx<S>>>,
+    /// How many bytes their texts have together.
+    bytes: u64,
     unspent: Utxo,
 }
 
@@ -53,6 +56,7 @@ impl<S: SigScheme> Waiting<S> {
         Waiting {
             alloc,
             txs: IndexMap::new(alloc),
+            bytes: 0,
             unspent,
         }
     }
@@ -68,6 +72,7 @@ impl<S: SigScheme> Waiting<S> {
         Ok(Waiting {
             alloc,
             txs: IndexMap::with_capacity(alloc, capacity)?,
+            bytes: 0,
             unspent,
         })
     }
@@ -77,6 +82,13 @@ impl<S: SigScheme> Waiting<S> {
         ensures { result ≡ length self.now.txs }
     {
         self.txs.len()
+    }
+
+    /// How many bytes the texts of the transactions have together, in constant time.
+    pub fn bytes(&self) -> u64
+        ensures { result ≡ sum (map size_of self.now.txs) }
+    {
+        self.bytes
     }
 
     /// The transactions, in their order.
@@ -109,14 +121,12 @@ impl<S: SigScheme> Waiting<S> {
             reason_against S.verifies (params_of params.now) self.now.unspent slot tx.now ≡ Some (reason_of reason)) }
         ensures passed { OnOk result (
             PassesEarly S.verifies (params_of params.now) self.now.unspent slot tx.now) }
-        ensures small { OnOk result (size_of tx.now ≤ 2 ^ 32) }
     {
         check_early(params, &self.unspent, slot, tx)
     }
 
     /// The first of the reasons 8 to 14 against a transaction that passed the others, if there is one.
     pub fn judge_late(&self, tx: &CheckedTx<S>) -> Result<(), CheckFault>
-        requires { size_of tx.now ≤ 2 ^ 32 }
         ensures accepted { OnOk result ((params : model.Params) (slot : ℕ) →
             PassesEarly S.verifies params self.now.unspent slot tx.now →
             reason_against S.verifies params self.now.unspent slot tx.now ≡ None) }
@@ -133,10 +143,15 @@ impl<S: SigScheme> Waiting<S> {
         ensures ok { OnOk result (self.new ≡ with_tx self.old (arc_value tx)) }
         ensures err { OnErr result (self.new ≡ self.old) }
     {
+        // No memory holds transactions whose texts have 2^64 bytes together.
+        let Some(bytes) = self.bytes.checked_add(tx.tx().size()) else {
+            return Err(AllocError);
+        };
         let mut after = self.unspent.try_clone()?;
         apply(&mut after, tx.tx())?;
         let id = tx.tx().id();
         self.txs.insert(id, tx)?;
+        self.bytes = bytes;
         self.unspent = after;
         Ok(())
     }

@@ -213,6 +213,6 @@ impl Encode for Script {
     ghost item_of = { item_of_script };
 
     fn write(&self, out: &mut Vec<u8>) -> Result<(), AllocError> {
-        write_timelock(out, &self.timelock)
+        Script::write(self, out)
     }
 }

@@ -47,6 +47,7 @@ unfoldable pub transaction_at : ℕ → Reading Transaction
 transaction_at depth bytes =
     as_at transaction_of (array_at 3 (both_at body_at (both_at (witnesses_at depth) nothing_more_at))) bytes
 
--- a transaction that nests at most so deep, and at most as deep as any item; its scripts stand three deep in it
+-- a transaction none of whose scripts, which stand three deep in it, reaches deeper than this, nor deeper than any item
+-- may; what else is in it nests at most eight deep, and is not held against a lower number
 unfoldable pub nested_transaction_at : ℕ → Reading Transaction
 nested_transaction_at depth bytes = transaction_at (min depth 64 - 3) bytes

@@ -39,6 +39,19 @@ impl Input {
         };
         Some((input, rest))
     }
+
+    /// Writes the identifier and the index after their number. At Err a part of that may stand there.
+    fn write_parts(&self, out: &mut Vec<u8>) -> Result<(), AllocError>
+        ensures ok { OnOk result (out.new.items ≡ out.old.items ++ text_of (item_of_input (input_of self.now))) }
+        ensures keeps { Keeps out.old.items out.new.items }
+        ensures full { OnErr result (vec_capacity out.old < vec_len out.old +
+            length (text_of (item_of_input (input_of self.now)))) }
+        ensures capacity { vec_capacity out.old ≤ vec_capacity out.new }
+    {
+        cbor::write_array(out, 2)?;
+        cbor::write_byte_string(out, self.transaction.as_bytes().as_slice())?;
+        cbor::write_unsigned(out, self.index.into())
+    }
 }
 
 impl Decode for Input {
@@ -62,8 +75,11 @@ impl Encode for Input {
     ghost item_of = { λ input. item_of_input (input_of input) };
 
     fn write(&self, out: &mut Vec<u8>) -> Result<(), AllocError> {
-        cbor::write_array(out, 2)?;
-        cbor::write_byte_string(out, self.transaction.as_bytes().as_slice())?;
-        cbor::write_unsigned(out, self.index.into())
+        let start = out.len();
+        let written = self.write_parts(out);
+        if written.is_err() {
+            out.truncate(start);
+        }
+        written
     }
 }

@@ -54,6 +54,19 @@ impl KeyWitness {
     {
         KeyHash::of_key(&self.key)
     }
+
+    /// Writes the key and what it signed with after their number. At Err a part of that may stand there.
+    fn write_parts(&self, out: &mut Vec<u8>) -> Result<(), AllocError>
+        ensures ok { OnOk result (out.new.items ≡ out.old.items ++ text_of (item_of_witness (witness_of self.now))) }
+        ensures keeps { Keeps out.old.items out.new.items }
+        ensures full { OnErr result (vec_capacity out.old < vec_len out.old +
+            length (text_of (item_of_witness (witness_of self.now)))) }
+        ensures capacity { vec_capacity out.old ≤ vec_capacity out.new }
+    {
+        cbor::write_array(out, 2)?;
+        cbor::write_byte_string(out, self.key.as_slice())?;
+        cbor::write_byte_string(out, self.signature.as_slice())
+    }
 }
 
 impl Decode for KeyWitness {
@@ -81,8 +94,11 @@ impl Encode for KeyWitness {
     ghost item_of = { λ witness. item_of_witness (witness_of witness) };
 
     fn write(&self, out: &mut Vec<u8>) -> Result<(), AllocError> {
-        cbor::write_array(out, 2)?;
-        cbor::write_byte_string(out, self.key.as_slice())?;
-        cbor::write_byte_string(out, self.signature.as_slice())
+        let start = out.len();
+        let written = self.write_parts(out);
+        if written.is_err() {
+            out.truncate(start);
+        }
+        written
     }
 }

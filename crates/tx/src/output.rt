@@ -33,6 +33,19 @@ impl Output {
             value: self.value.try_clone()?,
         })
     }
+
+    /// Writes the address and the value after their number. At Err a part of that may stand there.
+    fn write_parts(&self, out: &mut Vec<u8>) -> Result<(), AllocError>
+        ensures ok { OnOk result (out.new.items ≡ out.old.items ++ text_of (item_of_output (output_of self.now))) }
+        ensures keeps { Keeps out.old.items out.new.items }
+        ensures full { OnErr result (vec_capacity out.old < vec_len out.old +
+            length (text_of (item_of_output (output_of self.now)))) }
+        ensures capacity { vec_capacity out.old ≤ vec_capacity out.new }
+    {
+        cbor::write_array(out, 2)?;
+        cbor::write_byte_string(out, self.address.to_bytes().as_slice())?;
+        self.value.write(out)
+    }
 }
 
 /// The address that stands first, a byte string, and the bytes after it.
@@ -72,8 +85,11 @@ impl Encode for Output {
     ghost item_of = { λ output. item_of_output (output_of output) };
 
     fn write(&self, out: &mut Vec<u8>) -> Result<(), AllocError> {
-        cbor::write_array(out, 2)?;
-        cbor::write_byte_string(out, self.address.to_bytes().as_slice())?;
-        self.value.write(out)
+        let start = out.len();
+        let written = self.write_parts(out);
+        if written.is_err() {
+            out.truncate(start);
+        }
+        written
     }
 }

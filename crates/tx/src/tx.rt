@@ -163,7 +163,7 @@ impl Tx {
         Ok(tx)
     }
 
-    /// Writes body, witness set and null after the bytes.
+    /// Writes body, witness set and null after the bytes. At Err a part of that may stand there.
     fn write_parts(&self, out: &mut Vec<u8>) -> Result<(), AllocError>
         ensures ok { OnOk result (out.new.items ≡ out.old.items ++ text_of (item_of_transaction self.now)) }
         ensures keeps { Keeps out.old.items out.new.items }
@@ -299,7 +299,8 @@ impl Tx {
     }
 }
 
-/// A transaction whose text nests at most `depth` deep, and at most 64 deep in any case.
+/// A transaction none of whose scripts, which stand three items deep in it, reaches deeper than `depth`, nor deeper
+/// than 64. What else is in a transaction nests at most 8 deep, and is not held against a lower `depth`.
 impl Decode for Tx {
     ghost use Rattle.model.specs.Transaction.{Transaction};
     ghost use Rattle.tx.specs.TransactionReading.{nested_transaction_at};
@@ -323,6 +324,6 @@ impl Encode for Tx {
     ghost item_of = { item_of_transaction };
 
     fn write(&self, out: &mut Vec<u8>) -> Result<(), AllocError> {
-        self.write_parts(out)
+        Tx::write(self, out)
     }
 }

@@ -140,9 +140,8 @@ impl Witnesses {
         witness_writer::write_scripts_field(out, &self.scripts)
     }
 
-    /// Writes the text of the witness set after the bytes (RFC 8949, section 4.2.1), in time linear in it. Err where
-    /// memory runs out, which it does not where the vector has room for the text: a part of it may then stand there.
-    pub fn write(&self, out: &mut Vec<u8>) -> Result<(), AllocError>
+    /// Writes the entries after their number. At Err a part of that may stand there.
+    fn write_parts(&self, out: &mut Vec<u8>) -> Result<(), AllocError>
         ensures ok { OnOk result (out.new.items ≡ out.old.items ++
             text_of (map_of (witness_entries (witnesses_of self.now)))) }
         ensures keeps { Keeps out.old.items out.new.items }
@@ -152,5 +151,23 @@ impl Witnesses {
     {
         cbor::write_map(out, self.entries())?;
         self.write_entries(out)
+    }
+
+    /// Writes the text of the witness set after the bytes (RFC 8949, section 4.2.1), in time linear in it. Err where
+    /// memory runs out, which it does not where the vector has room for the text: the bytes stay as they were.
+    pub fn write(&self, out: &mut Vec<u8>) -> Result<(), AllocError>
+        ensures ok { OnOk result (out.new.items ≡ out.old.items ++
+            text_of (map_of (witness_entries (witnesses_of self.now)))) }
+        ensures err { OnErr result (out.new.items ≡ out.old.items) }
+        ensures full { OnErr result (vec_capacity out.old < length out.old.items +
+            length (text_of (map_of (witness_entries (witnesses_of self.now))))) }
+        ensures capacity { vec_capacity out.old ≤ vec_capacity out.new }
+    {
+        let start = out.len();
+        let written = self.write_parts(out);
+        if written.is_err() {
+            out.truncate(start);
+        }
+        written
     }
 }

@@ -1,15 +1,13 @@
 -- How the parts of a check make its whole.
-use Rattle.std.proofs.Common.{◌≡◌, ℕ, ◌+◌, ◌≤◌, Bool, true, false, List, [], ◌∷◌, ◌++◌, length, map, Option, Some, None, Result, Ok, Err, IfErr, OnOk, refl, sym, ap, subst, ◌∙◌, arith}
-use Rattle.std.specs.Prelude.{if◌then◌else◌, option_to_list}
+use Rattle.std.proofs.Common.{◌≡◌, ℕ, Bool, true, false, List, [], ◌∷◌, ◌++◌, map, Option, Some, None, Result, Ok, Err, IfErr, OnOk, refl, sym, ap, subst, ◌∙◌, arith}
+use Rattle.std.specs.Prelude.{if◌then◌else◌}
 use Rattle.std.specs.List.{AllByRecursion}
-use Rattle.std.proofs.lemmas.List.{length-map}
 use Rattle.model.specs.Signature.{Verifies}
-use Rattle.model.specs.Transaction.{Transaction, Input, Output, size_of}
-use Rattle.model.specs.Utxo.{Utxo, output_at, outputs_at, spent_outputs}
+use Rattle.model.specs.Transaction.{Transaction, Input}
+use Rattle.model.specs.Utxo.{Utxo, outputs_at, spent_outputs}
 use Rattle.model.specs.Balance.{is_balanced}
 use Rattle.model.specs.Rules.{Params, Reason, passes, first_failing, reason_against, has_free_places, keys_needed, scripts_needed}
 use Rattle.model.specs.Rules.{OutsideInterval, NoInputs, TooBig, FeeTooSmall, MissingInput, OutputTooSmall, WrongNetwork, NotBalanced, OutputExists, BadSignature, MissingKeyWitness, MissingScript, ExtraScript, ScriptFails}
-use Rattle.model.proofs.TransactionSizes.{inputs_fit, outputs_fit}
 use Rattle.tx.specs.View.{input_of}
 use Rattle.tx.specs.declared.input.Input.{Input as CodeInput}
 use Rattle.utxo_rules.specs.declared.check_fault.CheckFault.{CheckFault}
@@ -22,28 +20,8 @@ use Rattle.utxo_rules.specs.Check.{told, early_reasons, first_of_witnesses, firs
 
 -- ---- what is spent
 
-pub few_inputs : (inputs : List CodeInput) (t u : Transaction) → map input_of inputs ≡ u.inputs → u ≡ t → size_of t ≤ 4294967296 → length inputs ≤ 4294967296
-few_inputs inputs t u are same small =
-    let fits = inputs_fit t in
-    let count : length inputs ≡ length t.inputs = sym (length-map inputs input_of) ∙ ap length are ∙ ap (λ (x : Transaction). length x.inputs) same in
-    omega (arith, fits, count, small)
-
-at_most_one : (found : Option Output) (rest : List Output) → length (option_to_list found ++ rest) ≤ 1 + length rest
-at_most_one None rest = omega arith
-at_most_one (Some o) rest = omega arith
-
--- no more are spent than there are inputs
-few_spent : (utxo : Utxo) (inputs : List Input) → length (outputs_at utxo inputs) ≤ length inputs
-few_spent utxo [] = omega arith
-few_spent utxo (i ∷ is) = let rest = few_spent utxo is in let here = at_most_one (output_at utxo i) (outputs_at utxo is) in omega (arith, rest, here)
-
 pub spent_by : (spent : Spent) (utxo : Utxo) (t u : Transaction) (inputs : List CodeInput) → map input_of inputs ≡ u.inputs → u ≡ t → IsSpent spent (outputs_at utxo (map input_of inputs)) → IsSpent spent (spent_outputs utxo t)
 spent_by spent utxo t u inputs are same is = subst (λ (is : List Input). IsSpent spent (outputs_at utxo is)) (are ∙ ap (λ (x : Transaction). x.inputs) same) is
-
-pub few_values : (spent : Spent) (utxo : Utxo) (t : Transaction) → size_of t ≤ 4294967296 → IsSpent spent (spent_outputs utxo t) → spent.totals.values + length t.outputs ≤ 2305843009213693952
-few_values spent utxo t small is =
-    let fits = inputs_fit t in let out = outputs_fit t in let few = few_spent utxo t.inputs in let count = is.counted in
-    omega (arith, fits, out, few, count, small)
 
 -- ---- the reasons 8 to 14
 

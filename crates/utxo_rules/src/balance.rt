@@ -1,7 +1,6 @@
 //! Whether as much is consumed as is produced.
 
 ghost use Rattle.std.specs.Prelude.{◌≡◌, ◌≤◌, ◌<◌, ◌+◌, ◌-ℤ◌, ◌^◌, map, length, OnOk, IfOk};
-ghost use Rattle.model.specs.Transaction.{size_of};
 ghost use Rattle.model.specs.Value.{Asset};
 ghost use Rattle.model.specs.Utxo.{sum_of, spent_outputs};
 ghost use Rattle.model.specs.Balance.{is_balanced};
@@ -29,7 +28,7 @@ fn take_outputs(totals: &mut Totals, outputs: &[Output]) -> Result<(), AllocErro
 /// Whether the transaction consumes as much as it produces, of ada and of each asset, where these are the sums of what
 /// it spends.
 pub fn is_balanced(alloc: Global, spent: Totals, tx: &Tx) -> Result<bool, AllocError>
-    requires counted { spent.values + length tx.now.outputs ≤ 2 ^ 61 }
+    requires few { spent.values ≤ 2 ^ 61 }
     ensures { IfOk result (λ balanced. (utxo : model.Utxo) →
         ((asset : Asset) → total_of spent asset ≡ sum_of asset (spent_outputs utxo tx.now)) →
         balanced ≡ is_balanced utxo tx.now) }

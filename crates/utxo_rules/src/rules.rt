@@ -1,8 +1,7 @@
 //! The rules of a transaction.
 
-ghost use Rattle.std.specs.Prelude.{◌≡◌, ◌≤◌, ◌^◌, ℕ, Some, None, OnOk, IfErr};
+ghost use Rattle.std.specs.Prelude.{◌≡◌, ℕ, Some, None, OnOk, IfErr};
 ghost use Rattle.model.specs.Signature.{Verifies};
-ghost use Rattle.model.specs.Transaction.{size_of};
 ghost use Rattle.model.specs.Rules as model;
 ghost use Rattle.model.specs.Rules.{passes, first_failing, reason_against};
 ghost use Rattle.utxo_rules.specs.View.{params_of, reason_of};
@@ -28,7 +27,6 @@ use witness_pool::{CheckedTx, SigScheme};
 fn check_parts(params: &Params, utxo: &Utxo, slot: u64, tx: &Tx) -> Result<(), Reason>
     ensures first { (verifies : Verifies) → told result ≡
         first_failing (passes verifies (params_of params.now) utxo.now slot tx.now) early_reasons }
-    ensures small { OnOk result (size_of tx.now ≤ 2 ^ 32) }
 {
     if !is_in_interval(slot, tx.interval()) {
         return Err(Reason::OutsideInterval);
@@ -89,7 +87,6 @@ fn check_spending<S: SigScheme>(
     utxo: &Utxo,
     checked: &CheckedTx<S>,
 ) -> Result<(), CheckFault>
-    requires { size_of checked.now ≤ 2 ^ 32 }
     ensures { IsTold (first_of_spending S.verifies utxo.now checked.now) result }
 {
     let tx = checked.tx();
@@ -113,7 +110,6 @@ pub fn check_early(params: &Params, utxo: &Utxo, slot: u64, tx: &Tx) -> Result<(
         reason_against verifies (params_of params.now) utxo.now slot tx.now ≡ Some (reason_of reason)) }
     ensures passed { OnOk result ((verifies : Verifies) →
         PassesEarly verifies (params_of params.now) utxo.now slot tx.now) }
-    ensures small { OnOk result (size_of tx.now ≤ 2 ^ 32) }
 {
     check_parts(params, utxo, slot, tx)
 }
@@ -127,7 +123,6 @@ pub fn check_late<S: SigScheme>(
     utxo: &Utxo,
     checked: &CheckedTx<S>,
 ) -> Result<(), CheckFault>
-    requires { size_of checked.now ≤ 2 ^ 32 }
     // Whatever the parameters and the slot are at which the first seven let it pass.
     ensures accepted { OnOk result ((params : model.Params) (slot : ℕ) →
         PassesEarly S.verifies params utxo.now slot checked.now →

@@ -48,8 +48,9 @@ impl Spent {
 
     /// What the outputs bring that these inputs spend, as far as they stand there: one look-up for each.
     pub fn by(alloc: Global, utxo: &Utxo, inputs: &[Input]) -> Result<Spent, AllocError>
-        requires { length inputs.now ≤ 2 ^ 32 }
-        ensures { IfOk result (λ spent. IsSpent spent (outputs_at utxo.now (map input_of inputs.now))) }
+        ensures spent { IfOk result (λ spent. IsSpent spent (outputs_at utxo.now (map input_of inputs.now))) }
+        // There are no more of them than inputs, so that they can be counted.
+        ensures few { IfOk result (λ spent. spent.totals.values ≤ length inputs.now) }
     {
         let mut spent = Spent::nothing(alloc);
         for input in inputs {

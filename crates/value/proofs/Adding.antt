@@ -13,7 +13,9 @@ use Rattle.value.specs.Sides.{sided}
 use Rattle.value.specs.declared.side.Side.{Side}
 use Rattle.value.specs.declared.side.Side.TheVariants.{Added, Taken}
 use Rattle.value.proofs.Lists.{all_map, all_both, all_any}
-use Rattle.byte_keys.proofs.ForCallers.{has_bytes, set_apart, bytes_from, bytes_apart}
+use Rattle.value.specs.Touched.{KeepsOtherNames, KeepsOthersOf}
+use Rattle.value.proofs.Touching.{TouchedNames, touched_none, touched_more, TouchedAssets, touched_no_policy, touched_more_policies, write_keeps, keeps_all}
+use Rattle.byte_keys.proofs.ForCallers.{has_bytes, bytes_from, bytes_apart}
 use Rattle.value.proofs.Sums.{put_amount}
 use Rattle.std.specs.Map.{set_value}
 
@@ -83,6 +85,7 @@ pub record Changing {Q : Type 0} (whole : Q → ℤ) (s : Side) (start now : Amo
   pub room : AllByRecursion (λ t. IsWithin (2 ^ 126) (amount_under now t.name)) rest
   pub differ : NamesDiffer rest
   pub bounded : AreBounded whole rest → AreBounded whole all
+  pub touched : TouchedNames start now all rest
 
 module _ {Q : Type 0} (whole : Q → ℤ) where
   pub changing_none : (s : Side) (start : Amounts) (all : List (Token Q)) → HasAll start all → ((name : List ℕ) → IsWithin (2 ^ 126) (amount_under start name)) → NamesDiffer all → Changing whole s start start all all
@@ -92,12 +95,14 @@ module _ {Q : Type 0} (whole : Q → ℤ) where
     room = all_any (λ t. IsWithin (2 ^ 126) (amount_under start t.name)) all (λ t. room t.name);
     differ = differ;
     bounded = λ h. h;
+    touched = touched_none start all;
   }
 
   pub changing_more : (s : Side) (start now new : Amounts) (all rest : List (Token Q)) (t : Token Q) → Changing whole s start now all (t ∷ rest)
       → ((name : List ℕ) → amount_under new name ≡ amount_under now name +ℤ cond (bytes_eq name t.name) (sided s (whole t.quantity)) (pos 0))
-      → ((name : List ℕ) → IsSome (sum_under now name) → IsSome (sum_under new name)) → IsWithin quantity_limit (whole t.quantity) → Changing whole s start new all rest
-  changing_more s start now new all rest t before sums kept bounded = record {
+      → ((name : List ℕ) → IsSome (sum_under now name) → IsSome (sum_under new name)) → IsWithin quantity_limit (whole t.quantity)
+      → ((q : List ℕ) → bytes_eq q t.name ≡ false → sum_under new q ≡ sum_under now q) → Changing whole s start new all rest
+  changing_more s start now new all rest t before sums kept bounded others = record {
     sums = λ name. sum_step whole s name t rest (amount_under new name) (amount_under now name) (amount_under start name) (sided s (named_amount whole name all)) (before.sums name) (sums name);
     present = all_map (λ u. IsSome (sum_under now u.name)) (λ u. IsSome (sum_under new u.name)) rest (λ u. kept u.name) before.present.1;
     room = all_both (λ u. u.name ≢ t.name) (λ u. IsWithin (2 ^ 126) (amount_under now u.name)) (λ u. IsWithin (2 ^ 126) (amount_under new u.name)) rest
@@ -105,6 +110,7 @@ module _ {Q : Type 0} (whole : Q → ℤ) where
         before.differ.0 before.room.1;
     differ = before.differ.1;
     bounded = λ h. before.bounded (bounded, h);
+    touched = touched_more start now new all rest t before.touched others;
   }
 
   pub changing_all : (s : Side) (start now : Amounts) (all : List (Token Q)) → Changing whole s start now all [] → (name : List ℕ) → amount_under now name ≡ amount_under start name +ℤ sided s (named_amount whole name all)
@@ -119,17 +125,18 @@ pub record ChangingAll {Q : Type 0} (whole : Q → ℤ) (s : Side) (start now : 
   pub room : AllByRecursion (λ p. (name : List ℕ) → IsWithin (2 ^ 126) (amount_in now p.id name)) rest
   pub differ : PoliciesDiffer rest
   pub bounded : AllByRecursion (λ p. AreBounded whole p.tokens) rest → AllByRecursion (λ p. AreBounded whole p.tokens) all
+  pub touched : TouchedAssets start now all rest
 
 -- what a write under one policy changes
-pub record PolicyChanges (old new : AllAmounts) (id : List ℕ) (by : List ℕ → ℤ) : Type 0 where
-  pub sums : (policy name : List ℕ) → amount_in new policy name ≡ amount_in old policy name +ℤ cond (bytes_eq policy id) (by name) (pos 0)
-  pub others : (policy : List ℕ) → bytes_eq policy id ≡ false → amounts_of new policy ≡ amounts_of old policy
+pub record PolicyChanges {Q : Type 0} (old new : AllAmounts) (p : Policy Q) (by : List ℕ → ℤ) : Type 0 where
+  pub sums : (policy name : List ℕ) → amount_in new policy name ≡ amount_in old policy name +ℤ cond (bytes_eq policy p.id) (by name) (pos 0)
+  pub others : KeepsOthersOf old new p
 
-pub policy_written : (old new : AllAmounts) (id : List ℕ) (by : List ℕ → ℤ) (before after : Amounts) → new.by_policy.entries ≡ set_value (has_bytes (λ k. k.bytes) id) old.by_policy.entries after
-    → amounts_of old id ≡ Some before → ((name : List ℕ) → amount_under after name ≡ amount_under before name +ℤ by name) → PolicyChanges old new id by
-policy_written old new id by before after written found sums = record {
-  sums = λ policy name. rw written (put_amount (λ k. k.bytes) (λ (o : Option Amounts). or_zero (sum_under_any o name)) policy id old.by_policy.entries after before (by name) found (sums name));
-  others = λ policy apart. rw written (set_apart (λ k. k.bytes) policy id old.by_policy.entries after (ap is_some found) apart);
+pub policy_written : {Q : Type 0} (old new : AllAmounts) (p : Policy Q) (by : List ℕ → ℤ) (before after : Amounts) → new.by_policy.entries ≡ set_value (has_bytes (λ k. k.bytes) p.id) old.by_policy.entries after
+    → amounts_of old p.id ≡ Some before → ((name : List ℕ) → amount_under after name ≡ amount_under before name +ℤ by name) → KeepsOtherNames before after p.tokens → PolicyChanges old new p by
+policy_written old new p by before after written found sums others = record {
+  sums = λ policy name. rw written (put_amount (λ k. k.bytes) (λ (o : Option Amounts). or_zero (sum_under_any o name)) policy p.id old.by_policy.entries after before (by name) found (sums name));
+  others = write_keeps old new p before after written found others;
 }
 
 -- what has no sums has no tokens to add
@@ -137,12 +144,13 @@ pub no_tokens : {Q : Type 0} (tokens : List (Token Q)) → AllByRecursion (λ t.
 no_tokens [] has = refl
 no_tokens (t ∷ ts) has = let no : is_some {T = ℤ} None ≡ true = has.0 in cc
 
-pub policy_unwritten : {Q : Type 0} (whole : Q → ℤ) (s : Side) (all : AllAmounts) (id : List ℕ) (tokens : List (Token Q)) → tokens ≡ [] → PolicyChanges all all id (λ name. sided s (named_amount whole name tokens))
-policy_unwritten {Q} whole s all id tokens none = record {
+pub policy_unwritten : {Q : Type 0} (whole : Q → ℤ) (s : Side) (old new : AllAmounts) (p : Policy Q) → p.tokens ≡ [] → ((q : List ℕ) → amounts_of new q ≡ amounts_of old q)
+    → PolicyChanges old new p (λ name. sided s (named_amount whole name p.tokens))
+policy_unwritten {Q} whole s old new p none same = record {
   sums = λ policy name.
-      let nothing : sided s (named_amount whole name tokens) ≡ pos 0 = ap (λ (ts : List (Token Q)). sided s (named_amount whole name ts)) none ∙ sided_zero s in
-      rw nothing (nothing_if (bytes_eq policy id) (amount_in all policy name));
-  others = λ policy apart. refl;
+      let nothing : sided s (named_amount whole name p.tokens) ≡ pos 0 = ap (λ (ts : List (Token Q)). sided s (named_amount whole name ts)) none ∙ sided_zero s in
+      ap (λ (o : Option Amounts). or_zero (sum_under_any o name)) (same policy) ∙ rw nothing (nothing_if (bytes_eq policy p.id) (amount_in old policy name));
+  others = keeps_all old new p same;
 }
 
 module _ {Q : Type 0} (whole : Q → ℤ) where
@@ -154,6 +162,7 @@ module _ {Q : Type 0} (whole : Q → ℤ) where
     room = all_any (λ p. (name : List ℕ) → IsWithin (2 ^ 126) (amount_in start p.id name)) all (λ p. room p.id);
     differ = differ;
     bounded = λ h. h;
+    touched = touched_no_policy start all;
   }
 
   -- one policy more of those that are added
@@ -169,17 +178,18 @@ module _ {Q : Type 0} (whole : Q → ℤ) where
 
   pub changing_more_policies : (s : Side) (start now new : AllAmounts) (all rest : List (Policy Q)) (p : Policy Q) → ChangingAll whole s start now all (p ∷ rest)
       → ((policy name : List ℕ) → amount_in new policy name ≡ amount_in now policy name +ℤ cond (bytes_eq policy p.id) (sided s (named_amount whole name p.tokens)) (pos 0))
-      → ((policy : List ℕ) → bytes_eq policy p.id ≡ false → amounts_of new policy ≡ amounts_of now policy) → AreBounded whole p.tokens → ChangingAll whole s start new all rest
+      → KeepsOthersOf now new p → AreBounded whole p.tokens → ChangingAll whole s start new all rest
   changing_more_policies s start now new all rest p before sums others bounded = record {
     sums = λ policy name. policy_step s policy name p rest (amount_in new policy name) (amount_in now policy name) (amount_in start policy name) (sided s (policy_amount whole policy name all)) (before.sums policy name) (sums policy name);
     present = all_both (λ u. u.id ≢ p.id) (HasPolicy now) (HasPolicy new) rest
-        (λ u apart has. subst (λ (o : Option Amounts). AllByRecursion (λ t. IsSome (sum_under_any o t.name)) u.tokens) (sym (others u.id (bytes_apart u.id p.id apart))) has)
+        (λ u apart has. subst (λ (o : Option Amounts). AllByRecursion (λ t. IsSome (sum_under_any o t.name)) u.tokens) (sym (others.policies u.id (bytes_apart u.id p.id apart))) has)
         before.differ.1 before.present.1;
     room = all_both (λ u. u.id ≢ p.id) (λ u. (name : List ℕ) → IsWithin (2 ^ 126) (amount_in now u.id name)) (λ u. (name : List ℕ) → IsWithin (2 ^ 126) (amount_in new u.id name)) rest
-        (λ u apart room name. subst (λ (o : Option Amounts). IsWithin (2 ^ 126) (or_zero (sum_under_any o name))) (sym (others u.id (bytes_apart u.id p.id apart))) (room name))
+        (λ u apart room name. subst (λ (o : Option Amounts). IsWithin (2 ^ 126) (or_zero (sum_under_any o name))) (sym (others.policies u.id (bytes_apart u.id p.id apart))) (room name))
         before.differ.1 before.room.1;
     differ = before.differ.2;
     bounded = λ h. before.bounded (bounded, h);
+    touched = touched_more_policies start now new all rest p before.touched others;
   }
 
   pub changing_all_policies : (s : Side) (start now : AllAmounts) (all : List (Policy Q)) → ChangingAll whole s start now all [] → (policy name : List ℕ)

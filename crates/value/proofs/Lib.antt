@@ -6,7 +6,10 @@ pub mod Lists
 pub mod Adding
 pub mod Sums
 pub mod Preparing
-pub mod Checking
+pub mod Removing
+pub mod Touching
+pub mod Tidying
+pub mod Listing
 pub mod Summing
 pub mod Sameness
 pub mod TextOrder

@@ -1,8 +1,10 @@
 -- Room is made for one token, or one policy, after the other.
-use Rattle.std.proofs.Common.{◌≡◌, ℕ, List, ◌∷◌, Option, Some, refl, sym, ◌∙◌, ap, subst, is_some}
-use Rattle.std.specs.Prelude.{IsSome}
+use Rattle.std.proofs.Common.{◌≡◌, ℕ, false, List, ◌∷◌, Option, Some, refl, sym, ◌∙◌, ap, subst, is_some}
+use Rattle.std.specs.Prelude.{bytes_eq, IsSome}
 use Rattle.std.specs.List.{AllByRecursion}
 use Rattle.value.proofs.Lists.{all_map}
+use Rattle.value.specs.Touched.{KeepsOthersOf}
+use Rattle.value.proofs.Touching.{TouchedNames, touched_none, touched_more, TouchedAssets, touched_no_policy, touched_more_policies}
 use Rattle.byte_keys.proofs.ForCallers.{has_bytes, lookup_set, set_keeps, bytes_self}
 use Rattle.std.specs.Map.{set_value}
 use Rattle.model.specs.Value.{Token, Policy}
@@ -21,16 +23,19 @@ pub record Prepared {Q : Type 0} (start now : Amounts) (all rest : List (Token Q
   pub same : (name : List ℕ) → amount_under now name ≡ amount_under start name
   pub kept : Keeps start now
   pub present : (after : Amounts) → Keeps now after → HasAll after rest → HasAll after all
+  pub touched : TouchedNames start now all rest
 
 pub prepared_none : {Q : Type 0} (start : Amounts) (all : List (Token Q)) → Prepared start start all all
-prepared_none start all = record { same = λ name. refl; kept = λ name h. h; present = λ after kept h. h }
+prepared_none start all = record { same = λ name. refl; kept = λ name h. h; present = λ after kept h. h; touched = touched_none start all }
 
 pub prepared_more : {Q : Type 0} (start now new : Amounts) (all rest : List (Token Q)) (t : Token Q) → Prepared start now all (t ∷ rest)
-    → ((name : List ℕ) → amount_under new name ≡ amount_under now name) → Keeps now new → IsSome (sum_under new t.name) → Prepared start new all rest
-prepared_more start now new all rest t before same kept found = record {
+    → ((name : List ℕ) → amount_under new name ≡ amount_under now name) → Keeps now new → IsSome (sum_under new t.name)
+    → ((q : List ℕ) → bytes_eq q t.name ≡ false → sum_under new q ≡ sum_under now q) → Prepared start new all rest
+prepared_more start now new all rest t before same kept found others = record {
   same = λ name. same name ∙ before.same name;
   kept = λ name h. kept name (before.kept name h);
   present = λ after keeps h. before.present after (λ name k. keeps name (kept name k)) (keeps t.name found, h);
+  touched = touched_more start now new all rest t before.touched others;
 }
 
 -- ---- all policies
@@ -42,16 +47,18 @@ KeepsAll before after = (policy name : List ℕ) → IsSome (sum_of before polic
 pub record PreparedAll {Q : Type 0} (start now : AllAmounts) (all rest : List (Policy Q)) : Type 0 where
   pub same : (policy name : List ℕ) → amount_in now policy name ≡ amount_in start policy name
   pub present : (after : AllAmounts) → KeepsAll now after → AllByRecursion (HasPolicy after) rest → AllByRecursion (HasPolicy after) all
+  pub touched : TouchedAssets start now all rest
 
 pub prepared_no_policy : {Q : Type 0} (start : AllAmounts) (all : List (Policy Q)) → PreparedAll start start all all
-prepared_no_policy start all = record { same = λ policy name. refl; present = λ after kept h. h }
+prepared_no_policy start all = record { same = λ policy name. refl; present = λ after kept h. h; touched = touched_no_policy start all }
 
 pub prepared_more_policies : {Q : Type 0} (start now new : AllAmounts) (all rest : List (Policy Q)) (p : Policy Q) → PreparedAll start now all (p ∷ rest)
-    → ((policy name : List ℕ) → amount_in new policy name ≡ amount_in now policy name) → KeepsAll now new → HasPolicy new p → PreparedAll start new all rest
-prepared_more_policies start now new all rest p before same kept found = record {
+    → ((policy name : List ℕ) → amount_in new policy name ≡ amount_in now policy name) → KeepsAll now new → HasPolicy new p → KeepsOthersOf now new p → PreparedAll start new all rest
+prepared_more_policies start now new all rest p before same kept found others = record {
   same = λ policy name. same policy name ∙ before.same policy name;
   present = λ after keeps h. before.present after (λ policy name k. keeps policy name (kept policy name k))
       (all_map (λ t. IsSome (sum_of new p.id t.name)) (λ t. IsSome (sum_of after p.id t.name)) p.tokens (λ t. keeps p.id t.name) found, h);
+  touched = touched_more_policies start now new all rest p before.touched others;
 }
 
 -- a write under one policy that changes no amount and keeps what has a sum

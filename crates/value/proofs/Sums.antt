@@ -1,15 +1,21 @@
 -- What a map has under a name after a write.
-use Rattle.std.proofs.Common.{◌≡◌, ℕ, ℤ, pos, ◌+ℤ◌, ◌^◌, Bool, true, false, cond, List, Option, Some, refl, sym, ◌∙◌, ap, subst, arith, is_some, to_z, of_z}
+use Rattle.std.proofs.Common.{◌≡◌, ℕ, ℤ, pos, ◌+ℤ◌, ◌^◌, ◌<◌, negsuc, Bool, true, false, cond, List, Option, Some, refl, sym, ◌∙◌, ap, subst, arith, is_some, to_z, of_z}
 use Rattle.std.specs.Prelude.{bytes_eq, IsSome}
 use Rattle.std.specs.Map.{lookup, set_value}
 use Rattle.std.proofs.lemmas.Int.{ints}
 use Rattle.value.specs.Quantities.{IsWithin, quantity_limit}
 use Rattle.byte_keys.proofs.ForCallers.{has_bytes, lookup_set, bytes_from, some_either}
 use mir.Syntax.{w128}
+use lib.Signed.{mag}
 
 -- a quantity in 128 bits
 pub quantity_fits : (z : ℤ) → IsWithin quantity_limit z → to_z w128 (of_z w128 z) ≡ z
 quantity_fits z within = omega (arith, ints)
+
+-- a number of which the 128 bits are 0
+pub zero_from_bits : (z : ℤ) → mag z < 2 ^ 127 → of_z w128 z ≡ 0 → z ≡ pos 0
+zero_from_bits (pos n) fits bits = ap pos bits
+zero_from_bits (negsuc n) fits bits = absurd (omega (arith, ints))
 
 -- a sum of 128 bits that is in reach
 pub written : (old by : ℤ) → IsWithin (2 ^ 126) old → IsWithin quantity_limit by → to_z w128 (of_z w128 (to_z w128 (of_z w128 old) +ℤ to_z w128 (of_z w128 by))) ≡ old +ℤ by

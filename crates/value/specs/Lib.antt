@@ -10,5 +10,7 @@ pub mod Held
 pub mod Differing
 pub mod Sides
 pub mod Sums
+pub mod Touched
+pub mod Listed
 pub mod Totals
 pub mod Same

@@ -10,7 +10,7 @@ use Rattle.value.specs.Sums.{total_in}
 abbrev pub total_of : Totals → Asset → ℤ
 total_of totals asset = total_in totals.coin totals.assets asset
 
--- the policies that were met, in the order of their bytes, each with the sums under its names
+-- the policies that are listed, each with the sums under its names
 abbrev pub policies_met : Totals → List (ScriptHash × Amounts)
 policies_met totals = totals.assets.by_policy.entries
 

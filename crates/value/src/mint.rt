@@ -7,7 +7,8 @@ ghost use Rattle.model.specs.Value as model;
 ghost use Rattle.model.specs.Value.{item_of_number, item_of_assets, IsMint, SpellsMint, Asset, minted_amount};
 ghost use Rattle.cbor.specs.Gives.{IfMalformed};
 ghost use Rattle.cbor.specs.Texts.{BeginsWithText};
-ghost use Rattle.value.specs.Totals.{total_of};
+ghost use Rattle.value.specs.Totals.{total_of, policies_met};
+ghost use Rattle.value.specs.Listed.{listed};
 ghost use Rattle.value.specs.Parts.{IsMintOf, IsFirstFault, IfAtFault};
 ghost use Rattle.value.specs.View.{policy_of, asset_of};
 ghost use Rattle.cbor.specs.Texts.{Writes};
@@ -167,13 +168,15 @@ impl Mint {
     }
 
     /// Adds what is minted to the sums, so that what is burned is taken from them. Err where memory runs out:
-    /// the sums are as they were. Each asset is looked up among those that were met.
+    /// the sums and what they list are as they were. Takes a few look-ups for each policy and name among those that
+    /// are listed.
     pub fn add_to(&self, totals: &mut Totals) -> Result<(), AllocError>
         requires { totals.old.values < 2 ^ 62 }
         ensures sums { OnOk result ((asset : Asset) →
             total_of totals.new asset ≡ total_of totals.old asset +ℤ minted_amount asset self.now) }
         ensures counted { OnOk result (totals.new.values ≡ totals.old.values + 1) }
         ensures same { OnErr result ((asset : Asset) → total_of totals.new asset ≡ total_of totals.old asset) }
+        ensures listing { OnErr result (listed (policies_met totals.new) ≡ listed (policies_met totals.old)) }
         ensures uncounted { OnErr result (totals.new.values ≡ totals.old.values) }
     {
         totals.change(0, &self.policies, Side::Added)

@@ -5,6 +5,7 @@ ghost use Rattle.model.specs.Value.{Asset, Ada, Named};
 ghost use Rattle.std.specs.Map.Iter.{ShowsInOrder, ShowsInReverse, deref_pair};
 ghost use Rattle.value.specs.Quantities.{IsWithin};
 ghost use Rattle.value.specs.Sums.{total_in};
+ghost use Rattle.value.specs.Listed.{IsTidy};
 
 use crate::amounts::{AllAmounts, Amounts};
 use crate::assets::Policy;
@@ -15,7 +16,8 @@ use std::alloc::{AllocError, Global};
 use std::collections::btree_map;
 
 /// Sums of values, for ada and each asset, in signed numbers of 128 bits. They are exact: at most 2^62 values
-/// are added or taken, each with at most 2^64 of an asset.
+/// are added or taken, each with at most 2^64 of an asset. Just the assets of which the sum is not 0 are kept, and
+/// listed.
 #[derive(Drop)]
 pub struct Totals {
     alloc: Global,
@@ -25,13 +27,15 @@ pub struct Totals {
     assets: AllAmounts,
     ghost few: { values ≤ 2 ^ 62 },
     ghost within: { (asset : Asset) → IsWithin (values * 2 ^ 64) (total_in coin assets asset) },
+    ghost tidy: { IsTidy assets },
 }
 
 impl Totals {
-    ghost use Rattle.std.specs.Prelude.{◌≡◌, ◌<◌, ◌+◌, ◌+ℤ◌, ◌↔◌, pos, map, IsTrue, OnOk, OnErr};
+    ghost use Rattle.std.specs.Prelude.{◌≡◌, ◌≢◌, ◌<◌, ◌+◌, ◌+ℤ◌, ◌↔◌, ℤ, List, pos, map, IsTrue, OnOk, OnErr};
     ghost use Rattle.ident.specs.Kinds.{ScriptHash};
     ghost use Rattle.value.specs.Differing.{PoliciesDiffer};
     ghost use Rattle.value.specs.Sides.{sided};
+    ghost use Rattle.value.specs.Listed.{IsListed, IsInOrder, listed};
     ghost use Rattle.value.specs.Totals.{total_of, change_of, policies_met};
     ghost use Rattle.value.specs.View.{policy_of};
 
@@ -69,27 +73,30 @@ impl Totals {
         self.assets.amount(policy, name)
     }
 
-    /// The policies of the assets that were met so far, in the order of their bytes, each with the sums under its
-    /// names. An asset of which as much was taken as was added still is among them, with a sum of 0. Takes no memory.
+    /// What is listed: the policies with an asset of which the sum is not 0, in the order of their bytes, each with the
+    /// names of these assets and their sums. An asset of which as much was taken as was added is not among them. Takes
+    /// no memory.
     pub fn policies(&self) -> btree_map::Iter<'_, ScriptHash, Amounts>
         ensures rest { result ≡ policies_met self.now }
         ensures runs { ShowsInOrder (deref_pair {K = ScriptHash} {X = Amounts}) }
         ensures runs_back { ShowsInReverse (deref_pair {K = ScriptHash} {X = Amounts}) }
+        ensures listed { (policy name : List ℕ) (sum : ℤ) → IsListed policy name sum (listed (policies_met self.now)) ↔
+            ((total_of self.now (Named policy name) ≡ sum) × (sum ≢ pos 0)) }
+        ensures ordered { IsInOrder (listed (policies_met self.now)) }
     {
         self.assets.iter()
     }
 
-    /// Whether as much was taken as was added, of ada and of each asset. Takes no memory, and time in
-    /// proportion to the assets that were met.
+    /// Whether as much was taken as was added, of ada and of each asset. Takes constant time and no memory.
     pub fn is_balanced(&self) -> bool
         ensures { IsTrue result ↔ ((asset : Asset) → total_of self.now asset ≡ pos 0) }
     {
-        self.coin == 0 && self.assets.is_zero()
+        self.coin == 0 && self.assets.is_empty()
     }
 
     /// Adds a value of so many lovelace and these assets, or takes it. Takes a few look-ups for each policy
-    /// and each of its names among those met so far, and memory for those that are new. Err where memory runs
-    /// out: nothing has changed.
+    /// and each of its names among those that are listed, and memory for those that are new. Err where memory runs
+    /// out: the sums and what is listed are as they were.
     pub(crate) fn change<Q: Quantity>(
         &mut self,
         coin: u64,
@@ -103,12 +110,14 @@ impl Totals {
             sided side (change_of Q.whole coin (map policy_of assets.now) asset)) }
         ensures counted { OnOk result (self.new.values ≡ self.old.values + 1) }
         ensures same { OnErr result ((asset : Asset) → total_of self.new asset ≡ total_of self.old asset) }
+        ensures listing { OnErr result (listed (policies_met self.new) ≡ listed (policies_met self.old)) }
         ensures uncounted { OnErr result (self.new.values ≡ self.old.values) }
     {
         // What can fail comes first, and changes no sum.
         self.assets.prepare(self.alloc, assets)?;
         self.coin += side.change_by(i128::from(coin));
         self.assets.change(assets, side);
+        self.assets.tidy(assets);
         self.values += 1;
         Ok(())
     }

@@ -7,7 +7,8 @@ ghost use Rattle.model.specs.Value as model;
 ghost use Rattle.model.specs.Value.{item_of_value, IsValue, SpellsValue, Asset, amount_of};
 ghost use Rattle.cbor.specs.Gives.{IfMalformed};
 ghost use Rattle.cbor.specs.Texts.{BeginsWithText};
-ghost use Rattle.value.specs.Totals.{total_of};
+ghost use Rattle.value.specs.Totals.{total_of, policies_met};
+ghost use Rattle.value.specs.Listed.{listed};
 ghost use Rattle.value.specs.Parts.{IsValueOf, IsFirstFault, IfAtFault};
 ghost use Rattle.value.specs.View.{policy_of, asset_of};
 ghost use Rattle.cbor.specs.Texts.{Keeps, Writes};
@@ -203,27 +204,30 @@ impl Value {
         })
     }
 
-    /// Adds the value to the sums. Err where memory runs out: the sums are as they were. Each asset is looked
-    /// up among those that were met.
+    /// Adds the value to the sums. Err where memory runs out: the sums and what they list are as they were. Takes a
+    /// few look-ups for each policy and name among those that are listed.
     pub fn add_to(&self, totals: &mut Totals) -> Result<(), AllocError>
         requires { totals.old.values < 2 ^ 62 }
         ensures sums { OnOk result ((asset : Asset) →
             total_of totals.new asset ≡ total_of totals.old asset +ℤ amount_of asset self.now) }
         ensures counted { OnOk result (totals.new.values ≡ totals.old.values + 1) }
         ensures same { OnErr result ((asset : Asset) → total_of totals.new asset ≡ total_of totals.old asset) }
+        ensures listing { OnErr result (listed (policies_met totals.new) ≡ listed (policies_met totals.old)) }
         ensures uncounted { OnErr result (totals.new.values ≡ totals.old.values) }
     {
         totals.change(self.coin, &self.assets, Side::Added)
     }
 
     /// Takes the value from the sums, so that what goes out is set against what comes in. Err where memory runs
-    /// out: the sums are as they were. Each asset is looked up among those that were met.
+    /// out: the sums and what they list are as they were. Takes a few look-ups for each policy and name among those
+    /// that are listed.
     pub fn take_from(&self, totals: &mut Totals) -> Result<(), AllocError>
         requires { totals.old.values < 2 ^ 62 }
         ensures sums { OnOk result ((asset : Asset) →
             total_of totals.new asset ≡ total_of totals.old asset -ℤ amount_of asset self.now) }
         ensures counted { OnOk result (totals.new.values ≡ totals.old.values + 1) }
         ensures same { OnErr result ((asset : Asset) → total_of totals.new asset ≡ total_of totals.old asset) }
+        ensures listing { OnErr result (listed (policies_met totals.new) ≡ listed (policies_met totals.old)) }
         ensures uncounted { OnErr result (totals.new.values ≡ totals.old.values) }
     {
         totals.change(self.coin, &self.assets, Side::Taken)

@@ -62,6 +62,7 @@ fn added_at_last(rt: &impl Abort, core: &mut Core<TestScheme>, bytes: &[u8]) {
         }
     }
     same(rt, "waiting", core.mempool().len() as u64, 1);
+    same(rt, "their bytes", core.mempool().bytes(), 190);
 }
 
 /// How many bytes the block of slot 5 has.

@@ -3,14 +3,14 @@
 use super::fixture::{check, is_spelled};
 use super::transaction_making::{MINTING_ID, PAYING_ID};
 use super::transactions::read_all;
-use super::verdicts::{BADLY_IN_VAIN, SIGNED, SIGNED_IN_VAIN, SIGNED_MINTING, has_key};
+use super::verdicts::{BAD_PAYMENT, PAYMENT, SIGNED, SIGNED_MINTING, has_key};
 use std::process::Abort;
 use std::sync::atomic::{AtomicBool, AtomicU64, Ordering};
 use std::thread::{self, Threads};
 use witness_pool::{CheckedTx, Gate, OpenGate, Pool, PoolFault, TestScheme};
 
-/// Three jobs: a signed payment whose script doesn't hold, the same with a bad signature, and the minting.
-const JOBS: &[&[&str]] = &[SIGNED_IN_VAIN, BADLY_IN_VAIN, SIGNED_MINTING];
+/// Three jobs: the payment of 910 lovelace, the same badly signed, and the minting.
+const JOBS: &[&[&str]] = &[PAYMENT, BAD_PAYMENT, SIGNED_MINTING];
 
 /// The transactions with their verdicts, by so many workers.
 fn checked_by<R: Threads + Sync + Abort + AllocGlobal, G: Gate + Drop>(
@@ -23,10 +23,10 @@ fn checked_by<R: Threads + Sync + Abort + AllocGlobal, G: Gate + Drop>(
     Pool::new(gate).check::<R, TestScheme>(rt, rt.alloc(), workers, txs)
 }
 
-/// The identifiers of the three jobs, whether each is signed, and whether its script holds.
+/// The identifiers of the three jobs, whether each is signed, and whether its scripts hold.
 const VERDICTS: &[(&str, bool, bool)] = &[
-    (PAYING_ID, true, false),
-    (PAYING_ID, false, false),
+    (PAYING_ID, true, true),
+    (PAYING_ID, false, true),
     (MINTING_ID, true, true),
 ];
 

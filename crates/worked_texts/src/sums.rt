@@ -5,7 +5,8 @@ use super::values::{mint_of, value_of};
 use ident::ScriptHash;
 use std::alloc::AllocError;
 use std::process::Abort;
-use value::{Mint, Totals, Value};
+use std::slice::Iter;
+use value::{Amounts, Mint, Totals, Value};
 
 /// Assets, each by the byte of its policy, its name and how many there are.
 type Held = &'static [(u8, &'static [u8], u64)];
@@ -23,6 +24,11 @@ const VALUES: &[(u64, Held)] = &[
     (0, &[(1, b"gold", 4), (2, b"gold", 3)]),
     // the empty name
     (5, &[(1, b"", u64::MAX)]),
+    // assets of two policies, with a longer name of lower bytes, and each of them alone
+    (0, &[(2, b"b", 1), (2, b"aa", 2), (1, b"z", 3)]),
+    (0, &[(2, b"aa", 2)]),
+    (0, &[(1, b"z", 3)]),
+    (0, &[(2, b"b", 1)]),
 ];
 
 /// What is minted.
@@ -68,6 +74,26 @@ const CHANGES: &[Row] = &[
     (Change::Take(6), false, 0, 0),
     (Change::Add(6), false, 0, 0),
     (Change::Take(5), true, 0, 0),
+];
+
+/// A sum that is listed, with the byte of its policy and its name.
+type Listed = (u8, &'static [u8], i128);
+
+/// Changes, and all that is listed behind each.
+const LISTED: &[(Change, &[Listed])] = &[
+    // in the order of bytes a longer name may stand first
+    (Change::Add(8), &[(1, b"z", 3), (2, b"aa", 2), (2, b"b", 1)]),
+    // an asset that is taken is listed no more, nor is a policy of which all is taken
+    (Change::Take(9), &[(1, b"z", 3), (2, b"b", 1)]),
+    (Change::Take(10), &[(2, b"b", 1)]),
+    (Change::Take(11), &[]),
+    // what is taken and wasn't there is listed as well, and lovelace isn't
+    (Change::Take(11), &[(2, b"b", -1)]),
+    (Change::Mint(0), &[(1, b"", 5), (2, b"b", -1)]),
+    (Change::Mint(1), &[(2, b"b", -1)]),
+    (Change::Add(11), &[]),
+    (Change::Add(7), &[(1, b"", 18446744073709551615)]),
+    (Change::Take(7), &[]),
 ];
 
 /// The values.
@@ -131,4 +157,37 @@ fn sums_behind_changes(rt: HostRuntime) {
         are_so(&rt, &totals, *balanced, *coin, *unnamed);
     }
     check(&rt, "changes", totals.values() == 24);
+}
+
+/// Just these sums are listed under the policy, from the first of them on.
+fn are_under(rt: &impl Abort, policy: &ScriptHash, amounts: &Amounts, sums: &mut Iter<'_, Listed>) {
+    for (name, amount) in amounts.iter() {
+        let (byte, named, sum) = sums.next().expect(rt, "a sum that is listed");
+        check(rt, "policy", *policy == ScriptHash::from_bytes([*byte; 32]));
+        check(rt, "name", name.as_slice() == *named);
+        check(rt, "sum", amount == sum);
+    }
+}
+
+/// Just these sums are listed, in their order.
+fn are_listed(rt: &impl Abort, totals: &Totals, sums: &[Listed]) {
+    let mut sums = sums.iter();
+    for (policy, amounts) in totals.policies() {
+        are_under(rt, policy, amounts, &mut sums);
+    }
+    check(rt, "all listed", sums.next().is_none());
+}
+
+// Under `rt try --test --fail-alloc N` with the number of an allocation of a change the same call succeeds then.
+#[test]
+fn listed_behind_changes(rt: HostRuntime) {
+    let values = boxed(&rt, values(&rt));
+    let mints = boxed(&rt, mints(&rt));
+    let mut totals = boxed(&rt, Totals::new(rt.alloc()));
+    for (change, listed) in LISTED {
+        if make_change(&rt, &mut totals, &values, &mints, *change).is_err() {
+            make_change(&rt, &mut totals, &values, &mints, *change).expect(&rt, MEMORY);
+        }
+        are_listed(&rt, &totals, *listed);
+    }
 }

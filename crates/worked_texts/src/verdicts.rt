@@ -8,6 +8,30 @@ use witness_pool::{CheckedTx, SigScheme, TestScheme, plain};
 /// The SHA-256 digest of 32 bytes 01 followed by the identifier of the payment, which is the digest of its body.
 pub const DIGEST: &str = "7720038b2e76ccb282aafeb87e011adf346efe4af0e408c41b734fcfbbcedf12";
 
+/// The payment, signed by the key of 32 bytes 01. It has 190 bytes.
+pub const PAYMENT: &[&str] = &[
+    "83",
+    PAYING_BODY,
+    "a1 0081825820",
+    ONES,
+    "5840",
+    DIGEST,
+    DIGEST,
+    "f6",
+];
+
+/// The same badly signed.
+pub const BAD_PAYMENT: &[&str] = &[
+    "83",
+    PAYING_BODY,
+    "a1 0081825820",
+    ONES,
+    "5840",
+    DIGEST,
+    KEY_HASH,
+    "f6",
+];
+
 /// The payment, signed by the key of 32 bytes 01, with the script that asks for all of none, which holds always.
 pub const SIGNED: &[&str] = &[
     "83",
@@ -45,7 +69,7 @@ const BADLY_TOO: &[&str] = &[
 ];
 
 /// The signed payment and a bad one with the script that asks for one of none, which holds never.
-pub const SIGNED_IN_VAIN: &[&str] = &[
+const SIGNED_IN_VAIN: &[&str] = &[
     "83",
     PAYING_BODY,
     "a2 0081825820",
@@ -56,7 +80,7 @@ pub const SIGNED_IN_VAIN: &[&str] = &[
     "0181820280 f6",
 ];
 
-pub const BADLY_IN_VAIN: &[&str] = &[
+const BADLY_IN_VAIN: &[&str] = &[
     "83",
     PAYING_BODY,
     "a2 0081825820",

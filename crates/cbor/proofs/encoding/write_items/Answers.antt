@@ -1,5 +1,5 @@
 use Rattle.std.proofs.Common.{arith}
-use Rattle.cbor.proofs.ShapeWrites.{kept_on, whatever_err}
+use Rattle.cbor.proofs.ShapeWrites.{kept_on, kept_same, whatever_err}
 use Rattle.cbor.proofs.ListWrites.{no_item_written, one_item_written, all_items_written, item_lacks_room}
 use Rattle.cbor.proofs.encoding.write_items.Goals as goal
 
@@ -16,7 +16,7 @@ loop-item-preserved g c = (
 )
 
 pub returns-in_err-write-clause-keeps : goal.returns-in_err-write-clause-keeps
-returns-in_err-write-clause-keeps g c = kept_on c.args.out.now.items c.loop-item.out.items c.write.new.out.items c.loop-item.invariant.0.keeps c.in_err-write.ensures.keeps
+returns-in_err-write-clause-keeps g c = kept_on c.args.out.now.items c.loop-item.out.items c.write.new.out.items c.loop-item.invariant.0.keeps (kept_same c.loop-item.out.items c.write.new.out.items c.in_err-write.ensures.err)
 
 pub returns-in_err-write-clause-full : goal.returns-in_err-write-clause-full
 returns-in_err-write-clause-full g c =

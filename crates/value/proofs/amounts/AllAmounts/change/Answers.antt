@@ -24,4 +24,4 @@ pub returns : goal.returns
 returns g c =
     let all = map policy_of c.args.policies.now in
     let done = rest_none policy_of (λ (rest : List (Policy g.row.Q.Denot)). ChangingAll g.Q.Quantity.whole c.args.side c.args.self.now c.loop-policy.self all rest) c.args.policies.now c.loop-policy.policy-index c.loop-policy-test.false c.loop-policy.invariant in
-    record { sums = changing_all_policies g.Q.Quantity.whole c.args.side c.args.self.now c.loop-policy.self all done; bounded = done.bounded tt }
+    record { sums = changing_all_policies g.Q.Quantity.whole c.args.side c.args.self.now c.loop-policy.self all done; bounded = done.bounded tt; others = done.touched.others }

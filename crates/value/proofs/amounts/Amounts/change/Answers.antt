@@ -33,9 +33,10 @@ loop-token-preserved g c =
     (λ name. rw (c.deref.ensures.value, by) at (c.put.ensures.sums name))
     c.put.ensures.kept
     (subst (IsWithin quantity_limit) c.to_whole.ensures.is c.to_whole.ensures.within)
+    (λ q. rw c.deref.ensures.value at (c.put.ensures.others q))
 
 pub returns : goal.returns
 returns g c =
     let all = map token_of c.args.tokens.now in
     let done = rest_none token_of (λ (rest : List (Token g.row.Q.Denot)). Changing g.Q.Quantity.whole c.args.side c.args.self.now c.loop-token.self all rest) c.args.tokens.now c.loop-token.token-index c.loop-token-test.false c.loop-token.invariant in
-    record { sums = changing_all g.Q.Quantity.whole c.args.side c.args.self.now c.loop-token.self all done; bounded = done.bounded tt }
+    record { sums = changing_all g.Q.Quantity.whole c.args.side c.args.self.now c.loop-token.self all done; bounded = done.bounded tt; others = done.touched.others }

@@ -2,6 +2,7 @@ use Rattle.std.proofs.Common.{sym, ◌∙◌, ap, subst, ℤ, Option, ◌^◌}
 use Rattle.std.specs.Option.{option_copied_mut}
 use Rattle.value.specs.Quantities.{IsWithin}
 use Rattle.value.specs.Sums.{or_zero}
+use Rattle.byte_keys.proofs.ForCallers.{set_apart}
 use Rattle.value.proofs.Sums.{written, put_amount, put_keeps}
 use Rattle.value.proofs.amounts.Amounts.put.Goals as goal
 
@@ -14,3 +15,6 @@ returns-in-Some-clause-sums c = λ q.
 
 pub returns-in-Some-clause-kept : goal.returns-in-Some-clause-kept
 returns-in-Some-clause-kept c = λ q had. rw ((c.get_mut.follows.holds _).0) (put_keeps (λ k. k.items) q c.args.name.now c.args.self.now.by_name.entries _ c.requires.present had)
+
+pub returns-in-Some-clause-others : goal.returns-in-Some-clause-others
+returns-in-Some-clause-others c = λ q apart. rw ((c.get_mut.follows.holds _).0) (set_apart (λ k. k.items) q c.args.name.now c.args.self.now.by_name.entries _ c.requires.present apart)

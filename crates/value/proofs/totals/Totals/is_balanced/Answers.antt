@@ -4,6 +4,7 @@ use Rattle.model.specs.Value.{Asset, Ada, Named}
 use Rattle.value.specs.declared.amounts.AllAmounts.{AllAmounts}
 use Rattle.value.specs.Sums.{amount_in, total_in}
 use Rattle.value.proofs.Summing.{coin_from_bits}
+use Rattle.value.proofs.Listing.{none_listed}
 use Rattle.value.proofs.totals.Totals.is_balanced.Goals as goal
 use mir.Syntax.{w128}
 
@@ -13,10 +14,11 @@ nothing coin all ada none Ada = ada
 nothing coin all ada none (Named policy name) = none policy name
 
 pub returns-then-self-eq0 : goal.returns-then-self-eq0
-returns-then-self-eq0 c = (
-  λ yes. nothing c.args.self.now.coin c.args.self.now.assets (coin_from_bits c.args.self.now.values c.args.self.now.coin c.args.self.now.few (c.args.self.now.within Ada) c.if-self-eq0.true) (c.is_zero.ensures.0 yes),
-  λ zero. c.is_zero.ensures.1 (λ policy name. zero (Named policy name)),
-)
+returns-then-self-eq0 c =
+    let none = none_listed c.args.self.now.assets c.args.self.now.tidy in (
+      λ yes. nothing c.args.self.now.coin c.args.self.now.assets (coin_from_bits c.args.self.now.values c.args.self.now.coin c.args.self.now.few (c.args.self.now.within Ada) c.if-self-eq0.true) (none.0 (c.is_empty.ensures.0 yes)),
+      λ zero. c.is_empty.ensures.1 (none.1 (λ policy name. zero (Named policy name))),
+    )
 
 pub returns-else-self-eq0 : goal.returns-else-self-eq0
 returns-else-self-eq0 c = (

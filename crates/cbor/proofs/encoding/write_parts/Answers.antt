@@ -2,7 +2,7 @@ use Rattle.std.proofs.Common.{refl, arith}
 use Rattle.std.proofs.lemmas.Result.{on_ok_weaker, on_err_weaker}
 use Rattle.cbor.proofs.ShapeWrites.{kept, kept_on, whatever_err}
 use Rattle.cbor.proofs.ListWrites.{list_written, array_head_lacks_room, items_lack_room}
-use Rattle.cbor.proofs.encoding.write_list_array.Goals as goal
+use Rattle.cbor.proofs.encoding.write_parts.Goals as goal
 
 pub returns-clause-ok : goal.returns-clause-ok
 returns-clause-ok g c = on_ok_weaker c.write_items.result (list_written g.T.Encode.item_of c.args.items.now _ c.args.out.now.items c.write_array.new.out.items c.write_items.new.out.items refl c.in_ok-write_array.ensures.ok) c.write_items.ensures.ok

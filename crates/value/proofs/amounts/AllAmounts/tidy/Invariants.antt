@@ -1,0 +1,7 @@
+use Rattle.std.proofs.Common.{map, drop}
+use Rattle.value.specs.View.{policy_of}
+use Rattle.value.proofs.Tidying.{TidiedAll}
+use Rattle.value.proofs.amounts.AllAmounts.tidy.Given as goal
+
+abbrev pub invariant-loop-policy : goal.invariant-loop-policy
+invariant-loop-policy g l = TidiedAll l.fn.self l.self (map policy_of l.policies) (map policy_of (drop l.policy-index l.policies))
