@@ -6,6 +6,7 @@ pub mod Tips
 pub mod Refusals
 pub mod Arrivals
 pub mod Runs
+pub mod Reached
 pub mod ForgedTexts
 pub mod Results
 pub mod Points

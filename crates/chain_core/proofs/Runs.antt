@@ -1,60 +1,53 @@
 -- A run of the core, one event after the other.
-use Rattle.std.proofs.Common.{◌≡◌, ℕ, ◌+◌, ◌<◌, ◌++◌, List, [], ◌∷◌, length, take, get_or, refl, sym, ap, subst, ◌∙◌, arith}
-use Rattle.std.proofs.lemmas.List.{take_more, length-take}
+use Rattle.std.proofs.Common.{◌≡◌, ℕ, ◌+◌, ◌<◌, ◌++◌, List, [], ◌∷◌, length, take, get_or, refl, sym, ap, subst, ◌∙◌}
+use Rattle.std.proofs.lemmas.List.{take_more}
 use Rattle.model.specs.Genesis.{Genesis}
 use Rattle.model.specs.Signature.{Verifies}
 use Rattle.model.specs.Ledger.{Network, network_of}
-use Rattle.model.specs.History.{State, opening, Entry, Step, IsRun, ChainTheorem}
-use Rattle.model.proofs.ToldChains.{run_on, theorem_of_legal}
+use Rattle.model.specs.History.{State, opening, IsRun, ChainTheorem}
+use Rattle.model.proofs.ToldChains.{theorem_of_legal}
 use Rattle.chain_core.specs.declared.event.RawEvent.{RawEvent}
 use Rattle.chain_core.specs.declared.event.Reply.{Reply}
-use Rattle.chain_core.specs.Views.{event_of, reply_of, history_of, IsReplyTo, AreRepliesTo}
+use Rattle.chain_core.specs.Views.{history_of, AreRepliesTo}
+use Rattle.chain_core.specs.Calls.{IsCall, AreCalls}
 use Rattle.chain_core.specs.Held.{Held, Stands, opening_held}
 
 -- a new core stands for the opening state
 pub opening_stands : (genesis : Genesis) → Stands (opening_held genesis) opening
 opening_stands genesis = record { chain = refl; mempool = refl; followers = tt; members = λ b. ((λ member. member), (λ member. member)); count = refl; chain_kept = tt }
 
-history_more : {S : Type 0} (es : List RawEvent) (rs : List (Reply S)) (e : RawEvent) (r : Reply S) → length es ≡ length rs → history_of (es ++ e ∷ []) (rs ++ r ∷ []) ≡ history_of es rs ++ record { event = event_of e; reply = reply_of r } ∷ []
-history_more [] [] e r long = refl
-history_more [] (y ∷ ys) e r long = absurd (omega arith)
-history_more (x ∷ xs) [] e r long = absurd (omega arith)
-history_more (x ∷ xs) (y ∷ ys) e r long = ap (λ h. record { event = event_of x; reply = reply_of y } ∷ h) (history_more xs ys e r (omega arith))
+-- one call more
+pub calls_more : {S : Type 0} (verifies : Verifies) (old : Held) (es : List RawEvent) (rs : List (Reply S)) (mid : Held) (e : RawEvent) (r : Reply S) (new : Held) → AreCalls verifies old es rs mid → IsCall verifies mid e r new → AreCalls verifies old (es ++ e ∷ []) (rs ++ r ∷ []) new
+calls_more verifies old [] [] mid e r new so_far call = (new, subst (λ (h : Held). IsCall verifies h e r new) so_far call, refl)
+calls_more verifies old [] (y ∷ ys) mid e r new so_far call = absurd so_far
+calls_more verifies old (x ∷ xs) [] mid e r new so_far call = absurd so_far
+calls_more verifies old (x ∷ xs) (y ∷ ys) mid e r new so_far call = (so_far.0, so_far.1, calls_more verifies so_far.0 xs ys mid e r new so_far.2 call)
 
--- what a core made of the events so far, for every state that it stood for
+pub calls_with : {S : Type 0} (verifies : Verifies) (old : Held) (events : List RawEvent) (i : ℕ) (e : RawEvent) (replies : List (Reply S)) (r : Reply S) (mid new : Held) → i < length events → e ≡ get_or events i e → AreCalls verifies old (take i events) replies mid → IsCall verifies mid e r new
+    → AreCalls verifies old (take (i + 1) events) (replies ++ r ∷ []) new
+calls_with verifies old events i e replies r mid new below at so_far call =
+    let here : take (i + 1) events ≡ take i events ++ e ∷ [] = take_more events i e below ∙ ap (λ (x : RawEvent). take i events ++ x ∷ []) (sym at) in
+    subst (λ (es : List RawEvent). AreCalls verifies old es (replies ++ r ∷ []) new) (sym here) (calls_more verifies old (take i events) replies mid e r new so_far call)
+
+-- each has a reply of its kind
+pub kinds_of : {S : Type 0} (verifies : Verifies) (old : Held) (es : List RawEvent) (rs : List (Reply S)) (new : Held) → AreCalls verifies old es rs new → AreRepliesTo es rs
+kinds_of verifies old [] [] new calls = tt
+kinds_of verifies old [] (y ∷ ys) new calls = absurd calls
+kinds_of verifies old (x ∷ xs) [] new calls = absurd calls
+kinds_of verifies old (x ∷ xs) (y ∷ ys) new calls = (calls.1.kind, kinds_of verifies calls.0 xs ys new calls.2)
+
+-- what a core made of events, for every state that it stood for
 abbrev pub Ran : {S : Type 0} → Verifies → Held → List RawEvent → List (Reply S) → Held → Type 0
 Ran verifies old events replies new = (s : State) → Stands old s → (t : State) × IsRun (network_of old.genesis verifies) s (history_of events replies) t × Stands new t
 
--- one event more
-pub ran_more : {S : Type 0} (verifies : Verifies) (old : Held) (events : List RawEvent) (i : ℕ) (e : RawEvent) (replies : List (Reply S)) (r : Reply S) (mid new : Held) → i < length events → e ≡ get_or events i e → length replies ≡ i
-    → Ran verifies old (take i events) replies mid → mid.genesis ≡ old.genesis
-    → ((s : State) → Stands mid s → (t : State) × Step (network_of mid.genesis verifies) s (event_of e) (reply_of r) t × Stands new t)
-    → Ran verifies old (take (i + 1) events) (replies ++ r ∷ []) new
-ran_more verifies old events i e replies r mid new below is long ran same step s stands =
-    let before = ran s stands in
-    let after = step before.0 before.2 in
-    let here : take (i + 1) events ≡ take i events ++ e ∷ [] = take_more events i e below ∙ ap (λ (x : RawEvent). take i events ++ x ∷ []) (sym is) in
-    let longer : history_of (take (i + 1) events) (replies ++ r ∷ []) ≡ history_of (take i events) replies ++ record { event = event_of e; reply = reply_of r } ∷ [] =
-    ap (λ (es : List RawEvent). history_of es (replies ++ r ∷ [])) here ∙ history_more (take i events) replies e r (omega (arith, length-take i events)) in
-    let stepped : Step (network_of old.genesis verifies) before.0 (event_of e) (reply_of r) after.0 = subst (λ (g : Genesis). Step (network_of g verifies) before.0 (event_of e) (reply_of r) after.0) same after.1 in (
-      after.0,
-      subst (λ (h : List Entry). IsRun (network_of old.genesis verifies) s h after.0) (sym longer)
-          (run_on (network_of old.genesis verifies) s (history_of (take i events) replies) before.0 (record { event = event_of e; reply = reply_of r }) after.0 before.1 stepped),
-      after.2,
-    )
-
--- replies of the kinds of their events, and one more
-pub kinds_more : {S : Type 0} (es : List RawEvent) (rs : List (Reply S)) (e : RawEvent) (r : Reply S) → AreRepliesTo es rs → IsReplyTo e r → AreRepliesTo (es ++ e ∷ []) (rs ++ r ∷ [])
-kinds_more [] [] e r so_far is = (is, tt)
-kinds_more [] (y ∷ ys) e r so_far is = absurd so_far
-kinds_more (x ∷ xs) [] e r so_far is = absurd so_far
-kinds_more (x ∷ xs) (y ∷ ys) e r so_far is = (so_far.0, kinds_more xs ys e r so_far.1 is)
-
-pub kinds_with : {S : Type 0} (events : List RawEvent) (i : ℕ) (e : RawEvent) (replies : List (Reply S)) (r : Reply S) → i < length events → e ≡ get_or events i e → AreRepliesTo (take i events) replies → IsReplyTo e r
-    → AreRepliesTo (take (i + 1) events) (replies ++ r ∷ [])
-kinds_with events i e replies r below at so_far is =
-    let here : take (i + 1) events ≡ take i events ++ e ∷ [] = take_more events i e below ∙ ap (λ (x : RawEvent). take i events ++ x ∷ []) (sym at) in
-    subst (λ (es : List RawEvent). AreRepliesTo es (replies ++ r ∷ [])) (sym here) (kinds_more (take i events) replies e r so_far is)
+pub ran_of : {S : Type 0} (verifies : Verifies) (old : Held) (es : List RawEvent) (rs : List (Reply S)) (new : Held) → AreCalls verifies old es rs new → Ran verifies old es rs new
+ran_of verifies old [] [] new calls s stands = (s, refl, subst (λ (h : Held). Stands h s) (sym calls) stands)
+ran_of verifies old [] (y ∷ ys) new calls s stands = absurd calls
+ran_of verifies old (x ∷ xs) [] new calls s stands = absurd calls
+ran_of verifies old (x ∷ xs) (y ∷ ys) new calls s stands =
+    let first = calls.1.step s stands in
+    let rest = ran_of verifies calls.0 xs ys new calls.2 first.0 first.2 in
+    (rest.0, (first.0, first.1, subst (λ (g : Genesis). IsRun (network_of g verifies) first.0 (history_of xs ys) rest.0) calls.1.genesis rest.1), rest.2)
 
 -- a run from a new core
 pub theorem_of : {S : Type 0} (network : Network) (old : Held) (events : List RawEvent) (replies : List (Reply S)) (new : Held) → old ≡ opening_held network.genesis → Ran network.verifies old events replies new

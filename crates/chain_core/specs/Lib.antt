@@ -1,4 +1,5 @@
 pub mod Held
+pub mod Steps
 pub mod Pools
 pub mod ChainDbs
 pub mod Views
@@ -7,4 +8,5 @@ pub mod Judgements
 pub mod ForgedBlocks
 pub mod Inside
 pub mod FollowerCalls
+pub mod Calls
 pub mod PastHashes

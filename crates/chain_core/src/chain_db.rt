@@ -4,7 +4,8 @@ ghost use Rattle.std.specs.Prelude.{◌≡◌, ◌≤◌, ◌<◌, ◌+◌, ◌-
 ghost use Rattle.std.specs.Prelude.{vec_capacity};
 ghost use Rattle.std.specs.List.{AllByRecursion};
 ghost use Rattle.model.specs.Genesis.{Genesis};
-ghost use Rattle.model.specs.Transaction.{Transaction, SpellsTransaction};
+ghost use Rattle.model.specs.Cbor.{text_of};
+ghost use Rattle.model.specs.Transaction.{Transaction, SpellsTransaction, item_of_transaction};
 ghost use Rattle.tx.specs.Bare.{IsBare};
 ghost use Rattle.mempool.specs.View.{reply_of};
 ghost use Rattle.model.specs.Block.{Block};
@@ -249,6 +250,7 @@ impl<S: SigScheme> ChainDb<S> {
             IsTaken (network_of genesis S.verifies) self.old bytes (reply_of reply) self.new) }
         ensures whole { (genesis : Genesis) → IsWhole (network_of genesis S.verifies) self.old →
             IsWhole (network_of genesis S.verifies) self.new }
+        ensures spelled { SpellsTransaction tx (text_of (item_of_transaction tx)) }
         ensures chain { self.new.chain ≡ self.old.chain }
         ensures store { self.new.store ≡ self.old.store }
         ensures db { self.new.db ≡ self.old.db }

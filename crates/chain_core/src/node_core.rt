@@ -52,22 +52,25 @@ impl<S: SigScheme> Model for Core<S> {
 }
 
 impl<S: SigScheme> Core<S> {
-    ghost use Rattle.std.specs.Prelude.{◌≡◌, ◌≤◌, ℕ, List, [], length, Some, IfOk, IfErr, OnErr, map};
-    ghost use Rattle.model.specs.Transaction.{Transaction, SpellsTransaction};
-    ghost use Rattle.tx.specs.Bare.{IsBare};
-    ghost use Rattle.chain_core.specs.Pools.{IsWantOf};
+    ghost use Rattle.std.specs.Prelude.{◌≡◌, ◌≤◌, ◌+◌, ℕ, List, [], length, Some, IfOk, IfErr, OnErr, map};
+    ghost use Rattle.model.specs.Transaction.{SpellsTransaction};
+    ghost use Rattle.model.specs.Utxo.{coin_of, outputs_of};
     ghost use Rattle.model.specs.Block.{Block as Plain, SpellsBlock};
     ghost use Rattle.model.specs.Chain.{tip_point};
+    ghost use Rattle.model.specs.Genesis.{supply_of};
     ghost use Rattle.model.specs.Ledger.{Ledger, network_of, ledger_of};
     ghost use Rattle.model.specs.Limits.{block_size_limit};
+    ghost use Rattle.model.specs.Forging.{ArrivesNext};
     ghost use Rattle.model.specs.History as history;
-    ghost use Rattle.model.specs.History.{State, Arrive, Submit, Open, Next, Forward, Close, Step, IsRun, ChainTheorem};
-    ghost use Rattle.model.specs.History.{Applies};
+    ghost use Rattle.model.specs.History.{State, Entry, Arrive, Submit, Open, Next, Forward, Close, IsRun, Applies};
+    ghost use Rattle.model.specs.History.{ChainTheorem};
     ghost use Rattle.ident.specs.PointView.{point_of};
     ghost use Rattle.chain_core.specs.Views.{event_of, reply_of, arrive_reply_of, submit_reply_of, open_reply_of};
     ghost use Rattle.chain_core.specs.Views.{next_reply_of, forward_reply_of, close_reply_of, history_of, IsReplyTo};
     ghost use Rattle.chain_core.specs.Views.{AreRepliesTo};
-    ghost use Rattle.model.specs.Forging.{ArrivesNext};
+    ghost use Rattle.chain_core.specs.Steps.{Steps};
+    ghost use Rattle.chain_core.specs.Calls.{IsWantAtArrival, IsWantAtSubmission, IsWantAt, IsLeftAt, AreCalls};
+    ghost use Rattle.chain_core.specs.Pools.{IsWantOf};
     ghost use Rattle.chain_core.specs.FollowerCalls.{IsWantAtOpening, IsWantAtNext};
     ghost use Rattle.chain_core.specs.ForgedBlocks.{IsForgedAs, IsForgeFault};
     ghost use Rattle.chain_core.specs.Held.{opening_held, Stands};
@@ -97,13 +100,10 @@ impl<S: SigScheme> Core<S> {
     /// mempool is judged once. Each follower is looked at once.
     pub fn arrive(&mut self, bytes: &[u8]) -> Result<ArriveReply, AllocError>
         // For every state of the definitions that the core stands for, this is a step to one that it then stands for.
-        ensures step { (s : State) → Stands self.old s → (t : State)
-            × Step (network_of self.old.genesis S.verifies) s (Arrive bytes.now) (arrive_reply_of result) t
-            × Stands self.new t }
-        // Memory is asked for while transactions are read, and else only where no refusal applies.
-        ensures memory { OnErr result ((b : Plain) → SpellsBlock b bytes.now → b.transactions ≡ [] →
-            (s : State) → Stands self.old s → (refusal : history.Refusal) →
-            Applies self.old.genesis s bytes.now refusal → ⊥) }
+        ensures step { Steps S.verifies self.old (Arrive bytes.now) (arrive_reply_of result) self.new }
+        // Where the bytes are the text of a block without transactions, memory is asked for only where no refusal
+        // applies.
+        ensures memory { OnErr result (IsWantAtArrival self.old bytes.now) }
         ensures size { OnErr result (length bytes.now ≤ block_size_limit) }
         ensures genesis { self.new.genesis ≡ self.old.genesis }
         ensures err { OnErr result (self.new ≡ self.old) }
@@ -137,9 +137,7 @@ impl<S: SigScheme> Core<S> {
     /// is then refused. A refusal takes no memory. The rest takes as long as for [`Core::arrive`].
     pub fn arrive_seen(&mut self, seen: Seen<S>) -> Result<ArriveReply, AllocError>
         // For every state of the definitions that the core stands for, this is a step to one that it then stands for.
-        ensures step { (s : State) → Stands self.old s → (t : State)
-            × Step (network_of self.old.genesis S.verifies) s (Arrive seen) (arrive_reply_of result) t
-            × Stands self.new t }
+        ensures step { Steps S.verifies self.old (Arrive seen) (arrive_reply_of result) self.new }
         // Memory is asked for only where no refusal applies.
         ensures memory { OnErr result ((s : State) → Stands self.old s → (refusal : history.Refusal) →
             Applies self.old.genesis s seen refusal → ⊥) }
@@ -175,11 +173,9 @@ impl<S: SigScheme> Core<S> {
     /// the reasons 1 to 7 is there, has its signatures verified. Memory is asked for from the first part of a
     /// transaction on that is read.
     pub fn submit(&mut self, bytes: &[u8]) -> Result<SubmitReply, AllocError>
-        ensures step { (s : State) → Stands self.old s → (t : State)
-            × Step (network_of self.old.genesis S.verifies) s (Submit bytes.now) (submit_reply_of result) t
-            × Stands self.new t }
-        // Memory is asked for while the parts of a transaction are read, and then only where the answer isn't known.
-        ensures memory { OnErr result ((t : Transaction) → SpellsTransaction t bytes.now → IsBare t → ⊥) }
+        ensures step { Steps S.verifies self.old (Submit bytes.now) (submit_reply_of result) self.new }
+        // Where the bytes are the text of a transaction without parts, no memory is asked for.
+        ensures memory { OnErr result (IsWantAtSubmission bytes.now) }
         ensures genesis { self.new.genesis ≡ self.old.genesis }
         ensures err { OnErr result (self.new ≡ self.old) }
     {
@@ -190,9 +186,8 @@ impl<S: SigScheme> Core<S> {
     /// answer is that of [`Core::submit`] to its bytes. Where memory runs out nothing changes; it is asked for only
     /// where the transaction isn't known, and none of the reasons 1 to 7 is there.
     pub fn submit_checked(&mut self, tx: CheckedTx<S>) -> Result<SubmitReply, AllocError>
-        ensures step { (bytes : List ℕ) → SpellsTransaction tx bytes → (s : State) → Stands self.old s → (t : State)
-            × Step (network_of self.old.genesis S.verifies) s (Submit bytes) (submit_reply_of result) t
-            × Stands self.new t }
+        ensures step { (bytes : List ℕ) → SpellsTransaction tx bytes →
+            Steps S.verifies self.old (Submit bytes) (submit_reply_of result) self.new }
         // Memory is asked for only where it isn't known without it what is answered.
         ensures memory { OnErr result ((bytes : List ℕ) → SpellsTransaction tx bytes →
             IsWantOf (network_of self.old.genesis S.verifies) self.old.chain self.old.mempool bytes) }
@@ -241,9 +236,7 @@ impl<S: SigScheme> Core<S> {
     /// there are 1,024, or memory runs out, nothing changes. Takes time that grows with the logarithm of
     /// how many lower numbers are free.
     pub fn open(&mut self) -> Result<FollowerId, OpenFault>
-        ensures step { (s : State) → Stands self.old s → (t : State)
-            × Step (network_of self.old.genesis S.verifies) s Open (open_reply_of result) t
-            × Stands self.new t }
+        ensures step { Steps S.verifies self.old Open (open_reply_of result) self.new }
         // Memory is asked for only where a number is free.
         ensures memory { IfErr result (IsWantAtOpening self.old) }
         ensures genesis { self.new.genesis ≡ self.old.genesis }
@@ -262,9 +255,7 @@ impl<S: SigScheme> Core<S> {
     /// Where no such follower is open, or memory runs out, nothing changes. Takes no memory where it answers nothing.
     /// In constant time, however far along the follower is. Shares the block, and copies none of its bytes.
     pub fn next(&mut self, id: FollowerId) -> Result<Option<Instruction<S>>, NextFault>
-        ensures step { (s : State) → Stands self.old s → (t : State)
-            × Step (network_of self.old.genesis S.verifies) s (Next id.number) (next_reply_of result) t
-            × Stands self.new t }
+        ensures step { Steps S.verifies self.old (Next id.number) (next_reply_of result) self.new }
         // Memory is asked for only where a block comes next.
         ensures memory { IfErr result (IsWantAtNext self.old id.number) }
         ensures genesis { self.new.genesis ≡ self.old.genesis }
@@ -287,10 +278,8 @@ impl<S: SigScheme> Core<S> {
         id: FollowerId,
         points: &[Point],
     ) -> Result<Option<Point>, UnknownFollower>
-        ensures step { (s : State) → Stands self.old s → (t : State)
-            × Step (network_of self.old.genesis S.verifies) s (Forward id.number (map point_of points.now))
-            (forward_reply_of result) t
-            × Stands self.new t }
+        ensures step { Steps S.verifies self.old (Forward id.number (map point_of points.now))
+            (forward_reply_of result) self.new }
         ensures genesis { self.new.genesis ≡ self.old.genesis }
         ensures err { OnErr result (self.new ≡ self.old) }
     {
@@ -307,9 +296,7 @@ impl<S: SigScheme> Core<S> {
     /// Closes the follower of this number, which may then be given again. Where no such follower is open nothing
     /// changes. In constant time, and takes no memory.
     pub fn close(&mut self, id: FollowerId) -> Result<(), UnknownFollower>
-        ensures step { (s : State) → Stands self.old s → (t : State)
-            × Step (network_of self.old.genesis S.verifies) s (Close id.number) (close_reply_of result) t
-            × Stands self.new t }
+        ensures step { Steps S.verifies self.old (Close id.number) (close_reply_of result) self.new }
         ensures genesis { self.new.genesis ≡ self.old.genesis }
         ensures err { OnErr result (self.new ≡ self.old) }
     {
@@ -318,11 +305,11 @@ impl<S: SigScheme> Core<S> {
 
     /// Answers one event.
     fn answer(&mut self, event: &RawEvent) -> Reply<S>
-        ensures step { (s : State) → Stands self.old s → (t : State)
-            × Step (network_of self.old.genesis S.verifies) s (event_of event.now) (reply_of result) t
-            × Stands self.new t }
+        ensures step { Steps S.verifies self.old (event_of event.now) (reply_of result) self.new }
         ensures kind { IsReplyTo event.now result }
+        ensures want { IsWantAt self.old event.now result }
         ensures genesis { self.new.genesis ≡ self.old.genesis }
+        ensures left { IsLeftAt self.old result self.new }
     {
         match event {
             RawEvent::Arrive(bytes) => Reply::Arrive(self.arrive(bytes)),
@@ -337,6 +324,8 @@ impl<S: SigScheme> Core<S> {
     /// Answers events in their order, one reply to each. Room for the replies is taken first: where memory runs
     /// out there, no event has come.
     pub fn run(&mut self, events: &[RawEvent]) -> Result<Vec<Reply<S>>, AllocError>
+        // Each is answered by its call, so what the calls promise holds of each, also of want of memory.
+        ensures calls { IfOk result (λ replies. AreCalls S.verifies self.old events.now replies.items self.new) }
         // Each event has a reply of its kind.
         ensures kinds { IfOk result (λ replies. AreRepliesTo events.now replies.items) }
         // For every state of the definitions that the core stands for, the events with the replies are a run to one
@@ -361,7 +350,10 @@ impl<S: SigScheme> Core<S> {
 
     /// The last block of the selected chain, or the genesis point. Takes no memory.
     pub fn tip(&self) -> Point
-        ensures { point_of result ≡ tip_point self.now.chain }
+        ensures tip { point_of result ≡ tip_point self.now.chain }
+        // Every core stands for the state that a legal history leaves, and the chain theorem holds of it.
+        ensures theorem { (history : List Entry) × (s : State)
+            × ChainTheorem (network_of self.now.genesis S.verifies) history s × Stands self.now s }
     {
         end_of(&self.chain_db.chain)
     }
@@ -384,8 +376,13 @@ impl<S: SigScheme> Core<S> {
 
     /// The fees of all transactions of the selected chain, in lovelace. Takes no memory.
     pub fn fees(&self) -> u64
-        ensures { (ledger : Ledger) × (ledger_of (network_of self.now.genesis S.verifies) self.now.chain ≡ Some ledger)
+        ensures fees { (ledger : Ledger)
+            × (ledger_of (network_of self.now.genesis S.verifies) self.now.chain ≡ Some ledger)
             × (result ≡ ledger.fees) }
+        // With what the unspent outputs hold they are what the genesis granted.
+        ensures supply { (ledger : Ledger)
+            → ledger_of (network_of self.now.genesis S.verifies) self.now.chain ≡ Some ledger
+            → coin_of (outputs_of ledger.utxo) + result ≡ supply_of self.now.genesis }
     {
         self.chain_db.state().fees()
     }

@@ -1,10 +1,10 @@
 -- What each step keeps of followers, and that it leaves nothing open.
-use Rattle.std.proofs.Common.{◌≡◌, ◌≢◌, ℕ, zero, suc, ◌+◌, ◌-◌, ◌<◌, ◌≤◌, List, [], ◌∷◌, ◌++◌, length, take, drop, min, Option, Some, None, Bool, true, false, refl, sym, ap, subst, ◌∙◌, inl, inr, ◌⊎◌, arith, le_antisymm}
+use Rattle.std.proofs.Common.{◌≡◌, ◌≢◌, ℕ, zero, suc, ◌+◌, ◌-◌, ◌<◌, ◌≤◌, List, [], ◌∷◌, ◌++◌, length, take, drop, min, Option, Some, None, refl, sym, ap, subst, ◌∙◌, inl, inr, ◌⊎◌, arith, le_antisymm}
 use Rattle.std.specs.Prelude.{slice_get, slice_set, ◌↔◌}
 use Rattle.std.proofs.lemmas.List.{length-append, length-take, take-take, take_min, take-append-drop}
 use Rattle.std.proofs.lemmas.Option.{slice_get_within}
 use Rattle.model.specs.Block.{Block, SpellsBlock, block_text}
-use Rattle.model.specs.Chain.{Point, genesis_tip, tip_after, tip_point, IsLinked, BeginsWith}
+use Rattle.model.specs.Chain.{Point, genesis_tip, tip_point, IsLinked, BeginsWith}
 use Rattle.model.specs.Follower.{Follower, Followers, standing_at, follower_of, free_id, with_opened, IsCommonBeginning, IsMoved, AreMoved, Instruction, Stay, AddBlock, RollBack, IsNext, IsReplayed, left_to_tell}
 use Rattle.model.specs.History.{IsCommonLength}
 use Rattle.model.proofs.Chains.{linked_front, tip_number, begins_with_whole}

@@ -1,5 +1,5 @@
 -- What every legal history keeps, and that it determines its state.
-use Rattle.std.proofs.Common.{◌≡◌, ◌≢◌, ℕ, zero, suc, ◌<◌, ◌≤◌, ◌↔◌, Bool, true, false, cond, List, [], ◌∷◌, ◌++◌, Option, Some, None, take, length, Contains, refl, sym, ap, subst, ◌∙◌, arith, inl, inr, ◌⊎◌}
+use Rattle.std.proofs.Common.{◌≡◌, ◌≢◌, ℕ, zero, suc, ◌<◌, ◌≤◌, ◌↔◌, Bool, true, false, cond, List, [], ◌∷◌, Some, None, take, length, Contains, refl, sym, ap, subst, ◌∙◌, arith, inl, inr, ◌⊎◌}
 use Rattle.std.specs.Prelude.{nat_lt, slice_set}
 use Rattle.std.specs.List.{AllByRecursion, filter}
 use Rattle.std.proofs.lemmas.Bool.{lt-ltb, ltb-true}
@@ -9,12 +9,12 @@ use Rattle.model.specs.Ledger.{Network}
 use Rattle.model.specs.Chain.{IsValidChain, NoneLonger, IsSelection, Stays, Changes, HaveDistinctHashes, immutable_length, immutable_part, live_blocks, BeginsWith}
 use Rattle.model.specs.Mempool.{SubmitReply, IsValidPool, revalidated}
 use Rattle.model.specs.Follower.{Follower, Followers, Instruction, IsNext, AreMoved, follower_of, standing_at, with_opened}
-use Rattle.model.specs.History.{State, opening, live_of, Refusal, Known, Clash, Applies, Event, Arrive, Submit, Open, Next, Forward, Close, Reply, Kept, Refused, Submitted, Opened, TooManyFollowers, Instructed, Forwarded, Closed, UnknownFollower, OutOfMemory, Keeps, Takes, Instructs, Forwards, Closes, with_follower, state_forwarded, Step, Entry, IsRun, IsLegal, BringsBlock, IsKeptBy, length_with, length_from}
+use Rattle.model.specs.History.{State, opening, live_of, Refusal, Known, Clash, Applies, Event, Arrive, Submit, Open, Next, Forward, Close, Reply, Kept, Refused, Submitted, Opened, TooManyFollowers, Instructed, Forwarded, Closed, UnknownFollower, OutOfMemory, Keeps, Takes, Instructs, with_follower, Step, Entry, IsRun, IsLegal, BringsBlock, IsKeptBy, length_with, length_from}
 use Rattle.model.proofs.Lists.{all_weaker, all_from_members, all_filter_narrower, nothing_contained, contains_first, contains_later, contains_cases}
 use Rattle.model.proofs.Chains.{begins_with_itself, begins_earlier}
 use Rattle.model.proofs.Selections.{one_selection, selection_valid, selection_longer, selection_not_shorter, selection_begins, selection_longest}
 use Rattle.model.proofs.BlockTexts.{one_block, block_text_is}
-use Rattle.model.proofs.FollowerSteps.{IsSoundFollower, AllSound, begins_take, standing_sound, next_sound, next_one, moved_one, moved_all_sound, opened_all_sound, set_all_sound, closed_all_sound}
+use Rattle.model.proofs.FollowerSteps.{AllSound, begins_take, standing_sound, next_sound, next_one, moved_one, moved_all_sound, opened_all_sound, set_all_sound, closed_all_sound}
 use Rattle.model.proofs.MempoolSteps.{up_to_date, nothing_valid, submitted_valid, submitted_one}
 
 -- ---- live blocks have distinct hashes
@@ -200,8 +200,8 @@ legal_sound network history s legal = run_sound network opening history s (openi
 
 -- ---- a history determines its state
 
-keeps_one : (network : Network) (s : State) (bytes : List ℕ) (back added : ℕ) (t u : State) → IsSoundState network s → Keeps network s bytes back added t → Keeps network s bytes back added u → t ≡ u
-keeps_one network s bytes back added t u sound first second =
+pub keeps_one : (network : Network) (s : State) (bytes : List ℕ) (back added other_back other_added : ℕ) (t u : State) → IsSoundState network s → Keeps network s bytes back added t → Keeps network s bytes other_back other_added u → t ≡ u
+keeps_one network s bytes back added other_back other_added t u sound first second =
     let blocks : first.block ≡ second.block = one_block first.block second.block bytes first.read second.read in
     let kept : t.kept ≡ u.kept = first.kept ∙ (ap (λ (b : Block). b ∷ s.kept) blocks ∙ sym second.kept) in
     let distinct : HaveDistinctHashes (live_blocks network.genesis u.kept s.chain) = subst (λ (bs : List Block). HaveDistinctHashes (live_blocks network.genesis bs s.chain)) (sym second.kept) (distinct_with network.genesis s bytes second.block sound.distinct second.read second.not_refused) in
@@ -225,7 +225,7 @@ instructs_one s id instruction t u first second =
     first.after ∙ (ap (λ (f : Follower). with_follower s id (Some f)) new ∙ sym second.after)
 
 pub step_one : (network : Network) (s : State) (event : Event) (reply : Reply) (t u : State) → IsSoundState network s → Step network s event reply t → Step network s event reply u → t ≡ u
-step_one network s (Arrive bytes) (Kept back added) t u sound first second = keeps_one network s bytes back added t u sound first second
+step_one network s (Arrive bytes) (Kept back added) t u sound first second = keeps_one network s bytes back added back added t u sound first second
 step_one network s (Arrive bytes) (Refused refusal) t u sound first second = first.1 ∙ sym second.1
 step_one network s (Submit bytes) (Submitted answer) t u sound first second = takes_one network s bytes answer t u first second
 step_one network s Open (Opened id) t u sound first second = first.after ∙ sym second.after

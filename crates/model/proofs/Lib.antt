@@ -13,6 +13,7 @@ pub mod Selections
 pub mod Changes
 pub mod FollowerSteps
 pub mod LegalHistories
+pub mod OneReply
 pub mod ToldChains
 pub mod Unspent
 pub mod Reasons

@@ -1,15 +1,15 @@
 -- What followers were told, replayed, and the chain theorem.
-use Rattle.std.proofs.Common.{◌≡◌, ◌≢◌, ℕ, zero, suc, ◌+◌, ◌-◌, ◌≤◌, List, [], ◌∷◌, ◌++◌, length, take, Contains, Option, Some, None, refl, sym, ap, subst, ◌∙◌, inl, inr, ◌⊎◌, append_assoc, append-nil, eq-eqb, ne_eqb, arith}
+use Rattle.std.proofs.Common.{◌≡◌, ℕ, zero, suc, ◌-◌, ◌≤◌, List, [], ◌∷◌, ◌++◌, length, take, Contains, Some, None, refl, sym, ap, subst, ◌∙◌, inl, inr, append_assoc, append-nil, eq-eqb, ne_eqb, arith}
 use Rattle.std.specs.Prelude.{slice_set, slice_get}
 use Rattle.std.specs.List.{AllByRecursion}
 use Rattle.model.specs.Block.{Block, SpellsBlock, block_text}
 use Rattle.model.specs.Ledger.{Network}
-use Rattle.model.specs.Chain.{Point, BeginsWith}
-use Rattle.model.specs.Follower.{Follower, Followers, standing_at, follower_of, with_opened, free_id, Instruction, IsNext, IsReplayed, AreReplayed, left_to_tell}
-use Rattle.model.specs.History.{State, opening, Event, Arrive, Submit, Open, Next, Forward, Close, Reply, Kept, Refused, Submitted, Opened, TooManyFollowers, Instructed, Forwarded, Closed, UnknownFollower, OutOfMemory, Step, Entry, IsRun, IsLegal, WasSelected, SetsFollower, told_to, instructions_to, AreTold, WasTold, IsFollowing, ChainTheorem}
+use Rattle.model.specs.Chain.{BeginsWith}
+use Rattle.model.specs.Follower.{Follower, Followers, standing_at, follower_of, Instruction, IsReplayed, AreReplayed, left_to_tell}
+use Rattle.model.specs.History.{State, opening, Event, Arrive, Submit, Open, Next, Forward, Close, Reply, Kept, Refused, Submitted, Opened, TooManyFollowers, Instructed, Forwarded, Closed, UnknownFollower, OutOfMemory, Step, Entry, IsRun, IsLegal, WasSelected, SetsFollower, told_to, instructions_to, AreTold, WasTold, ChainTheorem}
 use Rattle.model.proofs.Lists.{all_of_member, all_push}
 use Rattle.model.proofs.LegalHistories.{HasItsText, IsSoundState, opening_sound, step_sound, legal_sound}
-use Rattle.model.proofs.FollowerSteps.{IsSoundFollower, begins_take, moved_at, opened_at, set_at, next_begins, next_replayed, next_at_end, next_leaves, nothing_left, next_sound}
+use Rattle.model.proofs.FollowerSteps.{begins_take, moved_at, opened_at, set_at, next_begins, next_replayed, next_at_end, next_leaves, nothing_left}
 
 -- ---- histories
 

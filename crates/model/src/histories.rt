@@ -8,8 +8,8 @@ ghost use Rattle.model.specs.Ledger.{Network};
 ghost use Rattle.model.specs.Chain.{IsValidChain, NoneLonger, IsSelection, IsCandidate, HaveDistinctHashes};
 ghost use Rattle.model.specs.Chain.{live_blocks, immutable_part, BeginsWith};
 ghost use Rattle.model.specs.Follower.{Follower, follower_of, left_to_tell};
-ghost use Rattle.model.specs.History.{State, Event, Reply, Kept, Entry, Step, IsRun, IsLegal, IsKeptBy, WasSelected};
-ghost use Rattle.model.specs.History.{ChainTheorem, AreTold, live_of, length_after};
+ghost use Rattle.model.specs.History.{State, Event, Reply, Kept, OutOfMemory, Entry, Step, IsRun, IsLegal, IsKeptBy};
+ghost use Rattle.model.specs.History.{WasSelected, ChainTheorem, AreTold, live_of, length_after};
 
 /// The selection rule has one answer at most, where no two live blocks have one hash.
 pub fn one_selection()
@@ -28,6 +28,13 @@ pub fn live_hashes_differ()
 pub fn one_state()
     ensures { (network : Network) (history : List Entry) (s t : State) → IsLegal network history s
         → IsLegal network history t → s ≡ t }
+{}
+
+/// After a legal history an event has one reply at most, but that memory may run out.
+pub fn one_reply()
+    ensures { (network : Network) (history : List Entry) (s : State) (event : Event) (reply other : Reply) (t u : State)
+        → IsLegal network history s → reply ≢ OutOfMemory → other ≢ OutOfMemory
+        → Step network s event reply t → Step network s event other u → reply ≡ other }
 {}
 
 /// The kept blocks are those whose arrival was answered so.

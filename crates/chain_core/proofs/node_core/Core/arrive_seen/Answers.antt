@@ -1,12 +1,14 @@
 use Rattle.std.proofs.Common.{◌≡◌, ◌-◌, ◌∙◌, None, length, ap, rules}
 use Rattle.block.specs.Read.{IsRead}
 use Rattle.model.specs.Ledger.{network_of}
-use Rattle.model.specs.History.{State}
+use Rattle.model.specs.History.{State, Arrive, Kept}
 use Rattle.followers.specs.Places.{moved_places}
 use Rattle.chain_core.specs.ChainDbs.{HasState}
 use Rattle.chain_core.specs.Views.{refusal_of}
 use Rattle.chain_core.proofs.Arrivals.{at_rest, rests, is_ready, IsJudgedAt, refused_arrival, none_applies, kept_arrival}
+use Rattle.chain_core.specs.Inside.{held}
 use Rattle.chain_core.proofs.Adding.{whole_same}
+use Rattle.chain_core.proofs.Reached.{reached_on, reached_still}
 use Rattle.chain_core.proofs.Results.{on_err}
 use Rattle.chain_core.proofs.node_core.Core.arrive_seen.Goals as goal
 
@@ -22,7 +24,15 @@ add-requires-clause-ready g c =
     is_ready (network_of c.self.inside.genesis g.S.SigScheme.verifies) c.self.inside.chain_db c.in-Ok.block c.args.seen c.self.invariant.whole read (judged (at_rest c.self.inside.chain_db) (rests (network_of c.self.inside.genesis g.S.SigScheme.verifies) c.self.inside.chain_db c.self.invariant.whole))
 
 pub invariant_of-self-2 : goal.invariant_of-self-2
-invariant_of-self-2 g c = record { whole = c.in_ok-change.ensures.ok.whole }
+invariant_of-self-2 g c =
+    let judged : IsJudgedAt c.self.inside.genesis c.self.inside.chain_db c.in-Ok.block None = λ (s : State) (has : HasState c.self.inside.genesis c.self.inside.chain_db s). c.in_default.ensures (network_of c.self.inside.genesis g.S.SigScheme.verifies) s c.in-Ok.block c.self.invariant.whole has c.bytes.ensures (c.point.ensures.number, c.point.ensures.hash) in
+    let read : IsRead c.in-Ok.block c.args.seen = c.in-Ok.ensures.block in
+    record {
+      whole = c.in_ok-change.ensures.ok.whole;
+      reached = reached_on g.S.SigScheme.verifies (held c.self.inside) c.args.self.now _ (Arrive c.args.seen) (Kept c.in_ok-change.change.back c.in_ok-change.change.added) c.self.view_is c.self.invariant.reached
+          (kept_arrival (network_of c.self.inside.genesis g.S.SigScheme.verifies) c.self.inside.chain_db c.add.new.self c.self.inside.followers c.moved.new.self c.args.self.now c.args.seen c.in-Ok.block c.in_ok-change.change c.self.view_is read judged c.in_ok-change.ensures.ok
+          (c.moved.ensures ∙ ap (λ n. moved_places (n - c.in_ok-change.change.added) c.self.inside.followers) (let size : c.len.result ≡ length c.add.new.self.chain.items = search rules in size)));
+    }
 
 pub returns-clause-step : goal.returns-clause-step
 returns-clause-step g c =
@@ -37,6 +47,7 @@ returns-in_err-change-clause-memory g c =
 
 pub invariant_of-self : goal.invariant_of-self
 invariant_of-self g c = record {
+  reached = reached_still (network_of c.self.inside.genesis g.S.SigScheme.verifies) c.self.inside.chain_db c.add.new.self c.self.inside.followers c.in_err-change.ensures.chain c.in_err-change.ensures.store c.in_err-change.ensures.mempool c.self.invariant.reached;
   whole = whole_same (network_of c.self.inside.genesis g.S.SigScheme.verifies) c.self.inside.chain_db c.add.new.self c.in_err-change.ensures.chain c.in_err-change.ensures.store c.in_err-change.ensures.db c.in_err-change.ensures.mempool
       c.add.ensures.past c.self.invariant.whole;
 }

@@ -1,6 +1,18 @@
 use Rattle.blockstore.specs.Stored.{blocks_of}
+use Rattle.model.specs.History.{Open}
+use Rattle.chain_core.specs.Views.{open_reply_of}
+use Rattle.chain_core.specs.Inside.{held}
+use Rattle.chain_core.proofs.Reached.{reached_on}
 use Rattle.chain_core.proofs.FollowerCalls.{opened, want_at_opening}
 use Rattle.chain_core.proofs.node_core.Core.open.Goals as goal
+
+pub invariant_of-self : goal.invariant_of-self
+invariant_of-self g c = record {
+  whole = c.self.invariant.whole;
+  reached = reached_on g.S.SigScheme.verifies (held c.self.inside) c.args.self.now _ Open (open_reply_of c.open.result) c.self.view_is c.self.invariant.reached
+      (opened g.S.SigScheme.verifies c.self.inside.genesis (blocks_of c.self.inside.chain_db.store) c.self.inside.chain_db.chain.items c.self.inside.chain_db.mempool.waiting.txs c.self.inside.followers c.open.new.self c.args.self.now c.open.result
+      c.self.view_is c.open.ensures.ok c.open.ensures.fault c.open.ensures.err);
+}
 
 pub returns-clause-step : goal.returns-clause-step
 returns-clause-step g c =
