@@ -44,7 +44,7 @@ fn bring_all<R: Wait, B: Room>(
     rt: &R,
     shared: &Shared<TestScheme, B>,
     caller: &mut Caller<B>,
-    texts: &[Vec<u8>],
+    texts: Vec<Vec<u8>>,
 ) -> u64 {
     let mut calls = 0u64;
     for text in texts {
@@ -60,7 +60,7 @@ fn bring<R: Wait + Clock, B: Room>(
     rt: &R,
     shared: &Shared<TestScheme, B>,
     mut caller: Caller<B>,
-    texts: &[Vec<u8>],
+    texts: Vec<Vec<u8>>,
 ) -> Work {
     let start = now(rt);
     let calls = bring_all(rt, shared, &mut caller, texts);
@@ -113,7 +113,7 @@ fn two_of<B: Room>(callers: &mut Vec<Caller<B>>) -> Option<(Caller<B>, Caller<B>
 fn run<R: Threads + Wait + Clock + Sync, B: Room + Send + Sync>(
     rt: &R,
     opened: Opened<TestScheme>,
-    texts: &[Vec<u8>],
+    texts: Vec<Vec<u8>>,
 ) -> Option<Measured>
     requires table { opened.table ≡ B.table }
     requires genesis { opened.genesis ≡ B.genesis }
@@ -121,9 +121,10 @@ fn run<R: Threads + Wait + Clock + Sync, B: Room + Send + Sync>(
     let (shared, mut callers) = opened.named::<B>().ok()?;
     match two_of(&mut callers) {
         Some((watcher, bringer)) => {
+            let height = texts.len() as u64;
             let (watched, brought) = join(
                 rt,
-                || -> Work { watch(rt, &shared, watcher, texts.len() as u64) },
+                || -> Work { watch(rt, &shared, watcher, height) },
                 || -> Work { bring(rt, &shared, bringer, texts) },
             );
             Some(Measured { brought, watched })
@@ -136,7 +137,7 @@ fn run<R: Threads + Wait + Clock + Sync, B: Room + Send + Sync>(
 fn time<R: Threads + Wait + Clock + Sync>(rt: &R, alloc: Global) -> Option<Measured> {
     let mut texts = Vec::new(alloc);
     End::genesis().put_chain(alloc, &mut texts, BLOCKS);
-    run::<R, Brand>(rt, open(alloc)?, &texts)
+    run::<R, Brand>(rt, open(alloc)?, texts)
 }
 
 /// Runs the measurement, and prints its names, or what it took.

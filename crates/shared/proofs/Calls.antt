@@ -75,9 +75,8 @@ call_of network number writer e v w own legal sealed =
       last = ap (λ (u : SeatView). u.last) sealed.same;
     }
 
--- the journal with an arrival, whose bytes were copied
-pub arrival_legal : (network : Network) (journal seen : Journal) (s t : State) (caller : ℕ) (bytes copied : List ℕ) (reply : ArriveReply) → seen ≡ journal → copied ≡ bytes → IsLegal network (history_of journal) s
-    → Step network s (Arrive bytes) (arrive_reply_of (Ok reply)) t → IsLegal network (history_of (seen ++ arrival_by caller copied reply ∷ [])) t
-arrival_legal network journal seen s t caller bytes copied reply same copy legal step =
-    subst (λ (j : Journal). IsLegal network (history_of (j ++ arrival_by caller copied reply ∷ [])) t) (sym same)
-    (legal_on network journal s (arrival_by caller copied reply) t legal (subst (λ (bs : List ℕ). Step network s (Arrive bs) (arrive_reply_of (Ok reply)) t) (sym copy) step))
+-- the journal with an arrival
+pub arrival_legal : (network : Network) (journal seen : Journal) (s t : State) (caller : ℕ) (bytes : List ℕ) (reply : ArriveReply) → seen ≡ journal → IsLegal network (history_of journal) s
+    → Step network s (Arrive bytes) (arrive_reply_of (Ok reply)) t → IsLegal network (history_of (seen ++ arrival_by caller bytes reply ∷ [])) t
+arrival_legal network journal seen s t caller bytes reply same legal step =
+    subst (λ (j : Journal). IsLegal network (history_of (j ++ arrival_by caller bytes reply ∷ [])) t) (sym same) (legal_on network journal s (arrival_by caller bytes reply) t legal step)

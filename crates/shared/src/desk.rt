@@ -1,6 +1,6 @@
 //! What lies under the lock.
 
-ghost use Rattle.std.specs.Prelude.{◌≡◌, ◌++◌, [], ◌∷◌, IfOk, OnOk, OnErr};
+ghost use Rattle.std.specs.Prelude.{◌≡◌, ◌++◌, [], ◌∷◌, IfOk, IfErr, OnOk, OnErr};
 ghost use Rattle.model.specs.Ledger.{network_of};
 ghost use Rattle.model.specs.Journal.{IsCalled};
 ghost use Rattle.shared.specs.Entries.{arrival_by};
@@ -9,10 +9,11 @@ ghost use Rattle.shared.specs.Desks.{IsHeightOf};
 use crate::caller::Caller;
 use crate::heights::{HeightSeat, Heights};
 use crate::journal_entry::JournalEntry;
+use crate::not_arrived::NotArrived;
 use crate::room::Room;
 use crate::sealing::seal;
 use chain_core::{ArriveReply, Core, RawEvent, Reply};
-use std::alloc::{AllocError, Global};
+use std::alloc::Global;
 use std::marker::{Model, PhantomData};
 use witness_pool::SigScheme;
 
@@ -43,31 +44,35 @@ impl<S: SigScheme, B: Room> Model for Desk<S, B> {
 }
 
 impl<S: SigScheme, B: Room> Desk<S, B> {
-    /// Bytes of a block arrive, brought by the caller: the core answers, and the call stands in the journal. Where
-    /// memory runs out nothing changes.
+    /// Bytes of a block arrive, brought by the caller: the core answers, and the call stands in the journal, which
+    /// takes the bytes. Where memory runs out nothing changes, and the bytes come back.
     pub fn arrive(
         &mut self,
         heights: &Heights<S>,
         caller: &mut Caller<B>,
-        bytes: &[u8],
-    ) -> Result<ArriveReply, AllocError>
+        bytes: Vec<u8>,
+    ) -> Result<ArriveReply, NotArrived>
         requires { IsHeightOf B.table B.genesis heights.now }
         // The call is the last entry of the journal, and the caller has seen all of it.
         ensures journal { IfOk result (λ reply.
-            self.new ≡ self.old ++ arrival_by caller.old.caller bytes.now reply ∷ []) }
+            self.new ≡ self.old ++ arrival_by caller.old.caller bytes.items reply ∷ []) }
         ensures seen { OnOk result (caller.new.seen ≡ self.new) }
         ensures called { IfOk result (λ reply. IsCalled (network_of B.genesis S.verifies) caller.old
-            (arrival_by caller.old.caller bytes.now reply) caller.new) }
+            (arrival_by caller.old.caller bytes.items reply) caller.new) }
         ensures err { OnErr result (self.new ≡ self.old) }
         ensures caller { OnErr result (caller.new ≡ caller.old) }
+        ensures back { IfErr result (λ e. e.bytes ≡ bytes) }
     {
-        let copy = Vec::from_slice(self.alloc, bytes)?;
-        self.entries.reserve(1)?;
-        let reply = self.core.arrive(bytes)?;
+        let Ok(()) = self.entries.reserve(1) else {
+            return Err(NotArrived { bytes });
+        };
+        let Ok(reply) = self.core.arrive(&bytes) else {
+            return Err(NotArrived { bytes });
+        };
         let entry = JournalEntry {
             caller: caller.number,
             peer: None,
-            event: RawEvent::Arrive(copy),
+            event: RawEvent::Arrive(bytes),
             reply: Reply::Arrive(Ok(reply)),
         };
         let height = self.core.height();

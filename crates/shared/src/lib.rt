@@ -4,7 +4,7 @@
 //! let opened = Opened::<TestScheme>::new(alloc, genesis, 2)?;
 //! let (shared, mut callers) = opened.named::<Brand>()?;
 //! // Each thread has a caller of its own.
-//! let reply = shared.arrive(rt, &mut callers[0], &bytes)?; // waits for the lock
+//! let reply = shared.arrive(rt, &mut callers[0], bytes)?; // waits for the lock
 //! let height = shared.height(&mut callers[1]); // waits for nobody
 //! ```
 #![tactic(auto)]
@@ -13,6 +13,7 @@ mod caller;
 mod desk;
 mod heights;
 mod journal_entry;
+mod not_arrived;
 mod open_fault;
 mod opened;
 mod room;
@@ -20,6 +21,7 @@ mod sealing;
 mod shared;
 
 pub use caller::Caller;
+pub use not_arrived::NotArrived;
 pub use open_fault::OpenFault;
 pub use opened::{MAX_CALLERS, Opened};
 pub use room::Room;

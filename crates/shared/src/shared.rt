@@ -9,10 +9,10 @@ ghost use Rattle.shared.specs.Entries.{arrival_by};
 use crate::caller::Caller;
 use crate::desk::Desk;
 use crate::heights::Heights;
+use crate::not_arrived::NotArrived;
 use crate::room::Room;
 use crate::sealing::look;
 use chain_core::ArriveReply;
-use std::alloc::AllocError;
 use std::sync::{Mutex, Wait};
 use witness_pool::SigScheme;
 
@@ -38,19 +38,20 @@ impl<S: SigScheme, B: Room> Shared<S, B> {
         look(&self.heights, &mut caller.seat)
     }
 
-    /// Bytes of a block arrive, brought by this caller itself. The call stands in the journal with its reply; where
-    /// memory runs out it doesn't, and nothing changes. Waits for the lock. Copies the bytes into the journal, and
-    /// costs beside that what the arrival costs the core.
+    /// Bytes of a block arrive, brought by this caller itself. The call stands in the journal with its reply, whatever
+    /// that is, and the journal takes the bytes; where memory runs out it doesn't, nothing changes, and the bytes come
+    /// back. Waits for the lock. Costs what the arrival costs the core, and copies no bytes beside.
     pub fn arrive<R: Wait>(
         &self,
         rt: &R,
         caller: &mut Caller<B>,
-        bytes: &[u8],
-    ) -> Result<ArriveReply, AllocError>
+        bytes: Vec<u8>,
+    ) -> Result<ArriveReply, NotArrived>
         // The caller has then seen a legal journal that begins with all that it had seen and ends with this call.
         ensures called { IfOk result (λ reply. IsCalled (network_of B.genesis S.verifies) caller.old
-            (arrival_by caller.old.caller bytes.now reply) caller.new) }
+            (arrival_by caller.old.caller bytes.items reply) caller.new) }
         ensures err { OnErr result (caller.new ≡ caller.old) }
+        ensures back { IfErr result (λ e. e.bytes ≡ bytes) }
     {
         let mut desk = self.desk.lock(rt);
         desk.arrive(&self.heights, caller, bytes)

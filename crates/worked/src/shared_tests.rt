@@ -5,7 +5,7 @@ ghost use Rattle.std.specs.Prelude.{◌≡◌};
 use super::fixture::{MEMORY, Made, SMALL_NETWORK, chain_of, kept, make, same};
 use chain_core::{ArriveReply, Refusal};
 use genesis::Genesis;
-use shared::{Caller, MAX_CALLERS, OpenFault, Opened, Room, Shared};
+use shared::{Caller, MAX_CALLERS, NotArrived, OpenFault, Opened, Room, Shared};
 use std::alloc::AllocError;
 use std::marker::Brand;
 use std::process::Abort;
@@ -25,34 +25,41 @@ fn next_of<B: Room>(rt: &impl Abort, callers: &mut Vec<Caller<B>>) -> Caller<B> 
 }
 
 /// The answer to bytes that a caller brings.
-fn arrive<B: Room, R: Wait + Abort>(
+fn arrive<B: Room, R: Wait + AllocGlobal>(
     rt: &R,
     shared: &Shared<TestScheme, B>,
     caller: &mut Caller<B>,
     bytes: &[u8],
-) -> ArriveReply {
-    shared.arrive(rt, caller, bytes).expect(rt, MEMORY)
+) -> Result<ArriveReply, AllocError> {
+    let bytes = Vec::from_slice(rt.alloc(), bytes)?;
+    match shared.arrive(rt, caller, bytes) {
+        Ok(reply) => Ok(reply),
+        Err(NotArrived { bytes: _ }) => Err(AllocError),
+    }
 }
 
-/// One caller brings the bytes of a first block, and another reads the height before and after.
-fn see_another<B: Room, R: Wait + Abort>(
+/// One caller brings the bytes of a first block, and another reads the height before and after. Then one reads it who
+/// made no call so far.
+fn see_another<B: Room, R: Wait + Abort + AllocGlobal>(
     rt: &R,
     shared: &Shared<TestScheme, B>,
     callers: &mut Vec<Caller<B>>,
     bytes: &[u8],
 ) {
+    let mut newcomer = next_of(rt, callers);
     let mut other = next_of(rt, callers);
     let mut one = next_of(rt, callers);
     same(rt, "before", shared.height(&mut other), 0);
-    let reply = arrive(rt, shared, &mut one, bytes);
+    let reply = arrive(rt, shared, &mut one, bytes).expect(rt, MEMORY);
     assert!(rt; reply == kept(0, 1));
     same(rt, "after", shared.height(&mut other), 1);
-    let again = arrive(rt, shared, &mut other, bytes);
+    same(rt, "at first", shared.height(&mut newcomer), 1);
+    let again = arrive(rt, shared, &mut other, bytes).expect(rt, MEMORY);
     assert!(rt; again == ArriveReply::Refused(Refusal::Known));
     same(rt, "at last", shared.height(&mut one), 1);
 }
 
-/// The two callers of a shared core do so.
+/// The three callers of a shared core do so.
 fn seen_by_another<B: Room, R: Wait + Abort + AllocGlobal>(rt: &R, opened: Opened<TestScheme>)
     requires table { opened.table ≡ B.table }
     requires genesis { opened.genesis ≡ B.genesis }
@@ -64,7 +71,7 @@ fn seen_by_another<B: Room, R: Wait + Abort + AllocGlobal>(rt: &R, opened: Opene
 
 #[test]
 fn height_is_seen_by_another(rt: HostRuntime) {
-    let opened = open(&rt, 2).expect(&rt, "a shared core");
+    let opened = open(&rt, 3).expect(&rt, "a shared core");
     seen_by_another::<Brand, _>(&rt, opened);
 }
 
@@ -79,7 +86,7 @@ fn callers_are_1_to_64(rt: HostRuntime) {
 }
 
 /// The caller brings each second block, from this one on.
-fn bring<B: Room, R: Wait>(
+fn bring<B: Room, R: Wait + AllocGlobal>(
     rt: &R,
     shared: &Shared<TestScheme, B>,
     mut caller: Caller<B>,
@@ -89,7 +96,7 @@ fn bring<B: Room, R: Wait>(
     let mut mine = odd;
     for made in blocks {
         if mine {
-            shared.arrive(rt, &mut caller, &made.text)?;
+            arrive(rt, shared, &mut caller, &made.text)?;
         }
         mine = !mine;
     }

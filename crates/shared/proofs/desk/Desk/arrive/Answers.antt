@@ -12,31 +12,34 @@ use Rattle.shared.proofs.desk.Desk.arrive.Goals as goal
 pub seal-requires-clause-legal : goal.seal-requires-clause-legal
 seal-requires-clause-legal g c =
     let i = c.self.invariant in
-    let e = c.in_ok-reply.ensures.step i.state i.stands in
-    let step = subst (λ (x : Genesis). Step (network_of x g.S.SigScheme.verifies) i.state (Arrive c.args.bytes.now) (arrive_reply_of (Ok c.in_ok-reply.reply)) e.0) i.genesis_is e.1 in
-    subst (λ (x : Genesis). IsLegalJournal (network_of x g.S.SigScheme.verifies) (c.self.inside.writer.me.0.seen ++ arrival_by c.caller.inside.number c.in_ok-copy.copy.items c.in_ok-reply.reply ∷ [])) (sym c.requires.2)
-    (e.0, arrival_legal (network_of g.B.Room.genesis g.S.SigScheme.verifies) c.self.inside.entries.items c.self.inside.writer.me.0.seen i.state e.0 c.caller.inside.number c.args.bytes.now c.in_ok-copy.copy.items c.in_ok-reply.reply i.seen c.in_ok-copy.ensures.items i.legal step)
+    let e = c.in-Ok-arrive.ensures.step i.state i.stands in
+    let step = subst (λ (bs : List ℕ). Step (network_of g.B.Room.genesis g.S.SigScheme.verifies) i.state (Arrive bs) (arrive_reply_of (Ok c.in-Ok-arrive.reply)) e.0) c.deref.ensures.value
+    (subst (λ (x : Genesis). Step (network_of x g.S.SigScheme.verifies) i.state (Arrive c.deref.result.now) (arrive_reply_of (Ok c.in-Ok-arrive.reply)) e.0) i.genesis_is e.1) in
+    subst (λ (x : Genesis). IsLegalJournal (network_of x g.S.SigScheme.verifies) (c.self.inside.writer.me.0.seen ++ arrival_by c.caller.inside.number c.args.bytes.items c.in-Ok-arrive.reply ∷ [])) (sym c.requires.2)
+    (e.0, arrival_legal (network_of g.B.Room.genesis g.S.SigScheme.verifies) c.self.inside.entries.items c.self.inside.writer.me.0.seen i.state e.0 c.caller.inside.number c.args.bytes.items c.in-Ok-arrive.reply i.seen i.legal step)
 
 pub seal-requires-clause-height : goal.seal-requires-clause-height
 seal-requires-clause-height g c =
     let i = c.self.invariant in
-    let e = c.in_ok-reply.ensures.step i.state i.stands in
-    let step = subst (λ (x : Genesis). Step (network_of x g.S.SigScheme.verifies) i.state (Arrive c.args.bytes.now) (arrive_reply_of (Ok c.in_ok-reply.reply)) e.0) i.genesis_is e.1 in
-    let legal = arrival_legal (network_of g.B.Room.genesis g.S.SigScheme.verifies) c.self.inside.entries.items c.self.inside.writer.me.0.seen i.state e.0 c.caller.inside.number c.args.bytes.now c.in_ok-copy.copy.items c.in_ok-reply.reply i.seen c.in_ok-copy.ensures.items i.legal step in
+    let e = c.in-Ok-arrive.ensures.step i.state i.stands in
+    let step = subst (λ (bs : List ℕ). Step (network_of g.B.Room.genesis g.S.SigScheme.verifies) i.state (Arrive bs) (arrive_reply_of (Ok c.in-Ok-arrive.reply)) e.0) c.deref.ensures.value
+    (subst (λ (x : Genesis). Step (network_of x g.S.SigScheme.verifies) i.state (Arrive c.deref.result.now) (arrive_reply_of (Ok c.in-Ok-arrive.reply)) e.0) i.genesis_is e.1) in
+    let legal = arrival_legal (network_of g.B.Room.genesis g.S.SigScheme.verifies) c.self.inside.entries.items c.self.inside.writer.me.0.seen i.state e.0 c.caller.inside.number c.args.bytes.items c.in-Ok-arrive.reply i.seen i.legal step in
     c.height-height.ensures ∙ ap length e.2.chain
-    ∙ sym (height_of_legal (network_of g.B.Room.genesis g.S.SigScheme.verifies) (c.self.inside.writer.me.0.seen ++ arrival_by c.caller.inside.number c.in_ok-copy.copy.items c.in_ok-reply.reply ∷ []) e.0 legal)
+    ∙ sym (height_of_legal (network_of g.B.Room.genesis g.S.SigScheme.verifies) (c.self.inside.writer.me.0.seen ++ arrival_by c.caller.inside.number c.args.bytes.items c.in-Ok-arrive.reply ∷ []) e.0 legal)
 
 pub invariant_of-self-2 : goal.invariant_of-self-2
 invariant_of-self-2 g c =
     let i = c.self.invariant in
-    let e = c.in_ok-reply.ensures.step i.state i.stands in
-    let step = subst (λ (x : Genesis). Step (network_of x g.S.SigScheme.verifies) i.state (Arrive c.args.bytes.now) (arrive_reply_of (Ok c.in_ok-reply.reply)) e.0) i.genesis_is e.1 in
-    let entry = arrival_by c.caller.inside.number c.in_ok-copy.copy.items c.in_ok-reply.reply in
-    let legal = arrival_legal (network_of g.B.Room.genesis g.S.SigScheme.verifies) c.self.inside.entries.items c.self.inside.entries.items i.state e.0 c.caller.inside.number c.args.bytes.now c.in_ok-copy.copy.items c.in_ok-reply.reply refl c.in_ok-copy.ensures.items i.legal step in
+    let e = c.in-Ok-arrive.ensures.step i.state i.stands in
+    let step = subst (λ (bs : List ℕ). Step (network_of g.B.Room.genesis g.S.SigScheme.verifies) i.state (Arrive bs) (arrive_reply_of (Ok c.in-Ok-arrive.reply)) e.0) c.deref.ensures.value
+    (subst (λ (x : Genesis). Step (network_of x g.S.SigScheme.verifies) i.state (Arrive c.deref.result.now) (arrive_reply_of (Ok c.in-Ok-arrive.reply)) e.0) i.genesis_is e.1) in
+    let entry = arrival_by c.caller.inside.number c.args.bytes.items c.in-Ok-arrive.reply in
+    let legal = arrival_legal (network_of g.B.Room.genesis g.S.SigScheme.verifies) c.self.inside.entries.items c.self.inside.entries.items i.state e.0 c.caller.inside.number c.args.bytes.items c.in-Ok-arrive.reply refl i.legal step in
     let pushed : c.push_reserved.new.self.items ≡ c.self.inside.entries.items ++ entry ∷ [] =
-    c.push_reserved.ensures.items ∙ ap (λ (j : Journal). j ++ entry ∷ []) c.in_ok-reserve.ensures.items in
+    c.push_reserved.ensures.items ∙ ap (λ (j : Journal). j ++ entry ∷ []) c.in-Ok.ensures.items in
     record {
-      genesis_is = c.in_ok-reply.ensures.genesis ∙ i.genesis_is;
+      genesis_is = c.in-Ok-arrive.ensures.genesis ∙ i.genesis_is;
       state = e.0;
       legal = subst (λ (j : Journal). IsLegal (network_of g.B.Room.genesis g.S.SigScheme.verifies) (history_of j) e.0) (sym pushed) legal;
       stands = e.2;
@@ -51,13 +54,13 @@ invariant_of-self-2 g c =
 pub returns-clause-called : goal.returns-clause-called
 returns-clause-called g c =
     let i = c.self.invariant in
-    let e = c.in_ok-reply.ensures.step i.state i.stands in
-    let step = subst (λ (x : Genesis). Step (network_of x g.S.SigScheme.verifies) i.state (Arrive c.args.bytes.now) (arrive_reply_of (Ok c.in_ok-reply.reply)) e.0) i.genesis_is e.1 in
+    let e = c.in-Ok-arrive.ensures.step i.state i.stands in
+    let step = subst (λ (bs : List ℕ). Step (network_of g.B.Room.genesis g.S.SigScheme.verifies) i.state (Arrive bs) (arrive_reply_of (Ok c.in-Ok-arrive.reply)) e.0) c.deref.ensures.value
+    (subst (λ (x : Genesis). Step (network_of x g.S.SigScheme.verifies) i.state (Arrive c.deref.result.now) (arrive_reply_of (Ok c.in-Ok-arrive.reply)) e.0) i.genesis_is e.1) in
     let net = network_of g.B.Room.genesis g.S.SigScheme.verifies in
     let v = c.caller.inside.seat.me.0 in
     let w = c.seal.new.seat.me.0 in
     let n = c.caller.inside.number in
-    let legal = arrival_legal net c.self.inside.entries.items c.self.inside.writer.me.0.seen i.state e.0 n c.args.bytes.now c.in_ok-copy.copy.items c.in_ok-reply.reply i.seen c.in_ok-copy.ensures.items i.legal step in
-    subst (λ (k : Knowledge). IsCalled net k (arrival_by k.caller c.args.bytes.now c.in_ok-reply.reply) (knowledge_of n w)) c.caller.view_is
-    (subst (λ (bs : List ℕ). IsCalled net (knowledge_of n v) (arrival_by n bs c.in_ok-reply.reply) (knowledge_of n w)) c.in_ok-copy.ensures.items
-    (call_of net n c.self.inside.writer.me.0 (arrival_by n c.in_ok-copy.copy.items c.in_ok-reply.reply) v w refl (e.0, legal) c.seal.ensures.sealed))
+    let legal = arrival_legal net c.self.inside.entries.items c.self.inside.writer.me.0.seen i.state e.0 n c.args.bytes.items c.in-Ok-arrive.reply i.seen i.legal step in
+    subst (λ (k : Knowledge). IsCalled net k (arrival_by k.caller c.args.bytes.items c.in-Ok-arrive.reply) (knowledge_of n w)) c.caller.view_is
+    (call_of net n c.self.inside.writer.me.0 (arrival_by n c.args.bytes.items c.in-Ok-arrive.reply) v w refl (e.0, legal) c.seal.ensures.sealed)
