@@ -1,12 +1,17 @@
 -- A line that opens a follower.
-use Rattle.std.proofs.Common.{◌≡◌, List, [], ◌++◌, ℕ, Result, Err, refl, ap, ◌∙◌}
+use Rattle.std.proofs.Common.{◌≡◌, ◌<◌, List, [], ◌++◌, ℕ, Result, Ok, Err, refl, sym, ap, subst, ◌∙◌}
+use Rattle.std.specs.Prelude.{IfErr}
+use Rattle.model.specs.Limits.{follower_limit}
+use Rattle.model.specs.Follower.{free_id}
 use Rattle.model.specs.Ledger.{Network}
-use Rattle.model.specs.History.{State, Open, Reply, Step}
+use Rattle.model.specs.History.{State, Open, OutOfMemory, Step}
 use Rattle.followers.specs.declared.follower_id.FollowerId.{FollowerId}
 use Rattle.followers.specs.declared.fault.OpenFault.{OpenFault}
 use Rattle.followers.specs.declared.fault.OpenFault.TheVariants as open'
 use Rattle.chain_core.specs.Views.{open_reply_of}
-use Rattle.chain_core.specs.Held.{Stands}
+use Rattle.followers.proofs.ForCallers.{the_lengths}
+use Rattle.chain_core.specs.FollowerCalls.{IsWantAtOpening}
+use Rattle.chain_core.specs.Held.{Held, Stands}
 use Rattle.scenario.specs.declared.session.Session.{Session}
 use Rattle.script.specs.Names.{Named}
 use Rattle.script.specs.RequestView.{AreNamed}
@@ -25,13 +30,20 @@ pub opening_printed : (out old name : List ℕ) (printed result : Result Followe
 opening_printed out old name printed result is empty same =
     is ∙ ap (λ (l : List ℕ). l ++ opening_text name (open_reply_of printed)) empty ∙ ap (λ (r : Result FollowerId OpenFault). opening_text name (open_reply_of r)) same
 
-pub opening_acted : (network : Network) (s : Scene) (name : List ℕ) (reply : Reply) (out : List ℕ) (new : Session) → out ≡ opening_text name reply
-    → AreNamed new.names (record s.names { of_followers = names_opened s.names.of_followers name reply })
-    → (t : State) × Step network s.state Open reply t × Stands new.core t
+-- memory runs out only where a number is free
+room_at : (held : Held) (s : State) (result : Result FollowerId OpenFault) → Stands held s → IfErr result (IsWantAtOpening held) → open_reply_of result ≡ OutOfMemory → free_id s.followers < follower_limit
+room_at held s (Ok id) stands memory is = cc
+room_at held s (Err open'.TooManyFollowers) stands memory is = cc
+room_at held s (Err open'.OutOfMemory) stands memory is = subst (λ n. n < follower_limit) (sym (the_lengths.free held.chain held.followers s.followers stands.followers)) (memory refl)
+
+pub opening_acted : (network : Network) (s : Scene) (name : List ℕ) (result : Result FollowerId OpenFault) (out : List ℕ) (held : Held) (new : Session) → out ≡ opening_text name (open_reply_of result)
+    → Stands held s.state → IfErr result (IsWantAtOpening held)
+    → AreNamed new.names (record s.names { of_followers = names_opened s.names.of_followers name (open_reply_of result) })
+    → (t : State) × Step network s.state Open (open_reply_of result) t × Stands new.core t
     → Done network s (OpensFollower name) out new
-opening_acted network s name reply out new printed names (t, step, stands) = record {
-  entries = entry Open reply;
-  scene = record { state = t; names = record s.names { of_followers = names_opened s.names.of_followers name reply } };
-  acts = (reply, record { step = step; names = refl }, printed, refl);
+opening_acted network s name result out held new printed held_stands memory names (t, step, stands) = record {
+  entries = entry Open (open_reply_of result);
+  scene = record { state = t; names = record s.names { of_followers = names_opened s.names.of_followers name (open_reply_of result) } };
+  acts = (open_reply_of result, record { step = step; room = room_at held s.state result held_stands memory; names = refl }, printed, refl);
   holds = record { stands = stands; names = names };
 }

@@ -195,6 +195,9 @@ pub no_line_told : (told line : Option ℕ) → told ≡ line → ((number : ℕ
 no_line_told None line is none = is
 no_line_told (Some number) line is none = absurd (none number refl)
 
+nothing_left : (rest line : List ℕ) → line ≡ take_through 10 rest → line ≡ [] → drop_through 10 rest ≡ []
+nothing_left rest line is none = ap (drop_through 10) (no_line rest (sym is ∙ none))
+
 -- the run ended well
 pub ended : (genesis : Genesis) (session : Session) (before number : ℕ) (old_text mid_text text old_out out : Option (List ℕ)) (line : List ℕ) (so_far : Running genesis session before number old_text mid_text old_out out)
     → HasLine old_text text so_far.done line → line ≡ [] → None ≡ option_map (λ (made : OpenTx). made.line) so_far.scene.names.making → IfSome old_text (λ t. EndsWell (script_network genesis) t old_out out)
@@ -206,8 +209,10 @@ ended genesis session before number (Some t) mid_text text old_out out line so_f
   ended = no_making so_far.scene.names.making made;
 }
 
-nothing_left : (rest line : List ℕ) → line ≡ take_through 10 rest → line ≡ [] → drop_through 10 rest ≡ []
-nothing_left rest line is none = ap (drop_through 10) (no_line rest (sym is ∙ none))
+-- and nothing is left of the text
+pub nothing_remains : (old_text text : Option (List ℕ)) (done : List (List ℕ)) (line : List ℕ) → HasLine old_text text done line → line ≡ [] → IfSome old_text (λ _. text ≡ Some [])
+nothing_remains None text done line read none = tt
+nothing_remains (Some t) text done line (rest, remains, is, lines, all) none = remains ∙ ap Some (nothing_left rest line is none)
 
 -- the run ended within a transaction, whose line has this number
 pub unended : (genesis : Genesis) (session : Session) (before number : ℕ) (old_text mid_text text old_out out : Option (List ℕ)) (line : List ℕ) (begun : ℕ) (so_far : Running genesis session before number old_text mid_text old_out out)
@@ -263,6 +268,7 @@ stopped genesis session new before number (Some t) mid_text text old_out out lin
     line = line;
     after = lines_of (drop_through 10 rest);
     lines = one_line_more t rest line so_far.done lines is some;
+    read = text_behind t rest line so_far.done all is;
     counted = so_far.counted;
     obeyed = obeyed (script_network genesis) so_far.done so_far.printed so_far.history so_far.scene so_far.prints;
     is_fault = subst (λ (n : ℕ). Means number n so_far.scene.names line (Err why)) so_far.size said;

@@ -1,14 +1,15 @@
 -- What a script prints, and how its run ends.
-use Rattle.std.specs.Prelude.{◌≡◌, ◌≢◌, ◌⊎◌, ℕ, ◌+◌, List, [], ◌∷◌, ◌++◌, length, Option, Some, None, Ok, Err}
+use Rattle.std.specs.Prelude.{◌≡◌, ◌≢◌, ◌⊎◌, ℕ, ◌+◌, ◌<◌, List, [], ◌∷◌, ◌++◌, length, Option, Some, None, Ok, Err}
 use Rattle.std.specs.List.{concat}
 use Rattle.std.specs.Io.KnownBytes.{Appends}
 use Rattle.model.specs.Cbor.{text_of}
 use Rattle.model.specs.Transaction.{Transaction, item_of_transaction}
-use Rattle.model.specs.Block.{Block}
 use Rattle.model.specs.Signature.{test_verifies}
 use Rattle.model.specs.Genesis.{Genesis}
 use Rattle.model.specs.Ledger.{Network, Ledger, network_of, ledger_of}
 use Rattle.model.specs.Chain.{Point, tip_point}
+use Rattle.model.specs.Follower.{free_id}
+use Rattle.model.specs.Limits.{follower_limit}
 use Rattle.model.specs.Forging.{ForgeFault, ForgeApplies, IsNotForged, IsForged}
 use Rattle.model.specs.History.{State, opening, Event, Arrive, Submit, Open, Next, Forward, Close, Step, HasDue}
 use Rattle.model.specs.History.{Reply, Opened, OutOfMemory}
@@ -74,9 +75,11 @@ abbrev pub names_opened : List (Named ℕ) → List ℕ → Reply → List (Name
 names_opened names name (Opened id) = names ++ record { name = name; bound = id } ∷ []
 names_opened names name reply = names
 
--- the opening of a follower of this name was answered so, by a step of the definitions
+-- the opening of a follower of this name was answered so, by a step of the definitions. Memory runs out only where a
+-- number is free
 pub record WasOpened (network : Network) (s : Scene) (name : List ℕ) (reply : Reply) (t : Scene) : Type 0 where
   pub step : Step network s.state Open reply t.state
+  pub room : reply ≡ OutOfMemory → free_id s.state.followers < follower_limit
   pub names : t.names ≡ record s.names { of_followers = names_opened s.names.of_followers name reply }
 
 -- a follower that asked what comes next was answered so, by a step of the definitions. Memory runs out only where a
@@ -159,12 +162,14 @@ pub record AreObeyed (network : Network) (lines : List (List ℕ)) (out : List �
 
 -- ---- ends
 
--- the line of this number is the first one with a fault, and the lines before it print so
-pub record StopsAt (network : Network) (text : List ℕ) (number : ℕ) (fault : LineFault) (out : List ℕ) : Type 0 where
+-- the line of this number is the first one with a fault, the lines before it print so, and what comes after it is left
+pub record StopsAt (network : Network) (text left : List ℕ) (number : ℕ) (fault : LineFault) (out : List ℕ)
+    : Type 0 where
   pub before : List (List ℕ)
   pub line : List ℕ
   pub after : List (List ℕ)
   pub lines : lines_of text ≡ before ++ line ∷ after
+  pub read : text ≡ concat before ++ (line ++ left)
   pub counted : length before + 1 ≡ number
   pub obeyed : AreObeyed network before out
   pub is_fault : Means number (length (concat before)) obeyed.scene.names line (Err fault)
@@ -220,7 +225,7 @@ pub record EndsWell (network : Network) (text : List ℕ) (old new : Option (Lis
 -- what was written at a fault, where this is left of the text
 abbrev pub IsFaultOf : Network → List ℕ → List ℕ → List ℕ → ScenarioFault → Type 0
 IsFaultOf network text left out (fault.Line number why) =
-    StopsAt network text number why out ⊎ ((why ≡ BadLine) × (left ≡ []) × IsUnended network text number out)
+    StopsAt network text left number why out ⊎ ((why ≡ BadLine) × (left ≡ []) × IsUnended network text number out)
 IsFaultOf network text left out fault.ReadFailed = BreaksOff network text left out
 IsFaultOf network text left out fault.WriteFailed = StopsWriting network text left out
 IsFaultOf network text left out fault.OutOfMemory = RunsShort network text left out

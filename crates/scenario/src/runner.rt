@@ -1,6 +1,6 @@
 //! The run of a script.
 
-ghost use Rattle.std.specs.Prelude.{◌≡◌, ℕ, ◌+◌, ◌≤◌, ◌⊎◌, List, [], ◌∷◌, ◌++◌, length, OnOk, IfErr, IfSome};
+ghost use Rattle.std.specs.Prelude.{◌≡◌, ℕ, ◌+◌, ◌≤◌, ◌⊎◌, List, [], ◌∷◌, ◌++◌, length, Some, OnOk, IfErr, IfSome};
 ghost use Rattle.scenario.specs.Run.{opening_scene, script_network, EndsWell, EndsBy, fault_of};
 ghost use Rattle.scenario.specs.SessionView.{Holds};
 ghost use Rattle.script.specs.declared.fault.LineFault.TheVariants.{BadLine};
@@ -61,6 +61,7 @@ fn run_lines<R: BufRead, W: Write>(
     ensures ok { OnOk result (IfSome (R.remaining reader.old)
         (λ text. EndsWell (script_network session.old.core.genesis) text (W.contents writer.old)
         (W.contents writer.new))) }
+    ensures rest { OnOk result (IfSome (R.remaining reader.old) (λ _. R.remaining reader.new ≡ Some [])) }
     ensures fault { IfErr result (λ why. IfSome (R.remaining reader.old)
         (λ text. EndsBy (script_network session.old.core.genesis) text (R.remaining reader.new)
         (W.contents writer.old) (W.contents writer.new) why)) }
@@ -113,7 +114,10 @@ pub fn run<R: BufRead, W: Write>(
     // events.
     ensures ok { OnOk result (IfSome (R.remaining reader.old)
         (λ text. EndsWell (script_network genesis) text (W.contents writer.old) (W.contents writer.new))) }
-    // At a fault of the script it is the first one. In each case the chain theorem holds of the lines that were obeyed.
+    // The whole text was then read.
+    ensures rest { OnOk result (IfSome (R.remaining reader.old) (λ _. R.remaining reader.new ≡ Some [])) }
+    // At a fault of the script it is the first one, and what comes after its line is left in the reader. In each case
+    // the chain theorem holds of the lines that were obeyed.
     ensures fault { IfErr result (λ why. IfSome (R.remaining reader.old)
         (λ text. EndsBy (script_network genesis) text (R.remaining reader.new) (W.contents writer.old)
         (W.contents writer.new) why)) }

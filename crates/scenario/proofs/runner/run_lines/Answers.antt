@@ -1,5 +1,5 @@
 use Rattle.std.proofs.Common.{refl, sym, ◌∙◌, vec_len, rules, arith}
-use Rattle.scenario.proofs.Runs.{opened, stepped, stopped, not_written, not_read, no_line_told, ended, unended, part_into, line_into, not_empty, is_nil}
+use Rattle.scenario.proofs.Runs.{opened, stepped, stopped, not_written, not_read, no_line_told, ended, nothing_remains, unended, part_into, line_into, not_empty, is_nil}
 use Rattle.scenario.proofs.WrittenParts.{appends_none}
 use Rattle.scenario.proofs.runner.run_lines.Goals as goal
 
@@ -44,6 +44,13 @@ returns-then-is_empty-clause-ok g c =
     c.loop-number.invariant.read c.new-line.ensures.items refl c.in_default.ensures.bytes c.in_default.ensures.rest)
     (is_nil c.read_until.new.buf.items (vec_len c.read_until.new.buf) (search rules) (sym c.is_empty.ensures ∙ c.if-is_empty.true))
     (no_line_told c.open_line.result _ (c.open_line.ensures c.loop-number.invariant.scene c.loop-number.invariant.holds) c.in_default-open_line.not-Some)
+
+pub returns-then-is_empty-clause-rest : goal.returns-then-is_empty-clause-rest
+returns-then-is_empty-clause-rest g c =
+    nothing_remains (g.R.Read.remaining c.args.reader.now) (g.R.Read.remaining c.read_until.new.self) c.loop-number.invariant.done c.read_until.new.buf.items
+    (line_into (g.R.Read.remaining c.args.reader.now) (g.R.Read.remaining c.loop-number.reader) (g.R.Read.remaining c.read_until.new.self) c.loop-number.invariant.done c.new-line.result.items c.read_until.new.buf.items c.read_until.new.buf.items
+    c.loop-number.invariant.read c.new-line.ensures.items refl c.in_default.ensures.bytes c.in_default.ensures.rest)
+    (is_nil c.read_until.new.buf.items (vec_len c.read_until.new.buf) (search rules) (sym c.is_empty.ensures ∙ c.if-is_empty.true))
 
 pub returns-in-Some-clause-fault : goal.returns-in-Some-clause-fault
 returns-in-Some-clause-fault g c = rw c.unended.ensures

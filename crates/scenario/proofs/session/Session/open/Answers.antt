@@ -1,5 +1,4 @@
 use Rattle.std.proofs.Common.{ℕ, List, Ok, Err, ◌∙◌, subst}
-use Rattle.chain_core.specs.Views.{open_reply_of}
 use Rattle.script.specs.Names.{Named}
 use Rattle.script.specs.RequestView.{AreNamed}
 use Rattle.scenario.specs.Run.{script_network}
@@ -11,13 +10,13 @@ pub returns-in-Ok-print_opening-clause-obeyed : goal.returns-in-Ok-print_opening
 returns-in-Ok-print_opening-clause-obeyed c = λ room s holds free.
     elim c.match-reply.branch [
       | in-Ok w ↦ rw w.self-is (
-          opening_acted (script_network c.args.self.now.core.genesis) s c.args.name.text.now (open_reply_of (Ok w.in-Ok.id)) c.print_opening.new.line.items _
-          (opening_printed c.print_opening.new.line.items c.in_ok-line.line.items c.args.name.text.now c.match-reply.reply (Ok w.in-Ok.id) c.in-Ok-print_opening.ensures c.in_ok-line.ensures.empty w.reply-is)
+          opening_acted (script_network c.args.self.now.core.genesis) s c.args.name.text.now (Ok w.in-Ok.id) c.print_opening.new.line.items c.args.self.now.core _
+          (opening_printed c.print_opening.new.line.items c.in_ok-line.line.items c.args.name.text.now c.match-reply.reply (Ok w.in-Ok.id) c.in-Ok-print_opening.ensures c.in_ok-line.ensures.empty w.reply-is) holds.stands tt
           (w.bind_follower.ensures.bound room s.names holds.names free) (rw w.in-Ok.is at (c.open-reply.ensures.step s.state holds.stands))
           )
       | in_default w ↦ rw w.self-is (
-          opening_acted (script_network c.args.self.now.core.genesis) s c.args.name.text.now (open_reply_of (Err w.in_default.field-0)) c.print_opening.new.line.items _
-          (opening_printed c.print_opening.new.line.items c.in_ok-line.line.items c.args.name.text.now c.match-reply.reply (Err w.in_default.field-0) c.in-Ok-print_opening.ensures c.in_ok-line.ensures.empty (w.reply-is ∙ w.in_default.is))
+          opening_acted (script_network c.args.self.now.core.genesis) s c.args.name.text.now (Err w.in_default.field-0) c.print_opening.new.line.items c.args.self.now.core _
+          (opening_printed c.print_opening.new.line.items c.in_ok-line.line.items c.args.name.text.now c.match-reply.reply (Err w.in_default.field-0) c.in-Ok-print_opening.ensures c.in_ok-line.ensures.empty (w.reply-is ∙ w.in_default.is)) holds.stands (rw w.in_default.is at c.open-reply.ensures.memory)
           (subst (λ (names : List (Named ℕ)). AreNamed c.args.self.now.names (record s.names { of_followers = names })) (none_opened s.names.of_followers c.args.name.text.now w.in_default.field-0) holds.names)
           (rw w.in_default.is at (c.open-reply.ensures.step s.state holds.stands))
           )
