@@ -12,6 +12,7 @@ mod ledger_states;
 mod maps;
 mod networks;
 mod pools;
+mod reopening;
 mod scripts;
 mod texts;
 mod timing;
@@ -30,6 +31,7 @@ enum Asked {
     Arrivals,
     Followers,
     Mempool,
+    Reopening,
     Pools,
     Heights,
     /// What is measured once, to see that it can be.
@@ -46,6 +48,7 @@ fn asked_by(word: &str) -> Option<Asked> {
         "arrivals" => Some(Asked::Arrivals),
         "followers" => Some(Asked::Followers),
         "mempool" => Some(Asked::Mempool),
+        "reopen" => Some(Asked::Reopening),
         "pools" => Some(Asked::Pools),
         "heights" => Some(Asked::Heights),
         _ => None,
@@ -77,6 +80,7 @@ fn main(rt: HostRuntime) -> io::Result<()> {
         Asked::Arrivals => arrivals::measure(&rt),
         Asked::Followers => following::measure(&rt),
         Asked::Mempool => waiting::measure(&rt),
+        Asked::Reopening => reopening::measure(&rt),
         Asked::Pools => pools::measure(&rt, rt.alloc(), Telling::Times),
         Asked::Heights => heights::measure(&rt, rt.alloc(), Telling::Times),
         Asked::Names => {
@@ -85,7 +89,7 @@ fn main(rt: HostRuntime) -> io::Result<()> {
             heights::measure(&rt, rt.alloc(), Telling::Names)?;
             println!(rt;
                 "to measure: bench persistent_map, bench blocks, bench ledger, bench scripts, bench pools, \
-bench heights, bench arrivals, bench followers, bench mempool"
+bench heights, bench arrivals, bench followers, bench mempool, bench reopen"
             )
         }
     }

@@ -5,7 +5,7 @@ use Rattle.std.specs.Global.{Vec}
 use Rattle.std.proofs.lemmas.List.{length-map}
 use Rattle.block.specs.Read.{IsRead}
 use Rattle.model.specs.Block.{Block, block_hash_of, block_text}
-use Rattle.model.specs.Genesis.{Genesis}
+use Rattle.model.specs.Ledger.{Network}
 use Rattle.model.proofs.Lists.{all_of_member, all_from_members}
 use Rattle.model.proofs.MappedLists.{contains_map, contains_before}
 use Rattle.model.proofs.Sets.{distinct_by_count}
@@ -33,20 +33,20 @@ module _ (store : Store) (xs ys : List Stored) (same : IsSame xs ys) where
   pub read_same : AreRead ys → AreRead xs
   read_same read = all_from_members (λ x. IsRead x.block (block_text x.block)) xs (λ x member. all_of_member (λ y. IsRead y.block (block_text y.block)) ys x read ((same.members x).0 member))
 
-  live_same : (genesis : Genesis) (kept chain : List Block) → HoldsLive genesis kept chain (with_blocks store ys) → HoldsLive genesis kept chain (with_blocks store xs)
-  live_same genesis kept chain live = record {
+  live_same : (network : Network) (kept chain : List Block) → HoldsLive network kept chain (with_blocks store ys) → HoldsLive network kept chain (with_blocks store xs)
+  live_same network kept chain live = record {
     members = λ b. ((λ member. (live.members b).0 ((same_of xs ys same b).0 member)), (λ member. (same_of xs ys same b).1 ((live.members b).1 member)));
     count = same.count ∙ live.count;
   }
 
   pub gains_same : (b : Block) → GainsLive store b (with_blocks store ys) → GainsLive store b (with_blocks store xs)
-  gains_same b gains genesis kept chain live past = live_same genesis (b ∷ kept) chain (gains genesis kept chain live past)
+  gains_same b gains network kept chain live past = live_same network (b ∷ kept) chain (gains network kept chain live past)
 
   pub follows_same : (number : ℕ) → FollowsChain store number (with_blocks store ys) → FollowsChain store number (with_blocks store xs)
-  follows_same number follows genesis kept old new live grows at = live_same genesis kept new (follows genesis kept old new live grows at)
+  follows_same number follows network kept old new live grows at = live_same network kept new (follows network kept old new live grows at)
 
   pub keeps_same : KeepsLive store (with_blocks store ys) → KeepsLive store (with_blocks store xs)
-  keeps_same keeps genesis kept chain live = live_same genesis kept chain (keeps genesis kept chain live)
+  keeps_same keeps network kept chain live = live_same network kept chain (keeps network kept chain live)
 
   pub inserted_same : (b : Block) → IsInserted store b (with_blocks store ys) → IsInserted store b (with_blocks store xs)
   inserted_same b is = record {

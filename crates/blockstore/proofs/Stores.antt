@@ -7,7 +7,7 @@ use Rattle.std.proofs.lemmas.List.{length-map, length-append}
 use Rattle.std.proofs.lemmas.List.Elements.{Contains-append_left, Contains-push, Contains-push_cases}
 use Rattle.block.specs.Read.{IsRead}
 use Rattle.model.specs.Block.{Block, SpellsBlock, block_hash_of, block_text}
-use Rattle.model.specs.Genesis.{Genesis}
+use Rattle.model.specs.Ledger.{Network}
 use Rattle.model.specs.Chain.{HaveDistinctHashes, live_blocks, immutable_length}
 use Rattle.model.proofs.Lists.{all_of_member, all_from_members, all_push, all_weaker, contains_first, contains_later, contains_cases, contains_filter}
 use Rattle.model.proofs.MappedLists.{contains_map, contains_before, filter_member}
@@ -66,10 +66,10 @@ read_marked store hash blocks is read =
     (λ x was. subst (λ (b : Block). IsRead b (block_text b)) (sym (same_block hash x)) was) read))
 
 pub live_marked : (store : Store) (hash : List ℕ) (blocks : List Stored) → blocks ≡ map (marked_at hash) store.blocks → KeepsLive store (with_blocks store blocks)
-live_marked store hash blocks is genesis kept chain live =
-    subst (λ (xs : List Stored). HoldsLive genesis kept chain (with_blocks store xs)) (sym is)
+live_marked store hash blocks is network kept chain live =
+    subst (λ (xs : List Stored). HoldsLive network kept chain (with_blocks store xs)) (sym is)
     (record {
-      members = λ b. subst (λ (bs : List Block). Contains bs b ↔ Contains (live_blocks genesis kept chain) b) (sym (same_blocks hash store.blocks)) (live.members b);
+      members = λ b. subst (λ (bs : List Block). Contains bs b ↔ Contains (live_blocks network kept chain) b) (sym (same_blocks hash store.blocks)) (live.members b);
       count = length-map store.blocks (marked_at hash) ∙ live.count;
     })
 
@@ -102,49 +102,49 @@ pub read_cut : (store : Store) (number : ℕ) (blocks : List Stored) → blocks 
 read_cut store number blocks is read = subst AreRead (sym is) (all_filter (λ x. IsRead x.block (block_text x.block)) (is_past number) store.blocks read)
 
 -- where the store holds the live blocks of a chain, what is left past the immutable part of a longer one is live there
-live_left : (store : Store) (number : ℕ) (genesis : Genesis) (kept old new : List Block) → IsSet store → HoldsLive genesis kept old store → immutable_length genesis old ≤ immutable_length genesis new
-    → number ≡ immutable_length genesis new → HoldsLive genesis kept new (with_blocks store (filter (is_past number) store.blocks))
-live_left store number genesis kept old new is_set live grows at = record {
-  members = λ b. subst (λ (bs : List Block). Contains bs b ↔ Contains (live_blocks genesis kept new) b) (sym (past_blocks number store.blocks)) (out b, back b);
+live_left : (store : Store) (number : ℕ) (network : Network) (kept old new : List Block) → IsSet store → HoldsLive network kept old store → immutable_length network old ≤ immutable_length network new
+    → number ≡ immutable_length network new → HoldsLive network kept new (with_blocks store (filter (is_past number) store.blocks))
+live_left store number network kept old new is_set live grows at = record {
+  members = λ b. subst (λ (bs : List Block). Contains bs b ↔ Contains (live_blocks network kept new) b) (sym (past_blocks number store.blocks)) (out b, back b);
   count = sym (length-map (filter (is_past number) store.blocks) block_of) ∙ (ap length (past_blocks number store.blocks)
-      ∙ same_count left (live_blocks genesis kept new) (distinct_filter past (blocks_of store) is_set.distinct) distinct out back);
+      ∙ same_count left (live_blocks network kept new) (distinct_filter past (blocks_of store) is_set.distinct) distinct out back);
 }
   where
     past : Block → Bool
     past b = nat_lt number b.header.number
 
     past_old : Block → Bool
-    past_old b = nat_lt (immutable_length genesis old) b.header.number
+    past_old b = nat_lt (immutable_length network old) b.header.number
 
     past_new : Block → Bool
-    past_new b = nat_lt (immutable_length genesis new) b.header.number
+    past_new b = nat_lt (immutable_length network new) b.header.number
 
     left : List Block
     left = filter past (blocks_of store)
 
     later : (b : Block) → past_new b ≡ true → past_old b ≡ true
-    later b passes = lt-ltb (immutable_length genesis old) b.header.number (let far = ltb-true (immutable_length genesis new) b.header.number passes in omega arith)
+    later b passes = lt-ltb (immutable_length network old) b.header.number (let far = ltb-true (immutable_length network new) b.header.number passes in omega arith)
 
-    out : (b : Block) → Contains left b → Contains (live_blocks genesis kept new) b
+    out : (b : Block) → Contains left b → Contains (live_blocks network kept new) b
     out b member =
         let there = filter_member past (blocks_of store) b member in
         let was = filter_member past_old kept b ((live.members b).0 there.0) in
-        contains_filter past_new kept b was.0 (lt-ltb (immutable_length genesis new) b.header.number (let far = ltb-true number b.header.number there.1 in omega arith))
+        contains_filter past_new kept b was.0 (lt-ltb (immutable_length network new) b.header.number (let far = ltb-true number b.header.number there.1 in omega arith))
 
-    back : (b : Block) → Contains (live_blocks genesis kept new) b → Contains left b
+    back : (b : Block) → Contains (live_blocks network kept new) b → Contains left b
     back b member =
         let there = filter_member past_new kept b member in
         contains_filter past (blocks_of store) b ((live.members b).1 (contains_filter past_old kept b there.0 (later b there.1)))
-        (lt-ltb number b.header.number (let far = ltb-true (immutable_length genesis new) b.header.number there.1 in omega arith))
+        (lt-ltb number b.header.number (let far = ltb-true (immutable_length network new) b.header.number there.1 in omega arith))
 
-    distinct : HaveDistinctHashes (live_blocks genesis kept new)
+    distinct : HaveDistinctHashes (live_blocks network kept new)
     distinct = narrower_distinct past_old past_new kept later
-        (distinct_by_count (blocks_of store) (live_blocks genesis kept old) is_set.distinct (λ b. (live.members b).0) (λ b. (live.members b).1)
+        (distinct_by_count (blocks_of store) (live_blocks network kept old) is_set.distinct (λ b. (live.members b).0) (λ b. (live.members b).1)
         (let count = live.count in omega (arith, length-map store.blocks block_of)))
 
 pub live_cut : (store : Store) (number : ℕ) (blocks : List Stored) → blocks ≡ filter (is_past number) store.blocks → IsSet store → FollowsChain store number (with_blocks store blocks)
-live_cut store number blocks is is_set genesis kept old new live grows at =
-    subst (λ (xs : List Stored). HoldsLive genesis kept new (with_blocks store xs)) (sym is) (live_left store number genesis kept old new is_set live grows at)
+live_cut store number blocks is is_set network kept old new live grows at =
+    subst (λ (xs : List Stored). HoldsLive network kept new (with_blocks store xs)) (sym is) (live_left store number network kept old new is_set live grows at)
 
 -- ---- a block that comes
 
@@ -212,9 +212,9 @@ set_with store b blocks is is_set none room =
 pub read_with : (store : Store) (b : Block) (blocks : List Stored) → blocks ≡ store.blocks ++ unmarked b ∷ [] → AreRead store.blocks → IsRead b (block_text b) → AreRead blocks
 read_with store b blocks is read read_too = subst AreRead (sym is) (all_push (λ x. IsRead x.block (block_text x.block)) store.blocks (unmarked b) read read_too)
 
-live_more : (store : Store) (b : Block) (genesis : Genesis) (kept chain : List Block) → HoldsLive genesis kept chain store → immutable_length genesis chain < b.header.number
-    → HoldsLive genesis (b ∷ kept) chain (with_blocks store (store.blocks ++ unmarked b ∷ []))
-live_more store b genesis kept chain live past = record {
+live_more : (store : Store) (b : Block) (network : Network) (kept chain : List Block) → HoldsLive network kept chain store → immutable_length network chain < b.header.number
+    → HoldsLive network (b ∷ kept) chain (with_blocks store (store.blocks ++ unmarked b ∷ []))
+live_more store b network kept chain live past = record {
   members = λ c. subst (λ (bs : List Block). Contains (blocks_of (with_blocks store (store.blocks ++ unmarked b ∷ []))) c ↔ Contains bs c) (sym more)
       (subst (λ (bs : List Block). Contains bs c ↔ Contains (b ∷ before) c) (sym (map_push block_of store.blocks (unmarked b))) (out c, back c));
   count = let count = live.count in
@@ -223,10 +223,10 @@ live_more store b genesis kept chain live past = record {
 }
   where
     before : List Block
-    before = live_blocks genesis kept chain
+    before = live_blocks network kept chain
 
-    more : live_blocks genesis (b ∷ kept) chain ≡ b ∷ before
-    more = ap (λ (t : Bool). cond t (b ∷ before) before) (lt-ltb (immutable_length genesis chain) b.header.number past)
+    more : live_blocks network (b ∷ kept) chain ≡ b ∷ before
+    more = ap (λ (t : Bool). cond t (b ∷ before) before) (lt-ltb (immutable_length network chain) b.header.number past)
 
     out : (c : Block) → Contains (blocks_of store ++ b ∷ []) c → Contains (b ∷ before) c
     out c member = elim (Contains-push_cases (blocks_of store) b c member) [
@@ -241,8 +241,8 @@ live_more store b genesis kept chain live past = record {
     ]
 
 pub live_with : (store : Store) (b : Block) (blocks : List Stored) → blocks ≡ store.blocks ++ unmarked b ∷ [] → GainsLive store b (with_blocks store blocks)
-live_with store b blocks is genesis kept chain live past =
-    subst (λ (xs : List Stored). HoldsLive genesis (b ∷ kept) chain (with_blocks store xs)) (sym is) (live_more store b genesis kept chain live past)
+live_with store b blocks is network kept chain live past =
+    subst (λ (xs : List Stored). HoldsLive network (b ∷ kept) chain (with_blocks store xs)) (sym is) (live_more store b network kept chain live past)
 
 -- what was read from some bytes is what is read from its text
 pub read_again : (b : Block) (bytes : List ℕ) → IsRead b bytes → IsRead b (block_text b)

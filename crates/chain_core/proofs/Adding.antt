@@ -1,9 +1,11 @@
 -- A block that is kept: the chain, the store and the states are settled again.
 use Rattle.std.proofs.Common.{◌≡◌, ℕ, ◌+◌, ◌-◌, ◌<◌, ◌≤◌, true, false, List, ◌∷◌, ◌++◌, length, take, Contains, refl, sym, ap, subst, ◌∙◌, arith, inl, inr}
-use Rattle.std.specs.Prelude.{min, Result, Ok, Err, IfOk, OnOk, OnErr}
+use Rattle.std.specs.Prelude.{min, max, Result, Ok, Err, IfOk, OnOk, OnErr}
 use Rattle.std.specs.declared.alloc.AllocError.{AllocError}
 use Rattle.std.specs.List.{AllByRecursion}
-use Rattle.std.proofs.lemmas.List.{length-append, length-take}
+use Rattle.std.proofs.lemmas.Bool.{cases_lt}
+use Rattle.std.proofs.lemmas.List.{length-append, length-take, take-take, take-append-le}
+use Rattle.model.proofs.FollowerSteps.{begins_not_longer}
 use Rattle.std.proofs.lemmas.List.Elements.{Contains-append_right}
 use Rattle.model.specs.Block.{Block}
 use Rattle.model.specs.Ledger.{Network}
@@ -14,7 +16,7 @@ use Rattle.model.specs.Rules.{Params}
 use Rattle.model.specs.Applying.{LedgerState, IsStateOf}
 use Rattle.model.specs.Mempool.{SubmitReply, revalidated}
 use Rattle.model.specs.History.{IsChange}
-use Rattle.model.proofs.Lists.{all_of_member, all_from_members, contains_first, contains_later, contains_cases}
+use Rattle.model.proofs.Lists.{all_of_member, all_from_members, all_take, contains_first, contains_later, contains_cases}
 use Rattle.model.proofs.MappedLists.{contains_map, contains_before}
 use Rattle.model.proofs.Chains.{one_with_hash}
 use Rattle.model.proofs.Selections.{selection_not_shorter}
@@ -81,7 +83,7 @@ module _ (network : Network) (chain : List Block) (store : Store) (db : Database
             subst (IsDead network chain (new ∷ blocks_of store)) (one_with_hash (new ∷ blocks_of store) is.block s.block distinct is.member there (is.same ∙ sym named.2)) is.dead
       ]
 
-  past_all : AllByRecursion (λ b. immutable_length network.genesis chain < b.header.number) (new ∷ blocks_of store)
+  past_all : AllByRecursion (λ b. immutable_length network chain < b.header.number) (new ∷ blocks_of store)
   past_all = (ready.past, ready.settled.past)
 
   -- the chain stays
@@ -89,13 +91,13 @@ module _ (network : Network) (chain : List Block) (store : Store) (db : Database
   kept_store = record {
     was = was;
     still = λ b member past. still b member;
-    past = all_from_members (λ b. immutable_length network.genesis chain < b.header.number) (blocks_of mid) (λ b member. all_of_member (λ c. immutable_length network.genesis chain < c.header.number) (new ∷ blocks_of store) b past_all (was b member));
+    past = all_from_members (λ b. immutable_length network chain < b.header.number) (blocks_of mid) (λ b member. all_of_member (λ c. immutable_length network chain < c.header.number) (new ∷ blocks_of store) b past_all (was b member));
     distinct = taken.set.distinct;
     marks = marks;
   }
 
   -- or changes
-  pub cut_store : (next_chain : List Block) (number : ℕ) (next : Store) → number ≡ immutable_length network.genesis next_chain → IsCutBack mid number next → IsNextStore network chain store db new ready next_chain next
+  pub cut_store : (next_chain : List Block) (number : ℕ) (next : Store) → number ≡ immutable_length network next_chain → IsCutBack mid number next → IsNextStore network chain store db new ready next_chain next
   cut_store next_chain number next is cut = record {
     was = λ b has.
         let x = contains_before (λ (s : Stored). s.block) next.blocks b has in
@@ -104,7 +106,7 @@ module _ (network : Network) (chain : List Block) (store : Store) (db : Database
         let x = contains_before (λ (s : Stored). s.block) mid.blocks b (still b member) in
         let number_of : x.0.block.header.number ≡ b.header.number = ap (λ (c : Block). c.header.number) x.2 in
         subst (HasBlock next) x.2 (contains_map (λ (s : Stored). s.block) next.blocks x.0 ((cut.cut.members x.0).1 (x.1, omega (arith, past, is, number_of))));
-    past = all_from_members (λ b. immutable_length network.genesis next_chain < b.header.number) (blocks_of next)
+    past = all_from_members (λ b. immutable_length network next_chain < b.header.number) (blocks_of next)
         (λ b member.
         let x = contains_before (λ (s : Stored). s.block) next.blocks b member in
         let above = ((cut.cut.members x.0).0 x.1).1 in
@@ -125,20 +127,21 @@ settled_same network old new chain store db whole =
     (subst (λ (x : Store). IsSettled network old.chain.items x new.db) (sym store) (subst (λ (d : Database). IsSettled network old.chain.items old.store d) (sym db) whole.settled))
 
 -- and whole, with a mempool beside the chain
-whole_with : {S : Type 0} (network : Network) (old new : ChainDb S) → new.chain.items ≡ old.chain.items → new.store ≡ old.store → new.db ≡ old.db → IsPoolOf network old.chain.items new.mempool
+whole_with : {S : Type 0} (network : Network) (old new : ChainDb S) → new.opened ≡ old.opened → new.chain.items ≡ old.chain.items → new.store ≡ old.store → new.db ≡ old.db → IsPoolOf network old.chain.items new.mempool
     → ((hash : List ℕ) → IsNoted old.past hash → IsNoted new.past hash) → IsWhole network old → IsWhole network new
-whole_with network old new chain store db pool grows whole = record {
+whole_with network old new opened chain store db pool grows whole = record {
+  opened = opened ∙ whole.opened;
   settled = settled_same network old new chain store db whole;
   k = ap (λ (d : Database). d.k) db ∙ whole.k;
   capacity = ap (λ (x : Store). x.capacity) store ∙ whole.capacity;
   pool = subst (λ (c : List Block). IsPoolOf network c new.mempool) (sym chain) pool;
-  past = subst (λ (c : List Block). AllByRecursion (IsBlockNoted new.past) (immutable_part network.genesis c)) (sym chain) (blocks_keep old.past new.past grows (immutable_part network.genesis old.chain.items) whole.past);
+  past = subst (λ (c : List Block). AllByRecursion (IsBlockNoted new.past) (immutable_part network c)) (sym chain) (blocks_keep old.past new.past grows (immutable_part network old.chain.items) whole.past);
 }
 
 -- where nothing of it changes but that more hashes are noted it is whole still
-pub whole_same : {S : Type 0} (network : Network) (old new : ChainDb S) → new.chain.items ≡ old.chain.items → new.store ≡ old.store → new.db ≡ old.db → new.mempool ≡ old.mempool
+pub whole_same : {S : Type 0} (network : Network) (old new : ChainDb S) → new.opened ≡ old.opened → new.chain.items ≡ old.chain.items → new.store ≡ old.store → new.db ≡ old.db → new.mempool ≡ old.mempool
     → ((hash : List ℕ) → IsNoted old.past hash → IsNoted new.past hash) → IsWhole network old → IsWhole network new
-whole_same network old new chain store db mempool grows whole = whole_with network old new chain store db (subst (IsPoolOf network old.chain.items) (sym mempool) whole.pool) grows whole
+whole_same network old new opened chain store db mempool grows whole = whole_with network old new opened chain store db (subst (IsPoolOf network old.chain.items) (sym mempool) whole.pool) grows whole
 
 -- where the hashes are the same no fewer are noted
 pub same_noted : (old new : BTreeSet (List ℕ)) → new ≡ old → (hash : List ℕ) → IsNoted old hash → IsNoted new hash
@@ -147,49 +150,73 @@ same_noted old new same hash was = subst (λ (past : BTreeSet (List ℕ)). IsNot
 -- ---- a submission
 
 pub taken : {S : Type 0} (network : Network) (old new : ChainDb S) (state : LedgerState) (params : Params) (slot : ℕ) (bytes : List ℕ) (reply : SubmitReply) → IsWhole network old → IsStateOf network old.chain.items state → params ≡ state.params → slot ≡ state.tip.slot
-    → IsSubmission network.verifies params (slot + 1) old.mempool bytes reply new.mempool → new.chain ≡ old.chain → new.store ≡ old.store → new.db ≡ old.db → new.past ≡ old.past → IsTaken network old bytes reply new
-taken network old new state params slot bytes reply whole is params_is slot_is submission chain store db past = record {
+    → IsSubmission network.verifies params (slot + 1) old.mempool bytes reply new.mempool → new.opened ≡ old.opened → new.chain ≡ old.chain → new.store ≡ old.store → new.db ≡ old.db → new.past ≡ old.past → IsTaken network old bytes reply new
+taken network old new state params slot bytes reply whole is params_is slot_is submission opened chain store db past = record {
   submits = submits network old.chain.items state is old.mempool new.mempool whole.pool params slot bytes reply params_is slot_is submission;
-  whole = whole_with network old new (ap (λ (v : Vec Block). v.items) chain) store db (pool_after network old.chain.items state is old.mempool new.mempool whole.pool params slot bytes reply params_is slot_is submission) (same_noted old.past new.past past) whole;
+  whole = whole_with network old new opened (ap (λ (v : Vec Block). v.items) chain) store db (pool_after network old.chain.items state is old.mempool new.mempool whole.pool params slot bytes reply params_is slot_is submission) (same_noted old.past new.past past) whole;
 }
 
 -- so it is whole after a submission, whatever is answered
-pub whole_after : {S : Type 0} (network : Network) (old new : ChainDb S) (bytes : List ℕ) (result : Result CodeReply AllocError) → IfOk result (λ reply. IsTaken network old bytes (reply_of reply) new) → new.chain ≡ old.chain → new.store ≡ old.store → new.db ≡ old.db
+pub whole_after : {S : Type 0} (network : Network) (old new : ChainDb S) (bytes : List ℕ) (result : Result CodeReply AllocError) → IfOk result (λ reply. IsTaken network old bytes (reply_of reply) new) → new.opened ≡ old.opened → new.chain ≡ old.chain → new.store ≡ old.store → new.db ≡ old.db
     → new.past ≡ old.past → OnErr result (new.mempool ≡ old.mempool) → IsWhole network old → IsWhole network new
-whole_after network old new bytes (Ok reply) ok chain store db past err whole = ok.whole
-whole_after network old new bytes (Err e) ok chain store db past err whole = whole_same network old new (ap (λ (v : Vec Block). v.items) chain) store db err (same_noted old.past new.past past) whole
+whole_after network old new bytes (Ok reply) ok opened chain store db past err whole = ok.whole
+whole_after network old new bytes (Err e) ok opened chain store db past err whole = whole_same network old new opened (ap (λ (v : Vec Block). v.items) chain) store db err (same_noted old.past new.past past) whole
 
 -- ---- hashes that are noted at a switch
 
+-- the blocks that were opened on are noted still
+opened_noted : {S : Type 0} (network : Network) (old : ChainDb S) → IsWhole network old → (back : ℕ) (blocks : List Block) (noted : BTreeSet (List ℕ)) → back ≤ depth old.db → ((hash : List ℕ) → IsNoted old.past hash → IsNoted noted hash)
+    → AllByRecursion (IsBlockNoted noted) (take (length network.opened) (without_last back old.chain.items ++ blocks))
+opened_noted network old whole back blocks noted within grows =
+    let items = old.chain.items in
+    let o = length network.opened in
+    let stays = length items - back in
+    let begins = begins_not_longer items network.opened whole.settled.opened in
+    let d = whole.settled.depth in
+    let first : AllByRecursion (IsBlockNoted old.past) (take o items) = subst (AllByRecursion (IsBlockNoted old.past)) (take-take o (immutable_length network items) items (omega (arith, begins))) (all_take (IsBlockNoted old.past) o (immutable_part network items) whole.past) in
+    let same : take o (take stays items ++ blocks) ≡ take o items =
+    take-append-le o (take stays items) blocks (omega (arith, length-take stays items, begins, within, d)) ∙ take-take o stays items (omega (arith, begins, within, d)) in
+    subst (AllByRecursion (IsBlockNoted noted)) (sym same) (blocks_keep old.past noted grows (take o items) first)
+
 pub switch_noted : {S : Type 0} (network : Network) (old : ChainDb S) → IsWhole network old → (switch : Switch S) (chain : Vec Block) (noted next : BTreeSet (List ℕ)) (k : ℕ) → chain.items ≡ old.chain.items → switch.back ≤ depth old.db → k ≡ network.genesis.k
-    → next ≡ noted
+    → next ≡ noted → ((hash : List ℕ) → IsNoted old.past hash → IsNoted noted hash)
     → (AllByRecursion (IsBlockNoted old.past) (take (length chain.items - depth old.db) chain.items)
     → AllByRecursion (IsBlockNoted noted) (take (length chain.items - switch.back + length switch.blocks.items - k) (without_last switch.back chain.items ++ switch.blocks.items)))
-    → AllByRecursion (IsBlockNoted next) (immutable_part network.genesis (without_last switch.back old.chain.items ++ switch.blocks.items))
-switch_noted network old whole switch chain noted next k same within k_is stays told =
+    → AllByRecursion (IsBlockNoted next) (immutable_part network (without_last switch.back old.chain.items ++ switch.blocks.items))
+switch_noted network old whole switch chain noted next k same within k_is stays grows told =
     let items = old.chain.items in
     let after = without_last switch.back items ++ switch.blocks.items in
+    let a = length items - switch.back + length switch.blocks.items - k in
     let before : AllByRecursion (IsBlockNoted old.past) (take (length items - depth old.db) items) =
-    subst (λ n. AllByRecursion (IsBlockNoted old.past) (take n items)) (let d = whole.settled.depth in let e : immutable_length network.genesis items ≡ length items - depth old.db = omega (arith, d) in e) whole.past in
-    let here = subst (λ (bs : List Block). AllByRecursion (IsBlockNoted old.past) (take (length bs - depth old.db) bs) → AllByRecursion (IsBlockNoted noted) (take (length bs - switch.back + length switch.blocks.items - k) (without_last switch.back bs ++ switch.blocks.items))) same told before in
-    let count : length items - switch.back + length switch.blocks.items - k ≡ immutable_length network.genesis after =
-    omega (arith, k_is, length-append (without_last switch.back items) switch.blocks.items, length-take (length items - switch.back) items) in
-    subst (λ (p : BTreeSet (List ℕ)). AllByRecursion (IsBlockNoted p) (immutable_part network.genesis after)) (sym stays) (subst (λ n. AllByRecursion (IsBlockNoted noted) (take n after)) count here)
+    subst (λ n. AllByRecursion (IsBlockNoted old.past) (take n items)) (let d = whole.settled.depth in let e : immutable_length network items ≡ length items - depth old.db = omega (arith, d) in e) whole.past in
+    let here : AllByRecursion (IsBlockNoted noted) (take a after) = subst (λ (bs : List Block). AllByRecursion (IsBlockNoted old.past) (take (length bs - depth old.db) bs) → AllByRecursion (IsBlockNoted noted) (take (length bs - switch.back + length switch.blocks.items - k) (without_last switch.back bs ++ switch.blocks.items))) same told before in
+    let long = length-append (without_last switch.back items) switch.blocks.items in
+    let kept = length-take (length items - switch.back) items in
+    let begins = begins_not_longer items network.opened whole.settled.opened in
+    let d = whole.settled.depth in
+    subst (λ (p : BTreeSet (List ℕ)). AllByRecursion (IsBlockNoted p) (immutable_part network after)) (sym stays)
+    (elim (cases_lt a (length network.opened)) [
+      | inl fewer ↦
+          subst (λ n. AllByRecursion (IsBlockNoted noted) (take n after)) (let e : length network.opened ≡ immutable_length network after = omega (arith, k_is, long, kept, begins, within, d, fewer) in e)
+          (opened_noted network old whole switch.back switch.blocks.items noted within grows)
+      | inr more ↦ subst (λ n. AllByRecursion (IsBlockNoted noted) (take n after)) (let e : a ≡ immutable_length network after = omega (arith, k_is, long, kept, more) in e) here
+    ])
 
 -- ---- all that is kept
 
 module _ {S : Type 0} (network : Network) (old : ChainDb S) (new : Block) (whole : IsWhole network old) (ready : IsReady network old.chain.items old.store old.db new) (invalid : List BlockHash)
     (found : AllByRecursion (IsFoundDead network old.chain.items (new ∷ blocks_of old.store)) invalid) where
   -- the chain stays
-  pub added_kept : (next : ChainDb S) (told : Change) → IsTakenIn old.store new invalid next.store → next.chain.items ≡ old.chain.items → next.db ≡ old.db → next.mempool ≡ old.mempool → next.past ≡ old.past → told.back ≡ 0 → told.added ≡ 0
+  pub added_kept : (next : ChainDb S) (told : Change) → IsTakenIn old.store new invalid next.store → next.chain.items ≡ old.chain.items → next.db ≡ old.db → next.mempool ≡ old.mempool → next.past ≡ old.past → next.opened ≡ old.opened → told.back ≡ 0 → told.added ≡ 0
       → IsSelected network old.store old.chain.items new old.chain.items → IsAdded network old new next told
-  added_kept next told taken same_chain same_db same_pool same_past no_back none_added selected = record {
+  added_kept next told taken same_chain same_db same_pool same_past same_opened no_back none_added selected = record {
     selected = subst (IsSelected network old.store old.chain.items new) (sym same_chain) selected;
     change = subst (λ (c : List Block). IsChange old.chain.items c told.back told.added) (sym same_chain) (no_change old.chain.items told.back told.added no_back none_added);
-    live = λ kept holds. subst (λ (c : List Block). HoldsLive network.genesis (new ∷ kept) c next.store) (sym same_chain)
-        (taken.marked.live network.genesis (new ∷ kept) old.chain.items (taken.gains network.genesis kept old.chain.items holds ready.past));
+    live = λ kept holds. subst (λ (c : List Block). HoldsLive network (new ∷ kept) c next.store) (sym same_chain)
+        (taken.marked.live network (new ∷ kept) old.chain.items (taken.gains network kept old.chain.items holds ready.past));
     mempool = ap (λ (p : Pool). p.waiting.txs) same_pool ∙ (sym whole.pool.valid ∙ ap (λ (c : List Block). revalidated network c old.mempool.waiting.txs) (sym same_chain));
     whole = record {
+      opened = same_opened ∙ whole.opened;
       settled = subst (λ (d : Database). IsSettled network next.chain.items next.store d) (sym same_db)
           (subst (λ (c : List Block). IsSettled network c next.store old.db) (sym same_chain)
           (settled_again network old.chain.items old.store old.db new ready old.chain.items next.store old.db selected
@@ -198,8 +225,8 @@ module _ {S : Type 0} (network : Network) (old : ChainDb S) (new : Block) (whole
       k = ap (λ (d : Database). d.k) same_db ∙ whole.k;
       capacity = taken.marked.capacity ∙ (taken.inserted.capacity ∙ whole.capacity);
       pool = pool_same network old.chain.items next.chain.items old.mempool next.mempool same_chain same_pool whole.pool;
-      past = subst (λ (c : List Block). AllByRecursion (IsBlockNoted next.past) (immutable_part network.genesis c)) (sym same_chain)
-          (subst (λ (p : BTreeSet (List ℕ)). AllByRecursion (IsBlockNoted p) (immutable_part network.genesis old.chain.items)) (sym same_past) whole.past);
+      past = subst (λ (c : List Block). AllByRecursion (IsBlockNoted next.past) (immutable_part network c)) (sym same_chain)
+          (subst (λ (p : BTreeSet (List ℕ)). AllByRecursion (IsBlockNoted p) (immutable_part network old.chain.items)) (sym same_past) whole.past);
     };
   }
     where
@@ -215,16 +242,17 @@ module _ {S : Type 0} (network : Network) (old : ChainDb S) (new : Block) (whole
   pub added_switched : (switch : Switch S) (mid : Store) (next : ChainDb S) (told : Change) → IsSwitch network old.chain.items old.store old.db new switch → IsTakenIn old.store new invalid mid
       → next.chain.items ≡ without_last switch.back old.chain.items ++ switch.blocks.items → IsCommitted old.db switch.prepared next.db → IsCutBack mid (length next.chain.items - depth next.db) next.store
       → (waiting : Waiting) → IsBroughtTo network (without_last switch.back old.chain.items ++ switch.blocks.items) old.mempool.waiting.txs waiting → next.mempool ≡ record old.mempool { waiting = waiting }
-      → AllByRecursion (IsBlockNoted next.past) (immutable_part network.genesis (without_last switch.back old.chain.items ++ switch.blocks.items)) → told.back ≡ switch.back → told.added ≡ length switch.blocks.items → IsAdded network old new next told
-  added_switched switch mid next told is taken chain_is committed cut waiting brought pool_is noted back_is added_is = record {
+      → AllByRecursion (IsBlockNoted next.past) (immutable_part network (without_last switch.back old.chain.items ++ switch.blocks.items)) → next.opened ≡ old.opened → told.back ≡ switch.back → told.added ≡ length switch.blocks.items → IsAdded network old new next told
+  added_switched switch mid next told is taken chain_is committed cut waiting brought pool_is noted same_opened back_is added_is = record {
     selected = selected;
     change = subst (λ (n : ℕ). IsChange old.chain.items next.chain.items told.back n) (sym added_is)
         (subst (λ (n : ℕ). IsChange old.chain.items next.chain.items n (length switch.blocks.items)) (sym back_is)
         (subst (λ (c : List Block). IsChange old.chain.items c switch.back (length switch.blocks.items)) (sym chain_is) is.change));
-    live = λ kept holds. cut.live network.genesis (new ∷ kept) old.chain.items next.chain.items
-        (taken.marked.live network.genesis (new ∷ kept) old.chain.items (taken.gains network.genesis kept old.chain.items holds ready.past)) further number;
+    live = λ kept holds. cut.live network (new ∷ kept) old.chain.items next.chain.items
+        (taken.marked.live network (new ∷ kept) old.chain.items (taken.gains network kept old.chain.items holds ready.past)) further number;
     mempool = stay_brought network next.chain.items old.mempool next.mempool waiting brought_here pool_is;
     whole = record {
+      opened = same_opened ∙ whole.opened;
       settled = settled_again network old.chain.items old.store old.db new ready next.chain.items next.store next.db selected
           (subst (AllByRecursion (Contains (at_hand old.chain.items old.store new))) (sym chain_is) (switched_at_hand old.chain.items old.store new switch.back switch.blocks.items is.members))
           (cut_store network old.chain.items old.store old.db new ready invalid found mid taken next.chain.items (length next.chain.items - depth next.db) next.store number cut)
@@ -232,7 +260,7 @@ module _ {S : Type 0} (network : Network) (old : ChainDb S) (new : Block) (whole
       k = committed.k ∙ whole.k;
       capacity = cut.cut.capacity ∙ (taken.marked.capacity ∙ (taken.inserted.capacity ∙ whole.capacity));
       pool = pool_brought network next.chain.items old.mempool next.mempool waiting whole.pool.capacity brought_here pool_is;
-      past = subst (λ (c : List Block). AllByRecursion (IsBlockNoted next.past) (immutable_part network.genesis c)) (sym chain_is) noted;
+      past = subst (λ (c : List Block). AllByRecursion (IsBlockNoted next.past) (immutable_part network c)) (sym chain_is) noted;
     };
   }
     where
@@ -245,7 +273,7 @@ module _ {S : Type 0} (network : Network) (old : ChainDb S) (new : Block) (whole
       longer : length old.chain.items ≤ length next.chain.items
       longer = selection_not_shorter network (at_hand old.chain.items old.store new) old.chain.items next.chain.items (selection_at_hand network old.chain.items old.store old.db new ready next.chain.items selected)
 
-      further : immutable_length network.genesis old.chain.items ≤ immutable_length network.genesis next.chain.items
+      further : immutable_length network old.chain.items ≤ immutable_length network next.chain.items
       further = let le = longer in omega (arith, le)
 
       prepared_is : IsPreparedOf network (without_last switch.prepared.back old.chain.items) switch.blocks.items switch.prepared
@@ -269,26 +297,26 @@ module _ {S : Type 0} (network : Network) (old : ChainDb S) (new : Block) (whole
           let w = within in
           omega (arith, e, length-append (without_last switch.back old.chain.items) switch.blocks.items, length-take (length old.chain.items - switch.back) old.chain.items)
 
-      deep : depth next.db ≡ min network.genesis.k (length next.chain.items)
+      deep : depth next.db ≡ length next.chain.items - immutable_length network next.chain.items
       deep =
           committed.depth
           ∙ (ap (λ (n : ℕ). min n (depth old.db - switch.prepared.back + count switch.prepared)) whole.k
           ∙ (ap (λ (n : ℕ). min network.genesis.k (depth old.db - n + count switch.prepared)) is.back
           ∙ (ap (λ (n : ℕ). min network.genesis.k (depth old.db - switch.back + n)) counted
-          ∙ (depth_next network.genesis.k (length old.chain.items) (depth old.db) switch.back (length switch.blocks.items) ready.settled.depth within
+          ∙ (depth_next network.genesis.k (length network.opened) (length old.chain.items) (depth old.db) switch.back (length switch.blocks.items) ready.settled.depth (begins_not_longer old.chain.items network.opened ready.settled.opened) within
           (let l = long in let le = longer in let d = ready.settled.depth in let w = within in omega (arith, l, le, d, w))
-          ∙ ap (min network.genesis.k) (sym long)))))
+          ∙ ap (λ (n : ℕ). n - min n (max (n - network.genesis.k) (length network.opened))) (sym long)))))
 
-      number : length next.chain.items - depth next.db ≡ immutable_length network.genesis next.chain.items
+      number : length next.chain.items - depth next.db ≡ immutable_length network next.chain.items
       number = let d = deep in omega (arith, d)
 
   pub added_at_switch : (switch : Switch S) (mid next : ChainDb S) (result : Result Change AllocError) → IsSwitch network old.chain.items old.store old.db new switch → IsTakenIn old.store new invalid mid.store
       → mid.chain.items ≡ old.chain.items → mid.db ≡ old.db → OnOk result (next.chain.items ≡ without_last switch.back mid.chain.items ++ switch.blocks.items) → OnOk result (IsCommitted mid.db switch.prepared next.db)
       → OnOk result (IsCutBack mid.store (length next.chain.items - depth next.db) next.store)
       → (waiting : Waiting) → IsBroughtTo network (without_last switch.prepared.back old.chain.items ++ switch.blocks.items) old.mempool.waiting.txs waiting → next.mempool ≡ record old.mempool { waiting = waiting }
-      → AllByRecursion (IsBlockNoted next.past) (immutable_part network.genesis (without_last switch.back old.chain.items ++ switch.blocks.items)) → IfOk result (λ told. (told.back ≡ switch.back) × (told.added ≡ length switch.blocks.items)) → IfOk result (IsAdded network old new next)
-  added_at_switch switch mid next (Err e) is taken same_chain same_db chain_is committed cut waiting brought pool_is noted told_is = tt
-  added_at_switch switch mid next (Ok told) is taken same_chain same_db chain_is committed cut waiting brought pool_is noted told_is =
+      → AllByRecursion (IsBlockNoted next.past) (immutable_part network (without_last switch.back old.chain.items ++ switch.blocks.items)) → next.opened ≡ old.opened → IfOk result (λ told. (told.back ≡ switch.back) × (told.added ≡ length switch.blocks.items)) → IfOk result (IsAdded network old new next)
+  added_at_switch switch mid next (Err e) is taken same_chain same_db chain_is committed cut waiting brought pool_is noted same_opened told_is = tt
+  added_at_switch switch mid next (Ok told) is taken same_chain same_db chain_is committed cut waiting brought pool_is noted same_opened told_is =
       added_switched switch mid.store next told is taken (chain_is ∙ ap (λ (c : List Block). without_last switch.back c ++ switch.blocks.items) same_chain)
       (subst (λ (d : Database). IsCommitted d switch.prepared next.db) same_db committed) cut waiting
-      (subst (λ (n : ℕ). IsBroughtTo network (without_last n old.chain.items ++ switch.blocks.items) old.mempool.waiting.txs waiting) is.back brought) pool_is noted told_is.0 told_is.1
+      (subst (λ (n : ℕ). IsBroughtTo network (without_last n old.chain.items ++ switch.blocks.items) old.mempool.waiting.txs waiting) is.back brought) pool_is noted same_opened told_is.0 told_is.1

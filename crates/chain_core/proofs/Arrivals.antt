@@ -6,7 +6,7 @@ use Rattle.std.proofs.lemmas.List.{length-map}
 use Rattle.block.specs.Read.{IsRead}
 use Rattle.model.specs.Block.{Block, block_hash_of}
 use Rattle.model.specs.Genesis.{Genesis}
-use Rattle.model.specs.Ledger.{Network, network_of}
+use Rattle.model.specs.Ledger.{Network, network_on}
 use Rattle.model.specs.Chain.{IsSelection, Stays, Changes, immutable_length}
 use Rattle.model.specs.Transaction.{Transaction}
 use Rattle.model.specs.Mempool.{Submits, revalidated}
@@ -29,7 +29,7 @@ use Rattle.chain_core.specs.declared.chain_db.ChainDb.{ChainDb}
 use Rattle.chain_core.specs.declared.chain_db.Change.{Change}
 use Rattle.chain_core.specs.ChainDbs.{IsWhole, HasState, IsAdded, IsTaken}
 use Rattle.chain_core.specs.Views.{submit_reply_of}
-use Rattle.chain_core.specs.Held.{Held, Stands, held_of}
+use Rattle.chain_core.specs.Held.{Held, Stands, held_of, network_held}
 use Rattle.chain_core.specs.Judgements.{IsJudged}
 
 -- ---- a block to which no refusal applies may be put in
@@ -38,61 +38,61 @@ use Rattle.chain_core.specs.Judgements.{IsJudged}
 abbrev pub at_rest : {S : Type 0} → ChainDb S → State
 at_rest a = record { kept = blocks_of a.store; chain = a.chain.items; mempool = []; followers = [] }
 
-pub rests : {S : Type 0} (network : Network) (a : ChainDb S) → IsWhole network a → HasState network.genesis a (at_rest a)
+pub rests : {S : Type 0} (network : Network) (a : ChainDb S) → IsWhole network a → HasState network a (at_rest a)
 rests network a whole = record { chain = refl; live = settled_live network a.chain.items a.store a.db whole.settled }
 
-pub is_ready : {S : Type 0} (network : Network) (a : ChainDb S) (b : Block) (bytes : List ℕ) → IsWhole network a → IsRead b bytes → IsJudged network.genesis (at_rest a) b None → IsReady network a.chain.items a.store a.db b
+pub is_ready : {S : Type 0} (network : Network) (a : ChainDb S) (b : Block) (bytes : List ℕ) → IsWhole network a → IsRead b bytes → IsJudged network (at_rest a) b None → IsReady network a.chain.items a.store a.db b
 is_ready network a b bytes whole read judged =
-    let none : (r : Refusal) → Applies network.genesis (at_rest a) bytes r → ⊥ = judged bytes read in
+    let none : (r : Refusal) → Applies network (at_rest a) bytes r → ⊥ = judged bytes read in
     let live = (rests network a whole).live in
     record {
       settled = whole.settled;
-      past = elim (cases_lt (immutable_length network.genesis a.chain.items) b.header.number) [ inl young ↦ young | inr old ↦ absurd (none TooOld (b, read.read, old)) ];
+      past = elim (cases_lt (immutable_length network a.chain.items) b.header.number) [ inl young ↦ young | inr old ↦ absurd (none TooOld (b, read.read, old)) ];
       alone = all_from_members (λ c. block_hash_of c ≢ block_hash_of b) (blocks_of a.store)
           (λ c member same. none Clash (b, read.read, (c, inl ((live.members c).0 member), same, λ text. none Known (c, (live.members c).0 member, text))));
     }
 
 -- ---- steps of each state that the core stands for
 
-pub state_of : {S : Type 0} (genesis : Genesis) (a : ChainDb S) (followers : Places) (s : State) → Stands (held_of genesis (blocks_of a.store) a.chain.items a.mempool.waiting.txs followers) s → HasState genesis a s
-state_of genesis a followers s stands = record {
+pub state_of : {S : Type 0} (network : Network) (a : ChainDb S) (followers : Places) (s : State) → Stands (held_of network.genesis network.opened (blocks_of a.store) a.chain.items a.mempool.waiting.txs followers) s → HasState network a s
+state_of network a followers s stands = record {
   chain = stands.chain;
-  live = record { members = stands.members; count = sym (length-map a.store.blocks (λ (x : Stored). x.block)) ∙ stands.count };
+  live = record { members = stands.members network.verifies; count = sym (length-map a.store.blocks (λ (x : Stored). x.block)) ∙ stands.count network.verifies };
 }
 
 -- the block is judged so beside each state
-abbrev pub IsJudgedAt : {S : Type 0} → Genesis → ChainDb S → Block → Option Refusal → Type 0
-IsJudgedAt genesis a b answer = (s : State) → HasState genesis a s → IsJudged genesis s b answer
+abbrev pub IsJudgedAt : {S : Type 0} → Network → ChainDb S → Block → Option Refusal → Type 0
+IsJudgedAt network a b answer = (s : State) → HasState network a s → IsJudged network s b answer
 
 -- a refusal
-pub refused_arrival : {S : Type 0} (network : Network) (a : ChainDb S) (followers : Places) (now : Held) (bytes : List ℕ) (b : Block) (r : Refusal) → held_of network.genesis (blocks_of a.store) a.chain.items a.mempool.waiting.txs followers ≡ now → IsRead b bytes
-    → IsJudgedAt network.genesis a b (Some r) → (s : State) → Stands now s → (t : State) × Step (network_of now.genesis network.verifies) s (Arrive bytes) (Refused r) t × Stands now t
+pub refused_arrival : {S : Type 0} (network : Network) (a : ChainDb S) (followers : Places) (now : Held) (bytes : List ℕ) (b : Block) (r : Refusal) → held_of network.genesis network.opened (blocks_of a.store) a.chain.items a.mempool.waiting.txs followers ≡ now → IsRead b bytes
+    → IsJudgedAt network a b (Some r) → (s : State) → Stands now s → (t : State) × Step (network_held now network.verifies) s (Arrive bytes) (Refused r) t × Stands now t
 refused_arrival network a followers now bytes b r view read judged =
-    subst (λ (h : Held). (s : State) → Stands h s → (t : State) × Step (network_of h.genesis network.verifies) s (Arrive bytes) (Refused r) t × Stands h t) view
-    (λ s stands. (s, (judged s (state_of network.genesis a followers s stands) bytes read, refl), stands))
+    subst (λ (h : Held). (s : State) → Stands h s → (t : State) × Step (network_held h network.verifies) s (Arrive bytes) (Refused r) t × Stands h t) view
+    (λ s stands. (s, (judged s (state_of network a followers s stands) bytes read, refl), stands))
 
 -- where none is told, none applies
-pub none_applies : {S : Type 0} (genesis : Genesis) (a : ChainDb S) (followers : Places) (now : Held) (bytes : List ℕ) (b : Block) → held_of genesis (blocks_of a.store) a.chain.items a.mempool.waiting.txs followers ≡ now → IsRead b bytes → IsJudgedAt genesis a b None
-    → (s : State) → Stands now s → (r : Refusal) → Applies now.genesis s bytes r → ⊥
-none_applies genesis a followers now bytes b view read judged =
-    subst (λ (h : Held). (s : State) → Stands h s → (r : Refusal) → Applies h.genesis s bytes r → ⊥) view (λ s stands. judged s (state_of genesis a followers s stands) bytes read)
+pub none_applies : {S : Type 0} (network : Network) (a : ChainDb S) (followers : Places) (now : Held) (bytes : List ℕ) (b : Block) → held_of network.genesis network.opened (blocks_of a.store) a.chain.items a.mempool.waiting.txs followers ≡ now → IsRead b bytes → IsJudgedAt network a b None
+    → (s : State) → Stands now s → (r : Refusal) → Applies (network_held now network.verifies) s bytes r → ⊥
+none_applies network a followers now bytes b view read judged =
+    subst (λ (h : Held). (s : State) → Stands h s → (r : Refusal) → Applies (network_held h network.verifies) s bytes r → ⊥) view (λ s stands. judged s (state_of network a followers s stands) bytes read)
 
 selection_members : (network : Network) (kept old new : List Block) → AllByRecursion (Contains kept) old → IsSelection network kept old new → AllByRecursion (Contains kept) new
 selection_members network kept old new members (Stays none) = members
 selection_members network kept old new members (Changes c chosen) = chosen.candidate.members
 
 -- a block that is kept
-pub kept_arrival : {S : Type 0} (network : Network) (old new : ChainDb S) (followers moved : Places) (now : Held) (bytes : List ℕ) (b : Block) (told : Change) → held_of network.genesis (blocks_of old.store) old.chain.items old.mempool.waiting.txs followers ≡ now → IsRead b bytes
-    → IsJudgedAt network.genesis old b None → IsAdded network old b new told → moved ≡ moved_places (length new.chain.items - told.added) followers
-    → (s : State) → Stands now s → (t : State) × Step (network_of now.genesis network.verifies) s (Arrive bytes) (Kept told.back told.added) t × Stands (held_of network.genesis (blocks_of new.store) new.chain.items new.mempool.waiting.txs moved) t
+pub kept_arrival : {S : Type 0} (network : Network) (old new : ChainDb S) (followers moved : Places) (now : Held) (bytes : List ℕ) (b : Block) (told : Change) → held_of network.genesis network.opened (blocks_of old.store) old.chain.items old.mempool.waiting.txs followers ≡ now → IsRead b bytes
+    → IsJudgedAt network old b None → IsAdded network old b new told → moved ≡ moved_places (length new.chain.items - told.added) followers
+    → (s : State) → Stands now s → (t : State) × Step (network_held now network.verifies) s (Arrive bytes) (Kept told.back told.added) t × Stands (held_of network.genesis network.opened (blocks_of new.store) new.chain.items new.mempool.waiting.txs moved) t
 kept_arrival {S} network old new followers moved now bytes b told view read judged added moves =
-    subst (λ (h : Held). (s : State) → Stands h s → (t : State) × Step (network_of h.genesis network.verifies) s (Arrive bytes) (Kept told.back told.added) t × Stands (held_of network.genesis (blocks_of new.store) new.chain.items new.mempool.waiting.txs moved) t) view each
+    subst (λ (h : Held). (s : State) → Stands h s → (t : State) × Step (network_held h network.verifies) s (Arrive bytes) (Kept told.back told.added) t × Stands (held_of network.genesis network.opened (blocks_of new.store) new.chain.items new.mempool.waiting.txs moved) t) view each
   where
-    each : (s : State) → Stands (held_of network.genesis (blocks_of old.store) old.chain.items old.mempool.waiting.txs followers) s
-        → (t : State) × Keeps network s bytes told.back told.added t × Stands (held_of network.genesis (blocks_of new.store) new.chain.items new.mempool.waiting.txs moved) t
+    each : (s : State) → Stands (held_of network.genesis network.opened (blocks_of old.store) old.chain.items old.mempool.waiting.txs followers) s
+        → (t : State) × Keeps network s bytes told.back told.added t × Stands (held_of network.genesis network.opened (blocks_of new.store) new.chain.items new.mempool.waiting.txs moved) t
     each s stands =
-        let has = state_of network.genesis old followers s stands in
-        let live : HoldsLive network.genesis s.kept old.chain.items old.store = subst (λ (c : List Block). HoldsLive network.genesis s.kept c old.store) (sym has.chain) has.live in
+        let has = state_of network old followers s stands in
+        let live : HoldsLive network s.kept old.chain.items old.store = subst (λ (c : List Block). HoldsLive network s.kept c old.store) (sym has.chain) has.live in
         let after = added.live s.kept live in
         let in_old : AllByRecursion (Contains s.kept) old.chain.items = subst (AllByRecursion (Contains s.kept)) (sym stands.chain) stands.chain_kept in
         let in_both = all_weaker (Contains s.kept) (Contains (b ∷ s.kept)) old.chain.items (λ c member. contains_later b s.kept c member) in_old in
@@ -116,8 +116,8 @@ kept_arrival {S} network old new followers moved now bytes b told view read judg
             chain = refl;
             mempool = refl;
             followers = subst (λ (p : Places). ArePlacesOf new.chain.items p gs.0) places gs.2;
-            members = after.members;
-            count = length-map new.store.blocks (λ (x : Stored). x.block) ∙ after.count;
+            members = λ verifies. after.members;
+            count = λ verifies. length-map new.store.blocks (λ (x : Stored). x.block) ∙ after.count;
             chain_kept = selection_members network (b ∷ s.kept) old.chain.items new.chain.items in_both selection;
           },
         )
@@ -127,27 +127,27 @@ kept_arrival {S} network old new followers moved now bytes b told view read judg
 -- bytes that are submitted, and what they leave
 abbrev pub SubmitSteps : {S : Type 0} → Network → ChainDb S → Places → List ℕ → Held → Result SubmitReply AllocError → Type 0
 SubmitSteps network new followers bytes now result = (s : State) → Stands now s
-    → (t : State) × Step (network_of now.genesis network.verifies) s (Submit bytes) (submit_reply_of result) t
-    × Stands (held_of network.genesis (blocks_of new.store) new.chain.items new.mempool.waiting.txs followers) t
+    → (t : State) × Step (network_held now network.verifies) s (Submit bytes) (submit_reply_of result) t
+    × Stands (held_of network.genesis network.opened (blocks_of new.store) new.chain.items new.mempool.waiting.txs followers) t
 
-pub submitted : {S : Type 0} (network : Network) (old new : ChainDb S) (followers : Places) (now : Held) (bytes : List ℕ) (result : Result SubmitReply AllocError) → held_of network.genesis (blocks_of old.store) old.chain.items old.mempool.waiting.txs followers ≡ now → IsWhole network old
-    → IfOk result (λ reply. (genesis : Genesis) → IsWhole (network_of genesis network.verifies) old → IsTaken (network_of genesis network.verifies) old bytes (answer_of reply) new) → new.chain ≡ old.chain → new.store ≡ old.store → OnErr result (new.mempool ≡ old.mempool)
+pub submitted : {S : Type 0} (network : Network) (old new : ChainDb S) (followers : Places) (now : Held) (bytes : List ℕ) (result : Result SubmitReply AllocError) → held_of network.genesis network.opened (blocks_of old.store) old.chain.items old.mempool.waiting.txs followers ≡ now → IsWhole network old
+    → IfOk result (λ reply. (genesis : Genesis) (opened : List Block) → IsWhole (network_on genesis network.verifies opened) old → IsTaken (network_on genesis network.verifies opened) old bytes (answer_of reply) new) → new.chain ≡ old.chain → new.store ≡ old.store → OnErr result (new.mempool ≡ old.mempool)
     → SubmitSteps network new followers bytes now result
 submitted {S} network old new followers now bytes (Err e) view whole ok chain store err =
     subst (λ (h : Held). SubmitSteps network new followers bytes h (Err e)) view
     (λ s stands. (
       s,
       refl,
-      subst (λ (m : List Transaction). Stands (held_of network.genesis (blocks_of new.store) new.chain.items m followers) s) (sym (ap (λ (p : Pool). p.waiting.txs) err))
-          (subst (λ (c : Vec Block). Stands (held_of network.genesis (blocks_of new.store) c.items old.mempool.waiting.txs followers) s) (sym chain)
-          (subst (λ (x : Store). Stands (held_of network.genesis (blocks_of x) old.chain.items old.mempool.waiting.txs followers) s) (sym store) stands)),
+      subst (λ (m : List Transaction). Stands (held_of network.genesis network.opened (blocks_of new.store) new.chain.items m followers) s) (sym (ap (λ (p : Pool). p.waiting.txs) err))
+          (subst (λ (c : Vec Block). Stands (held_of network.genesis network.opened (blocks_of new.store) c.items old.mempool.waiting.txs followers) s) (sym chain)
+          (subst (λ (x : Store). Stands (held_of network.genesis network.opened (blocks_of x) old.chain.items old.mempool.waiting.txs followers) s) (sym store) stands)),
     ))
 submitted {S} network old new followers now bytes (Ok reply) view whole ok chain store err =
     subst (λ (h : Held). SubmitSteps network new followers bytes h (Ok reply)) view each
   where
-    each : SubmitSteps network new followers bytes (held_of network.genesis (blocks_of old.store) old.chain.items old.mempool.waiting.txs followers) (Ok reply)
+    each : SubmitSteps network new followers bytes (held_of network.genesis network.opened (blocks_of old.store) old.chain.items old.mempool.waiting.txs followers) (Ok reply)
     each s stands =
-        let is = ok network.genesis whole in
+        let is = ok network.genesis network.opened whole in
         let t : State = record { kept = s.kept; chain = s.chain; mempool = new.mempool.waiting.txs; followers = s.followers } in (
           t,
           record {
@@ -156,7 +156,7 @@ submitted {S} network old new followers now bytes (Ok reply) view whole ok chain
                 (subst (λ (m : List Transaction). Submits network old.chain.items m bytes (answer_of reply) new.mempool.waiting.txs) stands.mempool is.submits);
             after = refl;
           },
-          subst (λ (c : Vec Block). Stands (held_of network.genesis (blocks_of new.store) c.items new.mempool.waiting.txs followers) t) (sym chain)
-              (subst (λ (x : Store). Stands (held_of network.genesis (blocks_of x) old.chain.items new.mempool.waiting.txs followers) t) (sym store)
+          subst (λ (c : Vec Block). Stands (held_of network.genesis network.opened (blocks_of new.store) c.items new.mempool.waiting.txs followers) t) (sym chain)
+              (subst (λ (x : Store). Stands (held_of network.genesis network.opened (blocks_of x) old.chain.items new.mempool.waiting.txs followers) t) (sym store)
               (record { chain = stands.chain; mempool = refl; followers = stands.followers; members = stands.members; count = stands.count; chain_kept = stands.chain_kept })),
         )

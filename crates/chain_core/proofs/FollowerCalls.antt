@@ -5,7 +5,6 @@ use Rattle.std.proofs.lemmas.Bool.{cases_lt, ltb-true, ltb-false}
 use Rattle.std.proofs.lemmas.List.{take_all, length-take-le}
 use Rattle.model.specs.Signature.{Verifies}
 use Rattle.model.specs.Genesis.{Genesis}
-use Rattle.model.specs.Ledger.{network_of}
 use Rattle.model.specs.Block.{Block}
 use Rattle.model.specs.Chain.{Point as Place', genesis_tip, tip_point, IsLinked}
 use Rattle.model.specs.Transaction.{Transaction}
@@ -30,8 +29,8 @@ use Rattle.chain_core.specs.declared.follower.Instruction.{Instruction}
 use Rattle.chain_core.specs.declared.follower.NextFault.{NextFault}
 use Rattle.chain_core.specs.declared.follower.NextFault.TheVariants as next
 use Rattle.chain_core.specs.Views.{open_reply_of, next_reply_of, forward_reply_of, close_reply_of, instruction_of}
-use Rattle.chain_core.specs.FollowerCalls.{IsWantAtOpening, IsWantAtNext}
-use Rattle.chain_core.specs.Held.{Held, Stands, held_of}
+use Rattle.chain_core.specs.FollowerCalls.{IsWantAtOpening, IsWantAtNext, Peeks}
+use Rattle.chain_core.specs.Held.{Held, Stands, held_of, network_held}
 
 some_same : {X : Type 0} (x y : X) → Some x ≡ Some y → x ≡ y
 some_same x y e = cc
@@ -53,9 +52,9 @@ none_open places id false says is = by_place (follower_of places id) refl
     by_place None none = none
     by_place (Some place) some = absurd (let e : false ≡ true = says.1 (place, some) in cc)
 
-module _ (verifies : Verifies) (genesis : Genesis) (live chain : List Block) (txs : List Transaction) where
+module _ (verifies : Verifies) (genesis : Genesis) (opened_on live chain : List Block) (txs : List Transaction) where
   -- what stands for a state stands for it with other followers, once these stand there
-  followed : (old new : Places) (s : State) (gs : Followers) → Stands (held_of genesis live chain txs old) s → ArePlacesOf s.chain new gs → Stands (held_of genesis live chain txs new) (record s { followers = gs })
+  followed : (old new : Places) (s : State) (gs : Followers) → Stands (held_of genesis opened_on live chain txs old) s → ArePlacesOf s.chain new gs → Stands (held_of genesis opened_on live chain txs new) (record s { followers = gs })
   followed old new s gs stands are = record {
     chain = stands.chain;
     mempool = stands.mempool;
@@ -66,18 +65,18 @@ module _ (verifies : Verifies) (genesis : Genesis) (live chain : List Block) (tx
   }
 
   -- beside the chain of the state
-  beside : (places : Places) (s : State) → Stands (held_of genesis live chain txs places) s → ArePlacesOf s.chain places s.followers
+  beside : (places : Places) (s : State) → Stands (held_of genesis opened_on live chain txs places) s → ArePlacesOf s.chain places s.followers
   beside places s stands = subst (λ (c : List Block). ArePlacesOf c places s.followers) stands.chain stands.followers
 
-  still : (old new : Places) (s : State) → new ≡ old → Stands (held_of genesis live chain txs old) s → Stands (held_of genesis live chain txs new) s
-  still old new s same stands = subst (λ (p : Places). Stands (held_of genesis live chain txs p) s) (sym same) stands
+  still : (old new : Places) (s : State) → new ≡ old → Stands (held_of genesis opened_on live chain txs old) s → Stands (held_of genesis opened_on live chain txs new) s
+  still old new s same stands = subst (λ (p : Places). Stands (held_of genesis opened_on live chain txs p) s) (sym same) stands
 
   -- ---- a follower is opened
 
   abbrev pub OpenSteps : Places → Held → Result FollowerId OpenFault → Type 0
-  OpenSteps new now result = (s : State) → Stands now s → (t : State) × Step (network_of now.genesis verifies) s Open (open_reply_of result) t × Stands (held_of genesis live chain txs new) t
+  OpenSteps new now result = (s : State) → Stands now s → (t : State) × Step (network_held now verifies) s Open (open_reply_of result) t × Stands (held_of genesis opened_on live chain txs new) t
 
-  pub opened : (old new : Places) (now : Held) (result : Result FollowerId OpenFault) → held_of genesis live chain txs old ≡ now → IfOk result (λ id. IsOpened old id.number new) → IfErr result (IsOpenFault old) → OnErr result (new ≡ old) → OpenSteps new now result
+  pub opened : (old new : Places) (now : Held) (result : Result FollowerId OpenFault) → held_of genesis opened_on live chain txs old ≡ now → IfOk result (λ id. IsOpened old id.number new) → IfErr result (IsOpenFault old) → OnErr result (new ≡ old) → OpenSteps new now result
   opened old new now (Ok id) view ok fault err = subst (λ (h : Held). OpenSteps new h (Ok id)) view (λ s stands.
       let are = beside old s stands in (
         record s { followers = with_opened s.followers },
@@ -88,7 +87,7 @@ module _ (verifies : Verifies) (genesis : Genesis) (live chain : List Block) (tx
       (λ s stands. (s, (subst (λ n. follower_limit ≤ n) (sym (the_lengths.free s.chain old s.followers (beside old s stands))) fault, refl), still old new s err stands))
   opened old new now (Err open'.OutOfMemory) view ok fault err = subst (λ (h : Held). OpenSteps new h (Err open'.OutOfMemory)) view (λ s stands. (s, refl, still old new s err stands))
 
-  pub want_at_opening : (old : Places) (now : Held) (result : Result FollowerId OpenFault) → held_of genesis live chain txs old ≡ now → IfErr result (IsOpenFault old) → IfErr result (IsWantAtOpening now)
+  pub want_at_opening : (old : Places) (now : Held) (result : Result FollowerId OpenFault) → held_of genesis opened_on live chain txs old ≡ now → IfErr result (IsOpenFault old) → IfErr result (IsWantAtOpening now)
   want_at_opening old now (Ok id) view fault = tt
   want_at_opening old now (Err open'.TooManyFollowers) view fault = λ is. absurd cc
   want_at_opening old now (Err open'.OutOfMemory) view fault = λ is. subst (λ (h : Held). free_id h.followers < follower_limit) view fault
@@ -96,9 +95,9 @@ module _ (verifies : Verifies) (genesis : Genesis) (live chain : List Block) (tx
   -- ---- a follower is told what comes next
 
   abbrev pub NextSteps : {S : Type 0} → Places → ℕ → Held → Result (Option (Instruction S)) NextFault → Type 0
-  NextSteps new id now result = (s : State) → Stands now s → (t : State) × Step (network_of now.genesis verifies) s (Next id) (next_reply_of result) t × Stands (held_of genesis live chain txs new) t
+  NextSteps new id now result = (s : State) → Stands now s → (t : State) × Step (network_held now verifies) s (Next id) (next_reply_of result) t × Stands (held_of genesis opened_on live chain txs new) t
 
-  pub instructed : {S : Type 0} (old new : Places) (id : ℕ) (now : Held) (height : ℕ) (place : Place) (instruction : Option (Instruction S)) → held_of genesis live chain txs old ≡ now → height ≡ length chain → follower_of old id ≡ Some place
+  pub instructed : {S : Type 0} (old new : Places) (id : ℕ) (now : Held) (height : ℕ) (place : Place) (instruction : Option (Instruction S)) → held_of genesis opened_on live chain txs old ≡ now → height ≡ length chain → follower_of old id ≡ Some place
       → IsStepOf chain (step_of height place) (instruction_of instruction) → new ≡ slice_set old id (Some (stepped_place height place)) → NextSteps new id now (Ok instruction)
   instructed old new id now height place instruction view high open_at step after = subst (λ (h : Held). NextSteps new id h (Ok instruction)) view (λ s stands.
       let are = beside old s stands in
@@ -113,17 +112,32 @@ module _ (verifies : Verifies) (genesis : Genesis) (live chain : List Block) (tx
       ))
 
   -- from what the two calls on the follower's place say
-  pub instructed_by : {S : Type 0} (old new : Places) (id : ℕ) (now : Held) (height : ℕ) (shown : List Block) (step told : Option code.Step) (instruction : Option (Instruction S)) → held_of genesis live chain txs old ≡ now → height ≡ length now.chain → shown ≡ chain
+  pub instructed_by : {S : Type 0} (old new : Places) (id : ℕ) (now : Held) (height : ℕ) (shown : List Block) (step told : Option code.Step) (instruction : Option (Instruction S)) → held_of genesis opened_on live chain txs old ≡ now → height ≡ length now.chain → shown ≡ chain
       → (place : Place) × (follower_of old id ≡ Some place) × (step ≡ step_of height place) → IsStepOf shown step (instruction_of instruction) → IsStepped old id height told new → NextSteps new id now (Ok instruction)
   instructed_by old new id now height shown step told instruction view high same due is stepped =
       let one : due.0 ≡ stepped.place = some_same due.0 stepped.place (sym due.1 ∙ stepped.is_open) in
       instructed old new id now height stepped.place instruction view (high ∙ sym (ap (λ (h : Held). length h.chain) view)) stepped.is_open
       (subst (λ (x : Option code.Step). IsStepOf chain x (instruction_of instruction)) (due.2 ∙ ap (step_of height) one) (subst (λ (c : List Block). IsStepOf c step (instruction_of instruction)) same is)) stepped.after
 
-  pub next_unknown : {S : Type 0} (old new : Places) (id : ℕ) (now : Held) (result : Result (Option (Instruction S)) NextFault) → held_of genesis live chain txs old ≡ now → IsErrAnd result (λ e. e ≡ next.UnknownFollower) → follower_of old id ≡ None → new ≡ old → NextSteps new id now result
+  pub next_unknown : {S : Type 0} (old new : Places) (id : ℕ) (now : Held) (result : Result (Option (Instruction S)) NextFault) → held_of genesis opened_on live chain txs old ≡ now → IsErrAnd result (λ e. e ≡ next.UnknownFollower) → follower_of old id ≡ None → new ≡ old → NextSteps new id now result
   next_unknown old new id now (Ok i) view is nobody same = absurd is
   next_unknown {S} old new id now (Err e) view is nobody same = subst (λ (f : NextFault). NextSteps {S = S} new id now (Err f)) (sym is) (subst (λ (h : Held). NextSteps {S = S} new id h (Err next.UnknownFollower)) view
       (λ s stands. (s, (the_lengths.nobody s.chain old s.followers id (beside old s stands) nobody, refl), still old new s same stands)))
+
+  -- a step that may be taken may be looked at
+  pub peek_of : {S : Type 0} (new : Places) (id : ℕ) (now : Held) (result : Result (Option (Instruction S)) NextFault) → NextSteps new id now result → Peeks verifies now id (next_reply_of result)
+  peek_of new id now result steps = λ s stands. let on = steps s stands in (on.0, on.1)
+
+  pub peek_nothing : {S : Type 0} (id : ℕ) (now : Held) (result : Result (Option (Instruction S)) NextFault) → IsErrAnd result (λ e. e ≡ next.OutOfMemory) → Peeks verifies now id (next_reply_of result)
+  peek_nothing id now (Ok i) is = absurd is
+  peek_nothing {S} id now (Err e) is = subst (λ (f : NextFault). Peeks verifies now id (next_reply_of {S = S} (Err f))) (sym is) (λ s stands. (s, refl))
+
+  pub peeked : {S : Type 0} (old : Places) (id : ℕ) (now : Held) (height : ℕ) (shown : List Block) (step : Option code.Step) (instruction : Option (Instruction S)) → held_of genesis opened_on live chain txs old ≡ now → height ≡ length now.chain → shown ≡ chain
+      → (place : Place) × (follower_of old id ≡ Some place) × (step ≡ step_of height place) → IsStepOf shown step (instruction_of instruction) → Peeks verifies now id (next_reply_of (Ok instruction))
+  peeked {S} old id now height shown step instruction view high same due is =
+      let new = slice_set old id (Some (stepped_place height due.0)) in
+      peek_of new id now (Ok instruction) (instructed old new id now height due.0 instruction view (high ∙ sym (ap (λ (h : Held). length h.chain) view)) due.1
+      (subst (λ (x : Option code.Step). IsStepOf chain x (instruction_of instruction)) due.2 (subst (λ (c : List Block). IsStepOf c step (instruction_of instruction)) same is)) refl)
 
   -- memory is asked for only where a block comes next
   add_is_due : (height : ℕ) (place : Place) (after : ℕ) (back more : Bool) → nat_lt place.agreed place.told ≡ back → nat_lt place.told height ≡ more
@@ -132,7 +146,7 @@ module _ (verifies : Verifies) (genesis : Genesis) (live chain : List Block) (tx
   add_is_due height place after false true back_is more_is is = (ltb-false place.agreed place.told back_is, ltb-true place.told height more_is)
   add_is_due height place after false false back_is more_is is = absurd (let e : None ≡ Some (Add after) = is in cc)
 
-  pub want_at_next : {S : Type 0} (old : Places) (id : ℕ) (now : Held) (height : ℕ) (step : Option code.Step) (result : Result (Option (Instruction S)) NextFault) → held_of genesis live chain txs old ≡ now → height ≡ length now.chain
+  pub want_at_next : {S : Type 0} (old : Places) (id : ℕ) (now : Held) (height : ℕ) (step : Option code.Step) (result : Result (Option (Instruction S)) NextFault) → held_of genesis opened_on live chain txs old ≡ now → height ≡ length now.chain
       → (place : Place) × (follower_of old id ≡ Some place) × (step ≡ step_of height place) → (after : ℕ) × (step ≡ Some (Add after)) → IfErr result (IsWantAtNext now id)
   want_at_next old id now height step (Ok i) view high due add = tt
   want_at_next old id now height step (Err e) view high due add = λ is. subst (λ (h : Held). (s : State) → Stands h s → HasDue s id) view (λ s stands.
@@ -149,13 +163,13 @@ module _ (verifies : Verifies) (genesis : Genesis) (live chain : List Block) (tx
   -- ---- a follower is set to a point
 
   abbrev pub ForwardSteps : Places → ℕ → List Place' → Held → Result (Option Point) UnknownFollower → Type 0
-  ForwardSteps new id points now result = (s : State) → Stands now s → (t : State) × Step (network_of now.genesis verifies) s (Forward id points) (forward_reply_of result) t × Stands (held_of genesis live chain txs new) t
+  ForwardSteps new id points now result = (s : State) → Stands now s → (t : State) × Step (network_held now verifies) s (Forward id points) (forward_reply_of result) t × Stands (held_of genesis opened_on live chain txs new) t
 
-  pub forward_unknown : (old new : Places) (id : ℕ) (points : List Place') (now : Held) (unknown : UnknownFollower) → held_of genesis live chain txs old ≡ now → follower_of old id ≡ None → new ≡ old → ForwardSteps new id points now (Err unknown)
+  pub forward_unknown : (old new : Places) (id : ℕ) (points : List Place') (now : Held) (unknown : UnknownFollower) → held_of genesis opened_on live chain txs old ≡ now → follower_of old id ≡ None → new ≡ old → ForwardSteps new id points now (Err unknown)
   forward_unknown old new id points now unknown view nobody same = subst (λ (h : Held). ForwardSteps new id points h (Err unknown)) view
       (λ s stands. (s, (the_lengths.nobody s.chain old s.followers id (beside old s stands) nobody, refl), still old new s same stands))
 
-  pub forward_nowhere : (old new : Places) (id : ℕ) (points : List Place') (now : Held) (place : Place) → held_of genesis live chain txs old ≡ now → follower_of old id ≡ Some place → IsFirstOn chain points None → new ≡ old → ForwardSteps new id points now (Ok None)
+  pub forward_nowhere : (old new : Places) (id : ℕ) (points : List Place') (now : Held) (place : Place) → held_of genesis opened_on live chain txs old ≡ now → follower_of old id ≡ Some place → IsFirstOn chain points None → new ≡ old → ForwardSteps new id points now (Ok None)
   forward_nowhere old new id points now place view open_at first same = subst (λ (h : Held). ForwardSteps new id points h (Ok None)) view (λ s stands.
       let there = the_lengths.is_open s.chain old s.followers id place (beside old s stands) open_at in
       (s, record { old = there.0; is_open = there.1; first = subst (λ (c : List Block). IsFirstOn c points None) stands.chain first; after = refl }, still old new s same stands))
@@ -176,7 +190,7 @@ module _ (verifies : Verifies) (genesis : Genesis) (live chain : List Block) (tx
     | inr within ↦ within
   ]
 
-  pub forwarded : (old new : Places) (id : ℕ) (points : List Place') (now : Held) (place : Place) (found : Point) → held_of genesis live chain txs old ≡ now → IsLinked genesis_tip chain → follower_of old id ≡ Some place → IsFirstOn chain points (Some (point_of found))
+  pub forwarded : (old new : Places) (id : ℕ) (points : List Place') (now : Held) (place : Place) (found : Point) → held_of genesis opened_on live chain txs old ≡ now → IsLinked genesis_tip chain → follower_of old id ≡ Some place → IsFirstOn chain points (Some (point_of found))
       → new ≡ slice_set old id (Some (standing found.number)) → ForwardSteps new id points now (Ok (Some found))
   forwarded old new id points now place found view linked open_at first after = subst (λ (h : Held). ForwardSteps new id points h (Ok (Some found))) view (λ s stands.
       let are = beside old s stands in
@@ -189,13 +203,13 @@ module _ (verifies : Verifies) (genesis : Genesis) (live chain : List Block) (tx
       ))
 
   -- from what the search for the point says
-  pub forwarded_to : (old new : Places) (id : ℕ) (points : List Place') (now : Held) (shown : List Block) (point : Point) (result : Option Point) → held_of genesis live chain txs old ≡ now → IsLinked genesis_tip chain → shown ≡ chain
+  pub forwarded_to : (old new : Places) (id : ℕ) (points : List Place') (now : Held) (shown : List Block) (point : Point) (result : Option Point) → held_of genesis opened_on live chain txs old ≡ now → IsLinked genesis_tip chain → shown ≡ chain
       → IsFirstOn shown points (option_map point_of result) → result ≡ Some point → IsForwarded old id point.number new → ForwardSteps new id points now (Ok (Some point))
   forwarded_to old new id points now shown point result view linked same first is ok =
       forwarded old new id points now ok.place point view linked ok.is_open
       (subst (λ (c : List Block). IsFirstOn c points (Some (point_of point))) same (subst (λ (r : Option Point). IsFirstOn shown points (option_map point_of r)) is first)) ok.after
 
-  pub forwarded_nowhere : (old new : Places) (id : ℕ) (points : List Place') (now : Held) (shown : List Block) (result : Option Point) → held_of genesis live chain txs old ≡ now → shown ≡ chain
+  pub forwarded_nowhere : (old new : Places) (id : ℕ) (points : List Place') (now : Held) (shown : List Block) (result : Option Point) → held_of genesis opened_on live chain txs old ≡ now → shown ≡ chain
       → IsFirstOn shown points (option_map point_of result) → result ≡ None → (place : Place) × (follower_of old id ≡ Some place) → new ≡ old → ForwardSteps new id points now (Ok result)
   forwarded_nowhere old new id points now shown result view same first is open_at stays =
       subst (λ (r : Option Point). ForwardSteps new id points now (Ok r)) (sym is) (forward_nowhere old new id points now open_at.0 view open_at.1
@@ -204,9 +218,9 @@ module _ (verifies : Verifies) (genesis : Genesis) (live chain : List Block) (tx
   -- ---- a follower is closed
 
   abbrev pub CloseSteps : Places → ℕ → Held → Result (Unit {0}) UnknownFollower → Type 0
-  CloseSteps new id now result = (s : State) → Stands now s → (t : State) × Step (network_of now.genesis verifies) s (Close id) (close_reply_of result) t × Stands (held_of genesis live chain txs new) t
+  CloseSteps new id now result = (s : State) → Stands now s → (t : State) × Step (network_held now verifies) s (Close id) (close_reply_of result) t × Stands (held_of genesis opened_on live chain txs new) t
 
-  pub closed : (old new : Places) (id : ℕ) (now : Held) (result : Result (Unit {0}) UnknownFollower) → held_of genesis live chain txs old ≡ now → OnOk result (IsClosed old id new) → OnErr result (follower_of old id ≡ None) → OnErr result (new ≡ old) → CloseSteps new id now result
+  pub closed : (old new : Places) (id : ℕ) (now : Held) (result : Result (Unit {0}) UnknownFollower) → held_of genesis opened_on live chain txs old ≡ now → OnOk result (IsClosed old id new) → OnErr result (follower_of old id ≡ None) → OnErr result (new ≡ old) → CloseSteps new id now result
   closed old new id now (Ok done) view ok unknown err = subst (λ (h : Held). CloseSteps new id h (Ok done)) view (λ s stands.
       let are = beside old s stands in
       let there = the_lengths.is_open s.chain old s.followers id ok.place are ok.is_open in (

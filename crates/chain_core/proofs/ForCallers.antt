@@ -2,5 +2,5 @@
 
 -- A core and its answers may go to another thread.
 pub use Rattle.chain_core.proofs.Crossing.{Core-send, Reply-send}
--- A new core stands for the opening state.
+-- A core before anything came stands for the opening state.
 pub use Rattle.chain_core.proofs.Runs.{opening_stands}

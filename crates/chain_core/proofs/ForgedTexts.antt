@@ -12,7 +12,7 @@ use Rattle.model.specs.Transaction.{Transaction, SpellsTransaction, item_of_tran
 use Rattle.model.specs.Rules.{Params}
 use Rattle.model.specs.Genesis.{IsGenesis}
 use Rattle.model.specs.Block.{Block, SpellsBlock, block_text, block_hash_of, item_of_transactions}
-use Rattle.model.specs.Ledger.{Network, network_of}
+use Rattle.model.specs.Ledger.{Network}
 use Rattle.model.specs.Chain.{Tip, genesis_tip, tip_after, IsValidChain}
 use Rattle.model.specs.Applying.{LedgerState, IsStateOf}
 use Rattle.model.specs.Mempool.{picked, fits_in_a_block, nests_in_a_block}
@@ -33,7 +33,7 @@ use Rattle.ledgerdb.proofs.ForCallers.{database_valid}
 use Rattle.chainsel.specs.Ready.{IsSettled}
 use Rattle.chain_core.specs.declared.chain_db.ChainDb.{ChainDb}
 use Rattle.chain_core.specs.ChainDbs.{IsWhole}
-use Rattle.chain_core.specs.Held.{Held, Stands, held_of}
+use Rattle.chain_core.specs.Held.{Held, Stands, held_of, network_held}
 use Rattle.chain_core.specs.ForgedBlocks.{IsForgedAs}
 use Rattle.chain_core.proofs.Arrivals.{state_of}
 use Rattle.chain_core.proofs.Pools.{outputs_are}
@@ -45,9 +45,9 @@ AreRead blocks = AllByRecursion (λ x. IsRead x.block (block_text x.block)) bloc
 
 -- every state that the core stands for
 pub ready_for_one : {S : Type 0} (network : Network) (a : ChainDb S) (followers : Places) (s : State) → IsWhole network a → AreRead a.store.blocks
-    → Stands (held_of network.genesis (blocks_of a.store) a.chain.items a.mempool.waiting.txs followers) s → IsReadyForOne network s
+    → Stands (held_of network.genesis network.opened (blocks_of a.store) a.chain.items a.mempool.waiting.txs followers) s → IsReadyForOne network s
 ready_for_one network a followers s whole read stands =
-    let has = state_of network.genesis a followers s stands in
+    let has = state_of network a followers s stands in
     let settled = subst (λ (c : List Block). IsSettled network c a.store a.db) has.chain whole.settled in
     let live = has.live in
     let all : List Block = blocks_of a.store ++ s.chain in
@@ -56,7 +56,7 @@ ready_for_one network a followers s whole read stands =
       longest = λ c candidate. settled.longest c (candidate_over network s.kept all s.chain c
           (λ b member. Contains-append_left (blocks_of a.store) s.chain b ((live.members b).1 member))
           (all_from_members (Contains all) s.chain (λ b member. Contains-append_right (blocks_of a.store) s.chain b member)) candidate);
-      distinct = distinct_by_count (blocks_of a.store) (live_of network.genesis s) settled.distinct (λ b member. (live.members b).0 member) (λ b member. (live.members b).1 member)
+      distinct = distinct_by_count (blocks_of a.store) (live_of network s) settled.distinct (λ b member. (live.members b).0 member) (λ b member. (live.members b).1 member)
           (let count = live.count in omega (arith, length-map a.store.blocks (λ (x : Stored). x.block)));
       members = stands.chain_kept;
       spelled = λ b member.
@@ -67,10 +67,10 @@ ready_for_one network a followers s whole read stands =
 
 -- so where the bytes arrive next the block is put on
 pub put_on_next : {S : Type 0} (network : Network) (a : ChainDb S) (followers : Places) (now : Held) (slot : ℕ) (bytes : List ℕ) (point : Point) → IsGenesis network.genesis → IsWhole network a → AreRead a.store.blocks
-    → held_of network.genesis (blocks_of a.store) a.chain.items a.mempool.waiting.txs followers ≡ now → IsForgedAs network a.chain.items a.mempool.waiting.txs slot bytes point
-    → (s : State) → Stands now s → (b : Block) → SpellsBlock b bytes → ArrivesNext (network_of now.genesis network.verifies) s b bytes
+    → held_of network.genesis network.opened (blocks_of a.store) a.chain.items a.mempool.waiting.txs followers ≡ now → IsForgedAs network a.chain.items a.mempool.waiting.txs slot bytes point
+    → (s : State) → Stands now s → (b : Block) → SpellsBlock b bytes → ArrivesNext (network_held now network.verifies) s b bytes
 put_on_next network a followers now slot bytes point genesis whole read view forged =
-    subst (λ (h : Held). (s : State) → Stands h s → (b : Block) → SpellsBlock b bytes → ArrivesNext (network_of h.genesis network.verifies) s b bytes) view
+    subst (λ (h : Held). (s : State) → Stands h s → (b : Block) → SpellsBlock b bytes → ArrivesNext (network_held h network.verifies) s b bytes) view
     (λ s stands b spelled.
     let same : forged.block ≡ b = one_block forged.block b bytes forged.text spelled in
     let here = subst (λ (c : List Block). IsForged network c a.mempool.waiting.txs slot forged.block) stands.chain forged.forged in

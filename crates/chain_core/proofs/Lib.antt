@@ -7,6 +7,7 @@ pub mod Refusals
 pub mod Arrivals
 pub mod Runs
 pub mod Reached
+pub mod OpenedOn
 pub mod ForgedTexts
 pub mod Results
 pub mod Points

@@ -101,11 +101,11 @@ among_first chain n b within linked member at =
 -- where a hash is neither noted nor that of a live block no block of the chain has it
 pub unnoted_alone : {S : Type 0} (network : Network) (a : ChainDb S) → IsWhole network a → (hash : List ℕ) → (IsNoted a.past hash → ⊥) → HasNoneAt a.store hash → (c : Block) → Contains a.chain.items c → block_hash_of c ≡ hash → ⊥
 unnoted_alone network a whole hash unnoted none c member same =
-    let n = immutable_length network.genesis a.chain.items in
+    let n = immutable_length network a.chain.items in
     let linked = (database_valid network a.chain.items a.db whole.settled.database).linked in
     elim (cases_lt n c.header.number) [
       | inl young ↦ none c (all_of_member (λ (x : Block). n < x.header.number → HasBlock a.store x) a.chain.items c whole.settled.live member young) same
       | inr old ↦
           let first = among_first a.chain.items n c (omega arith) linked member old in
-          unnoted (subst (IsNoted a.past) same (all_of_member (IsBlockNoted a.past) (immutable_part network.genesis a.chain.items) c whole.past first))
+          unnoted (subst (IsNoted a.past) same (all_of_member (IsBlockNoted a.past) (immutable_part network a.chain.items) c whole.past first))
     ]

@@ -92,10 +92,10 @@ pub stay_brought : (network : Network) (chain : List Block) (old new : Pool) (wa
 stay_brought network chain old new waiting brought_to is = ap (λ (p : Pool). p.waiting.txs) is ∙ brought_to.stay
 
 -- before anything came
-pub pool_at_start : (network : Network) (state : LedgerState) → IsStateOf network [] state → (pool : Pool) (capacity : ℕ) (unspent : Utxo) → capacity ≡ network.genesis.max_mempool → unspent ≡ state.ledger.utxo
-    → pool ≡ record { capacity = capacity; waiting = record { txs = []; unspent = unspent } } → IsPoolOf network [] pool
-pool_at_start network state is pool capacity unspent capacity_is unspent_is pool_is = subst (IsPoolOf network []) (sym pool_is) (record {
+pub pool_at_start : (network : Network) (chain : List Block) (state : LedgerState) → IsStateOf network chain state → (pool : Pool) (capacity : ℕ) (unspent : Utxo) → capacity ≡ network.genesis.max_mempool → unspent ≡ state.ledger.utxo
+    → pool ≡ record { capacity = capacity; waiting = record { txs = []; unspent = unspent } } → IsPoolOf network chain pool
+pool_at_start network chain state is pool capacity unspent capacity_is unspent_is pool_is = subst (IsPoolOf network chain) (sym pool_is) (record {
   capacity = capacity_is;
-  valid = nothing_valid network [];
-  unspent = λ utxo of_chain. unspent_is ∙ one_utxo network [] state is state.ledger.utxo utxo (outputs_are network [] state is) (sym (outputs_are network [] state is) ∙ of_chain);
+  valid = nothing_valid network chain;
+  unspent = λ utxo of_chain. unspent_is ∙ one_utxo network chain state is state.ledger.utxo utxo (outputs_are network chain state is) (sym (outputs_are network chain state is) ∙ of_chain);
 })

@@ -4,7 +4,6 @@ use Rattle.std.specs.Prelude.{Any, Some, None}
 use Rattle.std.proofs.lemmas.Bool.{cases_lt}
 use Rattle.block.specs.Read.{IsRead}
 use Rattle.model.specs.Block.{Block, block_hash_of, block_text, body_hash_of}
-use Rattle.model.specs.Genesis.{Genesis}
 use Rattle.model.specs.Ledger.{Network}
 use Rattle.model.specs.Chain.{immutable_length}
 use Rattle.model.specs.History.{State, Refusal, TooLarge, Malformed, BodyHashMismatch, TooOld, Known, Clash, VolatileFull, refusal_number, Applies, IsRefused}
@@ -21,21 +20,21 @@ use Rattle.chain_core.specs.ChainDbs.{IsWhole, HasState}
 use Rattle.chain_core.specs.Judgements.{IsClashWith, IsJudged}
 
 -- no refusal with a lesser number applies
-abbrev pub NoneBelow : Genesis → State → List ℕ → ℕ → Type 0
-NoneBelow genesis s bytes n = (other : Refusal) → refusal_number other < n → Applies genesis s bytes other → ⊥
+abbrev pub NoneBelow : Network → State → List ℕ → ℕ → Type 0
+NoneBelow network s bytes n = (other : Refusal) → refusal_number other < n → Applies network s bytes other → ⊥
 
 one_number : (a b : Refusal) → refusal_number a ≡ refusal_number b → a ≡ b
 one_number a b same = sym (refusal_back a) ∙ (ap refusal_at same ∙ refusal_back b)
 
-pub none_below_next : (genesis : Genesis) (s : State) (bytes : List ℕ) (r : Refusal) → NoneBelow genesis s bytes (refusal_number r) → (Applies genesis s bytes r → ⊥) → NoneBelow genesis s bytes (refusal_number r + 1)
-none_below_next genesis s bytes r below not_it other lower applies =
+pub none_below_next : (network : Network) (s : State) (bytes : List ℕ) (r : Refusal) → NoneBelow network s bytes (refusal_number r) → (Applies network s bytes r → ⊥) → NoneBelow network s bytes (refusal_number r + 1)
+none_below_next network s bytes r below not_it other lower applies =
     elim (cases_lt (refusal_number other) (refusal_number r)) [
       | inl lt ↦ below other lt applies
-      | inr le ↦ not_it (subst (Applies genesis s bytes) (one_number other r (omega arith)) applies)
+      | inr le ↦ not_it (subst (Applies network s bytes) (one_number other r (omega arith)) applies)
     ]
 
-pub refused_by : (genesis : Genesis) (s : State) (bytes : List ℕ) (r : Refusal) → NoneBelow genesis s bytes (refusal_number r) → Applies genesis s bytes r → IsRefused genesis s bytes r
-refused_by genesis s bytes r below applies = record { applies = applies; first = below }
+pub refused_by : (network : Network) (s : State) (bytes : List ℕ) (r : Refusal) → NoneBelow network s bytes (refusal_number r) → Applies network s bytes r → IsRefused network s bytes r
+refused_by network s bytes r below applies = record { applies = applies; first = below }
 
 at_most_7 : (r : Refusal) → refusal_number r < 8
 at_most_7 TooLarge = lit< tt
@@ -46,75 +45,75 @@ at_most_7 Known = lit< tt
 at_most_7 Clash = lit< tt
 at_most_7 VolatileFull = lit< tt
 
-pub none_at_all : (genesis : Genesis) (s : State) (bytes : List ℕ) → NoneBelow genesis s bytes 8 → (r : Refusal) → Applies genesis s bytes r → ⊥
-none_at_all genesis s bytes below r applies = below r (at_most_7 r) applies
+pub none_at_all : (network : Network) (s : State) (bytes : List ℕ) → NoneBelow network s bytes 8 → (r : Refusal) → Applies network s bytes r → ⊥
+none_at_all network s bytes below r applies = below r (at_most_7 r) applies
 
 -- ---- of bytes that were read as a block
 
-pub none_of_reading : (genesis : Genesis) (s : State) (b : Block) (bytes : List ℕ) → IsRead b bytes → NoneBelow genesis s bytes 4
-none_of_reading genesis s b bytes read TooLarge lower applies = let size = read.size in omega arith
-none_of_reading genesis s b bytes read Malformed lower applies = applies b read.read
-none_of_reading genesis s b bytes read BodyHashMismatch lower applies =
+pub none_of_reading : (network : Network) (s : State) (b : Block) (bytes : List ℕ) → IsRead b bytes → NoneBelow network s bytes 4
+none_of_reading network s b bytes read TooLarge lower applies = let size = read.size in omega arith
+none_of_reading network s b bytes read Malformed lower applies = applies b read.read
+none_of_reading network s b bytes read BodyHashMismatch lower applies =
     applies.2 (subst (λ (c : Block). c.header.body_hash ≡ body_hash_of c.transactions) (one_block b applies.0 bytes read.read applies.1) read.body)
-none_of_reading genesis s b bytes read TooOld lower applies = omega arith
-none_of_reading genesis s b bytes read Known lower applies = omega arith
-none_of_reading genesis s b bytes read Clash lower applies = omega arith
-none_of_reading genesis s b bytes read VolatileFull lower applies = omega arith
+none_of_reading network s b bytes read TooOld lower applies = omega arith
+none_of_reading network s b bytes read Known lower applies = omega arith
+none_of_reading network s b bytes read Clash lower applies = omega arith
+none_of_reading network s b bytes read VolatileFull lower applies = omega arith
 
-old_applies : (genesis : Genesis) (s : State) (b : Block) (bytes : List ℕ) → IsRead b bytes → Applies genesis s bytes TooOld ↔ (b.header.number ≤ immutable_length genesis s.chain)
-old_applies genesis s b bytes read = (
-  (λ applies. subst (λ (c : Block). c.header.number ≤ immutable_length genesis s.chain) (one_block applies.0 b bytes applies.1 read.read) applies.2),
+old_applies : (network : Network) (s : State) (b : Block) (bytes : List ℕ) → IsRead b bytes → Applies network s bytes TooOld ↔ (b.header.number ≤ immutable_length network s.chain)
+old_applies network s b bytes read = (
+  (λ applies. subst (λ (c : Block). c.header.number ≤ immutable_length network s.chain) (one_block applies.0 b bytes applies.1 read.read) applies.2),
   (λ le. (b, read.read, le)),
 )
 
 -- ---- the judgement, as the code comes to it, for each state with the chain and the live blocks
 
-module _ {S : Type 0} (network : Network) (a : ChainDb S) (s : State) (whole : IsWhole network a) (has : HasState network.genesis a s) (b : Block) where
+module _ {S : Type 0} (network : Network) (a : ChainDb S) (s : State) (whole : IsWhole network a) (has : HasState network a s) (b : Block) where
   -- the number is past the immutable part
   abbrev IsYoung : Type 0
-  IsYoung = immutable_length network.genesis a.chain.items < b.header.number
+  IsYoung = immutable_length network a.chain.items < b.header.number
 
   -- the state's live blocks are held, as many as may be
-  holds : HoldsState network.genesis s a.store
+  holds : HoldsState network s a.store
   holds = record { live = has.live; capacity = whole.capacity }
 
-  at_chain : (n : ℕ) → n ≡ immutable_length network.genesis a.chain.items → n ≡ immutable_length network.genesis s.chain
-  at_chain n is = is ∙ ap (immutable_length network.genesis) has.chain
+  at_chain : (n : ℕ) → n ≡ immutable_length network a.chain.items → n ≡ immutable_length network s.chain
+  at_chain n is = is ∙ ap (immutable_length network) has.chain
 
-  pub judged_old : (n : ℕ) → n ≡ immutable_length network.genesis a.chain.items → b.header.number ≤ n → IsJudged network.genesis s b (Some TooOld)
+  pub judged_old : (n : ℕ) → n ≡ immutable_length network a.chain.items → b.header.number ≤ n → IsJudged network s b (Some TooOld)
   judged_old n is old bytes read =
-      refused_by network.genesis s bytes TooOld (none_of_reading network.genesis s b bytes read) ((old_applies network.genesis s b bytes read).1 (let e = at_chain n is in omega (arith, e, old)))
+      refused_by network s bytes TooOld (none_of_reading network s b bytes read) ((old_applies network s b bytes read).1 (let e = at_chain n is in omega (arith, e, old)))
 
-  below_known : IsYoung → (bytes : List ℕ) → IsRead b bytes → NoneBelow network.genesis s bytes 5
+  below_known : IsYoung → (bytes : List ℕ) → IsRead b bytes → NoneBelow network s bytes 5
   below_known young bytes read =
-      none_below_next network.genesis s bytes TooOld (none_of_reading network.genesis s b bytes read)
-      (λ applies. let le = (old_applies network.genesis s b bytes read).0 applies in let e = at_chain (immutable_length network.genesis a.chain.items) refl in omega (arith, le, e, young))
+      none_below_next network s bytes TooOld (none_of_reading network s b bytes read)
+      (λ applies. let le = (old_applies network s b bytes read).0 applies in let e = at_chain (immutable_length network a.chain.items) refl in omega (arith, le, e, young))
 
-  pub judged_known : IsYoung → IsKnown a.store b → IsJudged network.genesis s b (Some Known)
+  pub judged_known : IsYoung → IsKnown a.store b → IsJudged network s b (Some Known)
   judged_known young known bytes read =
-      refused_by network.genesis s bytes Known (below_known young bytes read) ((known_over network.genesis s a.store b bytes holds read.read).0 known)
+      refused_by network s bytes Known (below_known young bytes read) ((known_over network s a.store b bytes holds read.read).0 known)
 
-  below_clash : IsYoung → (IsKnown a.store b → ⊥) → (bytes : List ℕ) → IsRead b bytes → NoneBelow network.genesis s bytes 6
+  below_clash : IsYoung → (IsKnown a.store b → ⊥) → (bytes : List ℕ) → IsRead b bytes → NoneBelow network s bytes 6
   below_clash young unknown bytes read =
-      none_below_next network.genesis s bytes Known (below_known young bytes read) (λ applies. unknown ((known_over network.genesis s a.store b bytes holds read.read).1 applies))
+      none_below_next network s bytes Known (below_known young bytes read) (λ applies. unknown ((known_over network s a.store b bytes holds read.read).1 applies))
 
-  pub judged_clash : IsYoung → (IsKnown a.store b → ⊥) → IsClash a.store b ⊎ IsChainClash s b → IsJudged network.genesis s b (Some Clash)
+  pub judged_clash : IsYoung → (IsKnown a.store b → ⊥) → IsClash a.store b ⊎ IsChainClash s b → IsJudged network s b (Some Clash)
   judged_clash young unknown clash bytes read =
-      refused_by network.genesis s bytes Clash (below_clash young unknown bytes read) ((clash_over network.genesis s a.store b bytes holds read.read).0 clash)
+      refused_by network s bytes Clash (below_clash young unknown bytes read) ((clash_over network s a.store b bytes holds read.read).0 clash)
 
-  below_full : IsYoung → (IsKnown a.store b → ⊥) → (IsClash a.store b → ⊥) → (IsChainClash s b → ⊥) → (bytes : List ℕ) → IsRead b bytes → NoneBelow network.genesis s bytes 7
+  below_full : IsYoung → (IsKnown a.store b → ⊥) → (IsClash a.store b → ⊥) → (IsChainClash s b → ⊥) → (bytes : List ℕ) → IsRead b bytes → NoneBelow network s bytes 7
   below_full young unknown alone no_clash bytes read =
-      none_below_next network.genesis s bytes Clash (below_clash young unknown bytes read)
-      (λ applies. elim ((clash_over network.genesis s a.store b bytes holds read.read).1 applies) [ inl live ↦ alone live | inr there ↦ no_clash there ])
+      none_below_next network s bytes Clash (below_clash young unknown bytes read)
+      (λ applies. elim ((clash_over network s a.store b bytes holds read.read).1 applies) [ inl live ↦ alone live | inr there ↦ no_clash there ])
 
-  pub judged_full : IsYoung → (IsKnown a.store b → ⊥) → (IsClash a.store b → ⊥) → (IsChainClash s b → ⊥) → IsFull a.store → IsJudged network.genesis s b (Some VolatileFull)
+  pub judged_full : IsYoung → (IsKnown a.store b → ⊥) → (IsClash a.store b → ⊥) → (IsChainClash s b → ⊥) → IsFull a.store → IsJudged network s b (Some VolatileFull)
   judged_full young unknown alone no_clash full bytes read =
-      refused_by network.genesis s bytes VolatileFull (below_full young unknown alone no_clash bytes read) ((full_over network.genesis s a.store bytes holds).0 full)
+      refused_by network s bytes VolatileFull (below_full young unknown alone no_clash bytes read) ((full_over network s a.store bytes holds).0 full)
 
-  pub judged_none : IsYoung → (IsKnown a.store b → ⊥) → (IsClash a.store b → ⊥) → (IsChainClash s b → ⊥) → (IsFull a.store → ⊥) → IsJudged network.genesis s b None
+  pub judged_none : IsYoung → (IsKnown a.store b → ⊥) → (IsClash a.store b → ⊥) → (IsChainClash s b → ⊥) → (IsFull a.store → ⊥) → IsJudged network s b None
   judged_none young unknown alone no_clash room bytes read =
-      none_at_all network.genesis s bytes
-      (none_below_next network.genesis s bytes VolatileFull (below_full young unknown alone no_clash bytes read) (λ applies. room ((full_over network.genesis s a.store bytes holds).1 applies)))
+      none_at_all network s bytes
+      (none_below_next network s bytes VolatileFull (below_full young unknown alone no_clash bytes read) (λ applies. room ((full_over network s a.store bytes holds).1 applies)))
 
 -- ---- what is found by a hash
 

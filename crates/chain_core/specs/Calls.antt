@@ -10,28 +10,28 @@ use Rattle.chain_core.specs.declared.event.RawEvent.{RawEvent}
 use Rattle.chain_core.specs.declared.event.RawEvent.TheVariants as event
 use Rattle.chain_core.specs.declared.event.Reply.{Reply}
 use Rattle.chain_core.specs.declared.event.Reply.TheVariants as reply
-use Rattle.chain_core.specs.Held.{Held, Stands}
+use Rattle.chain_core.specs.Held.{Held, Stands, network_held}
 use Rattle.chain_core.specs.Steps.{Steps}
 use Rattle.chain_core.specs.FollowerCalls.{IsWantAtOpening, IsWantAtNext}
 use Rattle.chain_core.specs.Views.{event_of, reply_of, IsReplyTo}
 
 -- where the bytes are the text of a block without transactions, memory is asked for only where no refusal applies
-abbrev pub IsWantAtArrival : Held → List ℕ → Type 0
-IsWantAtArrival held bytes = (b : Block) → SpellsBlock b bytes → b.transactions ≡ [] →
-    (s : State) → Stands held s → (refusal : Refusal) → Applies held.genesis s bytes refusal → ⊥
+abbrev pub IsWantAtArrival : Verifies → Held → List ℕ → Type 0
+IsWantAtArrival verifies held bytes = (b : Block) → SpellsBlock b bytes → b.transactions ≡ [] →
+    (s : State) → Stands held s → (refusal : Refusal) → Applies (network_held held verifies) s bytes refusal → ⊥
 
 -- where the bytes are the text of a transaction without parts, no memory is asked for
 abbrev pub IsWantAtSubmission : List ℕ → Type 0
 IsWantAtSubmission bytes = (t : Transaction) → SpellsTransaction t bytes → IsBare t → ⊥
 
 -- where memory ran out, what the event's call promises of that
-abbrev pub IsWantAt : {S : Type 0} → Held → RawEvent → Reply S → Type 0
-IsWantAt held (event.Arrive bytes) (reply.Arrive answer) =
-    OnErr answer (IsWantAtArrival held bytes.items) × OnErr answer (length bytes.items ≤ block_size_limit)
-IsWantAt held (event.Submit bytes) (reply.Submit answer) = OnErr answer (IsWantAtSubmission bytes.items)
-IsWantAt held event.Open (reply.Open answer) = IfErr answer (IsWantAtOpening held)
-IsWantAt held (event.Next id) (reply.Next answer) = IfErr answer (IsWantAtNext held id.number)
-IsWantAt held e r = Unit {0}
+abbrev pub IsWantAt : {S : Type 0} → Verifies → Held → RawEvent → Reply S → Type 0
+IsWantAt verifies held (event.Arrive bytes) (reply.Arrive answer) =
+    OnErr answer (IsWantAtArrival verifies held bytes.items) × OnErr answer (length bytes.items ≤ block_size_limit)
+IsWantAt verifies held (event.Submit bytes) (reply.Submit answer) = OnErr answer (IsWantAtSubmission bytes.items)
+IsWantAt verifies held event.Open (reply.Open answer) = IfErr answer (IsWantAtOpening held)
+IsWantAt verifies held (event.Next id) (reply.Next answer) = IfErr answer (IsWantAtNext held id.number)
+IsWantAt verifies held e r = Unit {0}
 
 -- an error of a call leaves the core as it was
 abbrev pub IsLeftAt : {S : Type 0} → Held → Reply S → Held → Type 0
@@ -47,8 +47,9 @@ pub record IsCall {S : Type 0} (verifies : Verifies) (old : Held) (event : RawEv
     : Type 0 where
   pub kind : IsReplyTo event reply
   pub step : Steps verifies old (event_of event) (reply_of reply) new
-  pub want : IsWantAt old event reply
+  pub want : IsWantAt verifies old event reply
   pub genesis : new.genesis ≡ old.genesis
+  pub opened : new.opened ≡ old.opened
   pub left : IsLeftAt old reply new
 
 -- each event has a reply, by its call on what the calls before it left

@@ -1,9 +1,10 @@
 -- The selected chain with what selection stands on, and what becomes of them when a block is kept.
-use Rattle.std.specs.Prelude.{◌≡◌, ◌↔◌, ◌⊎◌, ℕ, ◌+◌, ◌-◌, min, true, List, ◌∷◌, ◌++◌, Contains}
+use Rattle.std.specs.Prelude.{◌≡◌, ◌↔◌, ◌⊎◌, ℕ, ◌+◌, ◌-◌, min, true, List, ◌∷◌, ◌++◌, length, take, Contains}
 use Rattle.std.specs.List.{AllByRecursion}
 use Rattle.model.specs.Block.{Block, block_hash_of}
 use Rattle.model.specs.Genesis.{Genesis}
-use Rattle.model.specs.Ledger.{Network}
+use Rattle.model.specs.Signature.{Verifies}
+use Rattle.model.specs.Ledger.{Network, network_on}
 use Rattle.model.specs.Chain.{immutable_part}
 use Rattle.model.specs.Mempool.{SubmitReply, revalidated, Submits}
 use Rattle.model.specs.History.{State, IsChange}
@@ -21,19 +22,24 @@ use Rattle.chain_core.specs.PastHashes.{IsBlockNoted}
 use Rattle.chain_core.specs.declared.chain_db.ChainDb.{ChainDb}
 use Rattle.chain_core.specs.declared.chain_db.Change.{Change}
 
--- between two arrivals: settled, with the limits of the genesis, the mempool beside the chain, and the hashes of the
--- blocks that are never rolled back noted
+-- between two arrivals: settled, with the limits of the genesis, the mempool beside the chain, the hashes of the blocks
+-- that are never rolled back noted, and how many blocks it was opened on
 pub record IsWhole {S : Type 0} (network : Network) (a : ChainDb S) : Type 0 where
   pub settled : IsSettled network a.chain.items a.store a.db
   pub k : a.db.k ≡ network.genesis.k
   pub capacity : a.store.capacity ≡ network.genesis.max_volatile
   pub pool : IsPoolOf network a.chain.items a.mempool
-  pub past : AllByRecursion (IsBlockNoted a.past) (immutable_part network.genesis a.chain.items)
+  pub past : AllByRecursion (IsBlockNoted a.past) (immutable_part network a.chain.items)
+  pub opened : a.opened ≡ length network.opened
+
+-- what it begins from, under a genesis and a scheme of signatures
+abbrev pub network_db : {S : Type 0} → Genesis → Verifies → ChainDb S → Network
+network_db genesis verifies a = network_on genesis verifies (take a.opened a.chain.items)
 
 -- the state has this chain, and its live blocks are those of the store
-pub record HasState {S : Type 0} (genesis : Genesis) (a : ChainDb S) (s : State) : Type 0 where
+pub record HasState {S : Type 0} (network : Network) (a : ChainDb S) (s : State) : Type 0 where
   pub chain : a.chain.items ≡ s.chain
-  pub live : HoldsLive genesis s.kept s.chain a.store
+  pub live : HoldsLive network s.kept s.chain a.store
 
 -- A block was kept, and the selection rule asked. Where the store had what was live of the kept blocks, it then has
 -- what is live of these and this one. The mempool was brought up to date.
@@ -41,8 +47,8 @@ pub record IsAdded {S : Type 0} (network : Network) (old : ChainDb S) (block : B
     (told : Change) : Type 0 where
   pub selected : IsSelected network old.store old.chain.items block new.chain.items
   pub change : IsChange old.chain.items new.chain.items told.back told.added
-  pub live : (kept : List Block) → HoldsLive network.genesis kept old.chain.items old.store
-      → HoldsLive network.genesis (block ∷ kept) new.chain.items new.store
+  pub live : (kept : List Block) → HoldsLive network kept old.chain.items old.store
+      → HoldsLive network (block ∷ kept) new.chain.items new.store
   pub mempool : new.mempool.waiting.txs ≡ revalidated network new.chain.items old.mempool.waiting.txs
   pub whole : IsWhole network new
 

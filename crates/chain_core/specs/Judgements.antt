@@ -3,7 +3,7 @@ use Rattle.std.specs.Prelude.{◌≡◌, ◌≢◌, ℕ, List, Option, MatchOpti
 use Rattle.ident.specs.declared.point.Point.{Point}
 use Rattle.block.specs.Read.{IsRead}
 use Rattle.model.specs.Block.{Block, block_hash_of, block_text}
-use Rattle.model.specs.Genesis.{Genesis}
+use Rattle.model.specs.Ledger.{Network}
 use Rattle.model.specs.History.{State, Refusal, Applies, IsRefused}
 
 -- this hash, and another text than these bytes
@@ -15,7 +15,7 @@ abbrev pub IsPointOf : Point → Block → Type 0
 IsPointOf point b = (point.number ≡ b.header.number) × (point.hash.bytes ≡ block_hash_of b)
 
 -- the answer of a state to the bytes of a block that was read
-abbrev pub IsJudged : Genesis → State → Block → Option Refusal → Type 0
-IsJudged genesis s b answer = (bytes : List ℕ) → IsRead b bytes → MatchOption answer
-    ((refusal : Refusal) → Applies genesis s bytes refusal → ⊥)
-    (IsRefused genesis s bytes)
+abbrev pub IsJudged : Network → State → Block → Option Refusal → Type 0
+IsJudged network s b answer = (bytes : List ℕ) → IsRead b bytes → MatchOption answer
+    ((refusal : Refusal) → Applies network s bytes refusal → ⊥)
+    (IsRefused network s bytes)

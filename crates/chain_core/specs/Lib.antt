@@ -10,3 +10,5 @@ pub mod Inside
 pub mod FollowerCalls
 pub mod Calls
 pub mod PastHashes
+pub mod Numbers
+pub mod Reopening

@@ -8,8 +8,8 @@ ghost use Rattle.model.specs.Cbor.{text_of};
 ghost use Rattle.model.specs.Transaction.{Transaction, SpellsTransaction, item_of_transaction};
 ghost use Rattle.tx.specs.Bare.{IsBare};
 ghost use Rattle.mempool.specs.View.{reply_of};
-ghost use Rattle.model.specs.Block.{Block};
-ghost use Rattle.model.specs.Ledger.{Network, network_of};
+ghost use Rattle.model.specs.Block.{Block, SpellsBlock, block_text};
+ghost use Rattle.model.specs.Ledger.{Network, network_on};
 ghost use Rattle.model.specs.Chain.{immutable_length};
 ghost use Rattle.model.specs.Applying.{IsStateOf};
 ghost use Rattle.blockstore.specs.Stored.{IsSet};
@@ -17,11 +17,12 @@ ghost use Rattle.chainsel.specs.Ready.{IsReady};
 ghost use Rattle.ledgerdb.specs.Values.{depth};
 ghost use Rattle.ledgerdb.specs.Chains.{without_last, IsDatabaseOf, IsPreparedOf};
 ghost use Rattle.chain_core.specs.ChainDbs.{IsWhole, IsAdded, AreMarked, IsTakenIn, IsCutBack, IsCommitted};
-ghost use Rattle.chain_core.specs.ChainDbs.{IsTaken};
+ghost use Rattle.chain_core.specs.ChainDbs.{IsTaken, network_db};
 ghost use Rattle.chain_core.specs.PastHashes.{IsNoted, IsBlockNoted};
 ghost use Rattle.chain_core.specs.Pools.{IsBroughtTo, IsWantOf};
 
 use crate::past::{Bytes, note_all};
+use crate::reopening::OpenedChain;
 use block::CheckedBlock;
 use blockstore::BlockStore;
 use chainsel::{Choice, Selection, Switch, select};
@@ -50,6 +51,8 @@ pub struct ChainDb<S: SigScheme> {
     pub db: LedgerDb,
     pub mempool: Mempool<S>,
     pub past: BTreeSet<Bytes>,
+    /// How many blocks the chain had at first.
+    pub opened: usize,
 }
 
 /// Marks the blocks of these hashes as blocks that no valid chain will ever have. Takes no memory.
@@ -63,23 +66,36 @@ fn mark_all<S: SigScheme>(store: &mut BlockStore<S>, invalid: &[BlockHash])
 }
 
 impl<S: SigScheme> ChainDb<S> {
-    /// Before anything is kept. Err where memory runs out for the state before the first block.
-    pub fn new(alloc: Global, genesis: &Genesis) -> Result<ChainDb<S>, AllocError>
-        ensures chain { IfOk result (λ a. a.chain.items ≡ []) }
+    /// On a chain with its state, before anything else is kept: none of its blocks is ever rolled back. Err where
+    /// memory runs out. Notes the hash of each block.
+    pub fn open(
+        alloc: Global,
+        genesis: &Genesis,
+        on: OpenedChain<S>,
+    ) -> Result<ChainDb<S>, AllocError>
+        requires state { (opened : List Block) →
+            IsStateOf (network_on genesis.now S.verifies opened) on.chain.items on.state }
+        requires spelled { AllByRecursion (λ b. SpellsBlock b (block_text b)) on.chain.items }
+        ensures opened { IfOk result (λ a. a.opened ≡ length on.chain.items) }
+        ensures chain { IfOk result (λ a. a.chain.items ≡ on.chain.items) }
         ensures blocks { IfOk result (λ a. a.store.blocks ≡ []) }
         ensures mempool { IfOk result (λ a. a.mempool.waiting.txs ≡ []) }
-        ensures whole { IfOk result (λ a. IsWhole (network_of genesis.now S.verifies) a) }
+        ensures whole { IfOk result (λ a. IsWhole (network_on genesis.now S.verifies on.chain.items) a) }
     {
-        let opening = LedgerState::new(alloc, genesis)?;
-        let mempool = Mempool::new(alloc, genesis.max_mempool(), opening.utxo())?;
+        let OpenedChain { state, chain } = on;
+        let mempool = Mempool::new(alloc, genesis.max_mempool(), state.utxo())?;
+        let mut past = BTreeSet::new(alloc);
+        note_all(&mut past, &chain)?;
         let store = BlockStore::new(alloc, genesis.max_volatile());
-        let db = LedgerDb::new(alloc, opening, genesis.k());
+        let db = LedgerDb::new(alloc, state, genesis.k());
+        let opened = chain.len();
         Ok(ChainDb {
-            chain: Vec::new(alloc),
+            chain,
             store,
             db,
             mempool,
-            past: BTreeSet::new(alloc),
+            past,
+            opened,
         })
     }
 
@@ -87,7 +103,7 @@ impl<S: SigScheme> ChainDb<S> {
     pub fn immutable(&self) -> usize
         ensures count { result ≡ length self.now.chain.items - depth self.now.db }
         ensures immutable { (network : Network) → IsWhole network self.now
-            → result ≡ immutable_length network.genesis self.now.chain.items }
+            → result ≡ immutable_length network self.now.chain.items }
     {
         self.chain.len().saturating_sub(self.db.depth())
     }
@@ -108,16 +124,17 @@ impl<S: SigScheme> ChainDb<S> {
         genesis: &Genesis,
         block: CheckedBlock<S>,
     ) -> Result<Change, AllocError>
-        requires whole { IsWhole (network_of genesis.now S.verifies) self.old }
-        requires ready { IsReady (network_of genesis.now S.verifies) self.old.chain.items self.old.store
-            self.old.db block }
+        requires whole { IsWhole (network_db genesis.now S.verifies self.old) self.old }
+        requires ready { IsReady (network_db genesis.now S.verifies self.old) self.old.chain.items
+            self.old.store self.old.db block }
         ensures ok { IfOk result (λ change.
-            IsAdded (network_of genesis.now S.verifies) self.old block self.new change) }
+            IsAdded (network_db genesis.now S.verifies self.old) self.old block self.new change) }
         ensures chain { OnErr result (self.new.chain.items ≡ self.old.chain.items) }
         ensures store { OnErr result (self.new.store ≡ self.old.store) }
         ensures db { OnErr result (self.new.db ≡ self.old.db) }
         ensures mempool { OnErr result (self.new.mempool ≡ self.old.mempool) }
         ensures past { (hash : List ℕ) → IsNoted self.old.past hash → IsNoted self.new.past hash }
+        ensures opened { self.new.opened ≡ self.old.opened }
     {
         let Selection { choice, invalid } = select(
             alloc,
@@ -145,10 +162,10 @@ impl<S: SigScheme> ChainDb<S> {
     /// What stays of the mempool beside the chain that the switch makes.
     fn resync(&self, switch: &Switch<S>) -> Result<Resynced<S>, AllocError>
         requires { switch.now.prepared.back ≤ depth self.now.db }
-        ensures { IfOk result (λ resynced. (genesis : Genesis) (chain blocks : List Block) →
-            IsDatabaseOf (network_of genesis S.verifies) chain self.now.db →
-            IsPreparedOf (network_of genesis S.verifies) (without_last switch.now.prepared.back chain) blocks
-            switch.now.prepared → IsBroughtTo (network_of genesis S.verifies)
+        ensures { IfOk result (λ resynced. (genesis : Genesis) (opened chain blocks : List Block) →
+            IsDatabaseOf (network_on genesis S.verifies opened) chain self.now.db →
+            IsPreparedOf (network_on genesis S.verifies opened) (without_last switch.now.prepared.back chain) blocks
+            switch.now.prepared → IsBroughtTo (network_on genesis S.verifies opened)
             (without_last switch.now.prepared.back chain ++ blocks) self.now.mempool.waiting.txs resynced) }
     {
         let state = self.db.state_after(&switch.prepared);
@@ -169,6 +186,7 @@ impl<S: SigScheme> ChainDb<S> {
             (take (length self.old.chain.items - switch.now.back + length switch.now.blocks.items - k)
             (without_last switch.now.back self.old.chain.items ++ switch.now.blocks.items))) }
         ensures chain { self.new.chain ≡ self.old.chain }
+        ensures opened { self.new.opened ≡ self.old.opened }
         ensures store { self.new.store ≡ self.old.store }
         ensures db { self.new.db ≡ self.old.db }
         ensures mempool { self.new.mempool ≡ self.old.mempool }
@@ -185,6 +203,7 @@ impl<S: SigScheme> ChainDb<S> {
     fn insert(&mut self, block: CheckedBlock<S>, invalid: &[BlockHash]) -> Result<(), AllocError>
         ensures ok { OnOk result (IsTakenIn self.old.store block invalid.now self.new.store) }
         ensures chain { self.new.chain ≡ self.old.chain }
+        ensures opened { self.new.opened ≡ self.old.opened }
         ensures db { self.new.db ≡ self.old.db }
         ensures mempool { self.new.mempool ≡ self.old.mempool }
         ensures past { self.new.past ≡ self.old.past }
@@ -211,6 +230,7 @@ impl<S: SigScheme> ChainDb<S> {
             (change.back ≡ switch.back) × (change.added ≡ length switch.blocks.items)) }
         ensures mempool { self.new.mempool ≡ self.old.mempool }
         ensures past { self.new.past ≡ self.old.past }
+        ensures opened { self.new.opened ≡ self.old.opened }
         ensures err { OnErr result ⊥ }
     {
         let mut blocks = switch.blocks;
@@ -229,11 +249,14 @@ impl<S: SigScheme> ChainDb<S> {
     /// Bytes of a transaction are submitted, and judged at the slot after the tip's. Where memory runs out nothing
     /// changes, and it doesn't where the transaction has no parts.
     pub fn submit(&mut self, bytes: &[u8]) -> Result<SubmitReply, AllocError>
-        ensures ok { IfOk result (λ reply. (genesis : Genesis) → IsWhole (network_of genesis S.verifies) self.old →
-            IsTaken (network_of genesis S.verifies) self.old bytes.now (reply_of reply) self.new) }
-        ensures whole { (genesis : Genesis) → IsWhole (network_of genesis S.verifies) self.old →
-            IsWhole (network_of genesis S.verifies) self.new }
+        ensures ok { IfOk result (λ reply. (genesis : Genesis) (opened : List Block) →
+            IsWhole (network_on genesis S.verifies opened) self.old →
+            IsTaken (network_on genesis S.verifies opened) self.old bytes.now (reply_of reply) self.new) }
+        ensures whole { (genesis : Genesis) (opened : List Block) →
+            IsWhole (network_on genesis S.verifies opened) self.old →
+            IsWhole (network_on genesis S.verifies opened) self.new }
         ensures chain { self.new.chain ≡ self.old.chain }
+        ensures opened { self.new.opened ≡ self.old.opened }
         ensures store { self.new.store ≡ self.old.store }
         ensures db { self.new.db ≡ self.old.db }
         ensures err { OnErr result (self.new.mempool ≡ self.old.mempool) }
@@ -245,18 +268,22 @@ impl<S: SigScheme> ChainDb<S> {
 
     /// The same of a transaction with its verdicts, whatever bytes spell it.
     pub fn submit_checked(&mut self, tx: CheckedTx<S>) -> Result<SubmitReply, AllocError>
-        ensures ok { IfOk result (λ reply. (genesis : Genesis) → IsWhole (network_of genesis S.verifies) self.old →
+        ensures ok { IfOk result (λ reply. (genesis : Genesis) (opened : List Block) →
+            IsWhole (network_on genesis S.verifies opened) self.old →
             (bytes : List ℕ) → SpellsTransaction tx bytes →
-            IsTaken (network_of genesis S.verifies) self.old bytes (reply_of reply) self.new) }
-        ensures whole { (genesis : Genesis) → IsWhole (network_of genesis S.verifies) self.old →
-            IsWhole (network_of genesis S.verifies) self.new }
+            IsTaken (network_on genesis S.verifies opened) self.old bytes (reply_of reply) self.new) }
+        ensures whole { (genesis : Genesis) (opened : List Block) →
+            IsWhole (network_on genesis S.verifies opened) self.old →
+            IsWhole (network_on genesis S.verifies opened) self.new }
         ensures spelled { SpellsTransaction tx (text_of (item_of_transaction tx)) }
         ensures chain { self.new.chain ≡ self.old.chain }
+        ensures opened { self.new.opened ≡ self.old.opened }
         ensures store { self.new.store ≡ self.old.store }
         ensures db { self.new.db ≡ self.old.db }
         ensures err { OnErr result (self.new.mempool ≡ self.old.mempool) }
-        ensures memory { OnErr result ((genesis : Genesis) → IsWhole (network_of genesis S.verifies) self.old →
-            (bytes : List ℕ) → SpellsTransaction tx bytes → IsWantOf (network_of genesis S.verifies)
+        ensures memory { OnErr result ((genesis : Genesis) (opened : List Block) →
+            IsWhole (network_on genesis S.verifies opened) self.old →
+            (bytes : List ℕ) → SpellsTransaction tx bytes → IsWantOf (network_on genesis S.verifies opened)
             self.old.chain.items self.old.mempool.waiting.txs bytes) }
     {
         let state = self.db.state();

@@ -1,9 +1,9 @@
 //! Forging: the block that comes next on the selected chain, of what waits in the mempool.
 
-ghost use Rattle.std.specs.Prelude.{◌≡◌, IfOk, IfErr, option_map};
+ghost use Rattle.std.specs.Prelude.{◌≡◌, List, IfOk, IfErr, option_map};
 ghost use Rattle.model.specs.Block.{Block};
 ghost use Rattle.model.specs.Genesis.{Genesis, IsGenesis};
-ghost use Rattle.model.specs.Ledger.{network_of};
+ghost use Rattle.model.specs.Ledger.{network_on};
 ghost use Rattle.model.specs.Chain.{tip_after, genesis_tip};
 ghost use Rattle.block.specs.View.{bytes_of};
 ghost use Rattle.chain_core.specs.ChainDbs.{IsWhole};
@@ -64,12 +64,13 @@ pub fn forge<S: SigScheme>(
     chain_db: &ChainDb<S>,
     slot: u64,
 ) -> Result<Forged, ForgeFault>
-    ensures forged { IfOk result (λ f. (genesis : Genesis) → IsGenesis genesis
-        → IsWhole (network_of genesis S.verifies) chain_db.now
-        → IsForgedAs (network_of genesis S.verifies) chain_db.now.chain.items chain_db.now.mempool.waiting.txs slot
-        f.bytes.items f.point) }
-    ensures fault { IfErr result (λ e. (genesis : Genesis) → IsWhole (network_of genesis S.verifies) chain_db.now →
-        IsForgeFault (network_of genesis S.verifies) chain_db.now.chain.items slot e) }
+    ensures forged { IfOk result (λ f. (genesis : Genesis) (opened : List Block) → IsGenesis genesis
+        → IsWhole (network_on genesis S.verifies opened) chain_db.now
+        → IsForgedAs (network_on genesis S.verifies opened) chain_db.now.chain.items
+        chain_db.now.mempool.waiting.txs slot f.bytes.items f.point) }
+    ensures fault { IfErr result (λ e. (genesis : Genesis) (opened : List Block) →
+        IsWhole (network_on genesis S.verifies opened) chain_db.now →
+        IsForgeFault (network_on genesis S.verifies opened) chain_db.now.chain.items slot e) }
 {
     let state = chain_db.state();
     if slot <= state.slot() {

@@ -11,6 +11,7 @@ mod node_core;
 mod past;
 mod place;
 mod refusal;
+mod reopening;
 
 pub use arrival::{ArriveReply, Refusal};
 pub use event::{RawEvent, Reply};
@@ -18,3 +19,4 @@ pub use follower::{Instruction, NextFault};
 pub use followers::{FollowerId, OpenFault, UnknownFollower};
 pub use forging::{ForgeFault, Forged};
 pub use node_core::Core;
+pub use reopening::ReopenFault;

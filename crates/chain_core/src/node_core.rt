@@ -5,12 +5,14 @@ use crate::chain_db::ChainDb;
 use crate::event::{RawEvent, Reply};
 use crate::follower::{Instruction, NextFault, instruction_for};
 use crate::forging::{ForgeFault, Forged, forge};
-use crate::place::{end_of, first_on};
+use crate::place::{block_at, end_of, first_on};
 use crate::refusal::first_refusal;
+use crate::reopening::{OpenedChain, ReopenFault, read_chain};
 use block::{BadBytes, CheckedBlock, NoBlock, Seen};
 use followers::{FollowerId, Followers, OpenFault, UnknownFollower};
 use genesis::Genesis;
 use ident::Point;
+use ledger::LedgerState;
 use mempool::{Mempool, SubmitReply};
 use std::alloc::{AllocError, Global};
 use std::marker::Model;
@@ -52,35 +54,80 @@ impl<S: SigScheme> Model for Core<S> {
 }
 
 impl<S: SigScheme> Core<S> {
-    ghost use Rattle.std.specs.Prelude.{◌≡◌, ◌≤◌, ◌+◌, ℕ, List, [], length, Some, IfOk, IfErr, OnErr, map};
+    ghost use Rattle.std.specs.Prelude.{◌≡◌, ◌≤◌, ◌+◌, ℕ, List, [], length, None, Some, IfOk, IfErr, OnErr, map};
+    ghost use Rattle.std.specs.Prelude.{MatchOption};
+    ghost use Rattle.std.specs.List.{AllByRecursion};
     ghost use Rattle.model.specs.Transaction.{SpellsTransaction};
     ghost use Rattle.model.specs.Utxo.{coin_of, outputs_of};
-    ghost use Rattle.model.specs.Block.{Block as Plain, SpellsBlock};
-    ghost use Rattle.model.specs.Chain.{tip_point};
+    ghost use Rattle.model.specs.Block.{Block as Plain, SpellsBlock, block_text};
+    ghost use Rattle.model.specs.Chain.{tip_point, immutable_length, immutable_part, BeginsWith};
+    ghost use Rattle.model.specs.Applying.{IsStateOf};
     ghost use Rattle.model.specs.Genesis.{supply_of};
-    ghost use Rattle.model.specs.Ledger.{Ledger, network_of, ledger_of};
+    ghost use Rattle.model.specs.Ledger.{Ledger, ledger_of, network_of, network_on};
     ghost use Rattle.model.specs.Limits.{block_size_limit};
     ghost use Rattle.model.specs.Forging.{ArrivesNext};
     ghost use Rattle.model.specs.History as history;
     ghost use Rattle.model.specs.History.{State, Entry, Arrive, Submit, Open, Next, Forward, Close, IsRun, Applies};
     ghost use Rattle.model.specs.History.{ChainTheorem};
     ghost use Rattle.ident.specs.PointView.{point_of};
+    ghost use Rattle.block.specs.Read.{IsRead};
     ghost use Rattle.chain_core.specs.Views.{event_of, reply_of, arrive_reply_of, submit_reply_of, open_reply_of};
     ghost use Rattle.chain_core.specs.Views.{next_reply_of, forward_reply_of, close_reply_of, history_of, IsReplyTo};
     ghost use Rattle.chain_core.specs.Views.{AreRepliesTo};
     ghost use Rattle.chain_core.specs.Steps.{Steps};
     ghost use Rattle.chain_core.specs.Calls.{IsWantAtArrival, IsWantAtSubmission, IsWantAt, IsLeftAt, AreCalls};
     ghost use Rattle.chain_core.specs.Pools.{IsWantOf};
-    ghost use Rattle.chain_core.specs.FollowerCalls.{IsWantAtOpening, IsWantAtNext};
+    ghost use Rattle.chain_core.specs.FollowerCalls.{IsWantAtOpening, IsWantAtNext, Peeks};
     ghost use Rattle.chain_core.specs.ForgedBlocks.{IsForgedAs, IsForgeFault};
-    ghost use Rattle.chain_core.specs.Held.{opening_held, Stands};
+    ghost use Rattle.chain_core.specs.Held.{opening_held, network_held, Stands};
+    ghost use Rattle.chain_core.specs.Numbers.{block_numbered};
+    ghost use Rattle.chain_core.specs.Reopening.{IsChainOf, IsReopenFault, texts_in};
 
     /// A core before anything arrived: the selected chain is empty, and the unspent outputs are those of the genesis.
     /// Err where memory runs out for these.
     pub fn new(alloc: Global, genesis: Genesis) -> Result<Core<S>, AllocError>
-        ensures { IfOk result (λ core. core ≡ opening_held genesis) }
+        ensures { IfOk result (λ core. core ≡ opening_held genesis []) }
     {
-        let chain_db = ChainDb::new(alloc, &genesis)?;
+        let state = LedgerState::new(alloc, &genesis)?;
+        let chain = Vec::new(alloc);
+        Core::on(alloc, genesis, OpenedChain { state, chain })
+    }
+
+    /// A core whose selected chain is that of these blocks, the first one first, none of which is ever rolled back: a
+    /// node that restarts on the immutable blocks that it kept. No transaction waits, and no follower is open; one that
+    /// is opened stands at genesis and is told these blocks too. Where the text of a block is none, or a block can't
+    /// come after those before it, there is no core, and the number of the first such block is told.
+    ///
+    /// Reads, hashes and judges each block once, and copies its bytes once, in the order of the chain.
+    ///
+    /// ```text
+    /// let blocks: Vec<Vec<u8>> = ..; // what was kept of `core.block(1)` to `core.block(core.immutable())`
+    /// let core = Core::<TestScheme>::reopen(alloc, genesis, &blocks)?;
+    /// ```
+    pub fn reopen(
+        alloc: Global,
+        genesis: Genesis,
+        blocks: &[Vec<u8>],
+    ) -> Result<Core<S>, ReopenFault>
+        // The bytes are those of the blocks of a valid chain, and the core begins from that chain.
+        ensures opened { IfOk result (λ core. (chain : List Plain)
+            × IsChainOf (network_of genesis S.verifies) (texts_in blocks.now) chain
+            × (core ≡ opening_held genesis chain)) }
+        // Else it is the first block that is none or can't come next, or memory ran out.
+        ensures fault { IfErr result (IsReopenFault (network_of genesis S.verifies) (texts_in blocks.now)) }
+    {
+        let on = read_chain(alloc, &genesis, blocks)?;
+        Ok(Core::on(alloc, genesis, on)?)
+    }
+
+    /// A core on a chain with its state.
+    fn on(alloc: Global, genesis: Genesis, on: OpenedChain<S>) -> Result<Core<S>, AllocError>
+        requires state { (opened : List Plain) →
+            IsStateOf (network_on genesis S.verifies opened) on.chain.items on.state }
+        requires spelled { AllByRecursion (λ b. SpellsBlock b (block_text b)) on.chain.items }
+        ensures { IfOk result (λ core. core ≡ opening_held genesis on.chain.items) }
+    {
+        let chain_db = ChainDb::open(alloc, &genesis, on)?;
         Ok(Core {
             alloc,
             genesis,
@@ -103,9 +150,10 @@ impl<S: SigScheme> Core<S> {
         ensures step { Steps S.verifies self.old (Arrive bytes.now) (arrive_reply_of result) self.new }
         // Where the bytes are the text of a block without transactions, memory is asked for only where no refusal
         // applies.
-        ensures memory { OnErr result (IsWantAtArrival self.old bytes.now) }
+        ensures memory { OnErr result (IsWantAtArrival S.verifies self.old bytes.now) }
         ensures size { OnErr result (length bytes.now ≤ block_size_limit) }
         ensures genesis { self.new.genesis ≡ self.old.genesis }
+        ensures opened { self.new.opened ≡ self.old.opened }
         ensures err { OnErr result (self.new ≡ self.old) }
     {
         let found = match block::look(self.alloc, bytes) {
@@ -140,9 +188,10 @@ impl<S: SigScheme> Core<S> {
         ensures step { Steps S.verifies self.old (Arrive seen) (arrive_reply_of result) self.new }
         // Memory is asked for only where no refusal applies.
         ensures memory { OnErr result ((s : State) → Stands self.old s → (refusal : history.Refusal) →
-            Applies self.old.genesis s seen refusal → ⊥) }
+            Applies (network_held self.old S.verifies) s seen refusal → ⊥) }
         ensures size { OnErr result (length seen ≤ block_size_limit) }
         ensures genesis { self.new.genesis ≡ self.old.genesis }
+        ensures opened { self.new.opened ≡ self.old.opened }
         ensures err { OnErr result (self.new ≡ self.old) }
     {
         let block = match seen.into_result() {
@@ -177,6 +226,7 @@ impl<S: SigScheme> Core<S> {
         // Where the bytes are the text of a transaction without parts, no memory is asked for.
         ensures memory { OnErr result (IsWantAtSubmission bytes.now) }
         ensures genesis { self.new.genesis ≡ self.old.genesis }
+        ensures opened { self.new.opened ≡ self.old.opened }
         ensures err { OnErr result (self.new ≡ self.old) }
     {
         self.chain_db.submit(bytes)
@@ -190,8 +240,9 @@ impl<S: SigScheme> Core<S> {
             Steps S.verifies self.old (Submit bytes) (submit_reply_of result) self.new }
         // Memory is asked for only where it isn't known without it what is answered.
         ensures memory { OnErr result ((bytes : List ℕ) → SpellsTransaction tx bytes →
-            IsWantOf (network_of self.old.genesis S.verifies) self.old.chain self.old.mempool bytes) }
+            IsWantOf (network_held self.old S.verifies) self.old.chain self.old.mempool bytes) }
         ensures genesis { self.new.genesis ≡ self.old.genesis }
+        ensures opened { self.new.opened ≡ self.old.opened }
         ensures err { OnErr result (self.new ≡ self.old) }
     {
         self.chain_db.submit_checked(tx)
@@ -218,14 +269,14 @@ impl<S: SigScheme> Core<S> {
     /// ```
     pub fn forge(&self, slot: u64) -> Result<Forged, ForgeFault>
         // It is the block that the definitions say, with its text and its place.
-        ensures forged { IfOk result (λ f. IsForgedAs (network_of self.now.genesis S.verifies) self.now.chain
+        ensures forged { IfOk result (λ f. IsForgedAs (network_held self.now S.verifies) self.now.chain
             self.now.mempool slot f.bytes.items f.point) }
         // Else it is the first fault that applies, or memory ran out and none does.
-        ensures fault { IfErr result (IsForgeFault (network_of self.now.genesis S.verifies) self.now.chain slot) }
+        ensures fault { IfErr result (IsForgeFault (network_held self.now S.verifies) self.now.chain slot) }
         // Beside every state of the definitions that the core stands for: where the bytes arrive next the block is put
         // on.
         ensures arrives { IfOk result (λ f. (s : State) → Stands self.now s → (b : Plain) →
-            SpellsBlock b f.bytes.items → ArrivesNext (network_of self.now.genesis S.verifies) s b f.bytes.items) }
+            SpellsBlock b f.bytes.items → ArrivesNext (network_held self.now S.verifies) s b f.bytes.items) }
     {
         // What says that an empty body fits, and that live blocks have texts, are clauses of these two.
         let (_supply, _live) = (self.genesis.supply(), self.chain_db.store.len());
@@ -240,6 +291,7 @@ impl<S: SigScheme> Core<S> {
         // Memory is asked for only where a number is free.
         ensures memory { IfErr result (IsWantAtOpening self.old) }
         ensures genesis { self.new.genesis ≡ self.old.genesis }
+        ensures opened { self.new.opened ≡ self.old.opened }
         ensures err { OnErr result (self.new ≡ self.old) }
     {
         self.followers.open()
@@ -259,12 +311,28 @@ impl<S: SigScheme> Core<S> {
         // Memory is asked for only where a block comes next.
         ensures memory { IfErr result (IsWantAtNext self.old id.number) }
         ensures genesis { self.new.genesis ≡ self.old.genesis }
+        ensures opened { self.new.opened ≡ self.old.opened }
         ensures err { OnErr result (self.new ≡ self.old) }
     {
         let height = self.height();
         let step = self.followers.due(id, height)?;
         let instruction = instruction_for(&self.chain_db.chain, step)?;
         self.followers.next(id, height)?;
+        Ok(instruction)
+    }
+
+    /// What [`Core::next`] would tell the follower of this number. Nothing changes: it is still to be told that. Where
+    /// no such follower is open it says so. Takes no memory where it answers nothing. In constant time, and copies no
+    /// bytes.
+    pub fn peek(&self, id: FollowerId) -> Result<Option<Instruction<S>>, NextFault>
+        // From every state of the definitions that the core stands for there is a step in which this is answered.
+        ensures step { Peeks S.verifies self.now id.number (next_reply_of result) }
+        // Memory is asked for only where a block comes next.
+        ensures memory { IfErr result (IsWantAtNext self.now id.number) }
+    {
+        let height = self.height();
+        let step = self.followers.due(id, height)?;
+        let instruction = instruction_for(&self.chain_db.chain, step)?;
         Ok(instruction)
     }
 
@@ -281,6 +349,7 @@ impl<S: SigScheme> Core<S> {
         ensures step { Steps S.verifies self.old (Forward id.number (map point_of points.now))
             (forward_reply_of result) self.new }
         ensures genesis { self.new.genesis ≡ self.old.genesis }
+        ensures opened { self.new.opened ≡ self.old.opened }
         ensures err { OnErr result (self.new ≡ self.old) }
     {
         if !self.followers.is_open(id) {
@@ -298,17 +367,19 @@ impl<S: SigScheme> Core<S> {
     pub fn close(&mut self, id: FollowerId) -> Result<(), UnknownFollower>
         ensures step { Steps S.verifies self.old (Close id.number) (close_reply_of result) self.new }
         ensures genesis { self.new.genesis ≡ self.old.genesis }
+        ensures opened { self.new.opened ≡ self.old.opened }
         ensures err { OnErr result (self.new ≡ self.old) }
     {
         self.followers.close(id)
     }
 
-    /// Answers one event.
-    fn answer(&mut self, event: &RawEvent) -> Reply<S>
+    /// Answers one event, by the call of its kind.
+    pub fn answer(&mut self, event: &RawEvent) -> Reply<S>
         ensures step { Steps S.verifies self.old (event_of event.now) (reply_of result) self.new }
         ensures kind { IsReplyTo event.now result }
-        ensures want { IsWantAt self.old event.now result }
+        ensures want { IsWantAt S.verifies self.old event.now result }
         ensures genesis { self.new.genesis ≡ self.old.genesis }
+        ensures opened { self.new.opened ≡ self.old.opened }
         ensures left { IsLeftAt self.old result self.new }
     {
         match event {
@@ -331,13 +402,14 @@ impl<S: SigScheme> Core<S> {
         // For every state of the definitions that the core stands for, the events with the replies are a run to one
         // that it then stands for.
         ensures run { IfOk result (λ replies. (s : State) → Stands self.old s → (t : State)
-            × IsRun (network_of self.old.genesis S.verifies) s (history_of events.now replies.items) t
+            × IsRun (network_held self.old S.verifies) s (history_of events.now replies.items) t
             × Stands self.new t) }
         // From a new core on, the chain theorem.
-        ensures theorem { IfOk result (λ replies. self.old ≡ opening_held self.old.genesis → (t : State)
-            × ChainTheorem (network_of self.old.genesis S.verifies) (history_of events.now replies.items) t
+        ensures theorem { IfOk result (λ replies. self.old ≡ opening_held self.old.genesis self.old.opened → (t : State)
+            × ChainTheorem (network_held self.old S.verifies) (history_of events.now replies.items) t
             × Stands self.new t) }
         ensures genesis { self.new.genesis ≡ self.old.genesis }
+        ensures opened { self.new.opened ≡ self.old.opened }
         ensures err { OnErr result (self.new ≡ self.old) }
     {
         let mut replies = Vec::with_capacity(self.alloc, events.len())?;
@@ -353,7 +425,7 @@ impl<S: SigScheme> Core<S> {
         ensures tip { point_of result ≡ tip_point self.now.chain }
         // Every core stands for the state that a legal history leaves, and the chain theorem holds of it.
         ensures theorem { (history : List Entry) × (s : State)
-            × ChainTheorem (network_of self.now.genesis S.verifies) history s × Stands self.now s }
+            × ChainTheorem (network_held self.now S.verifies) history s × Stands self.now s }
     {
         end_of(&self.chain_db.chain)
     }
@@ -365,10 +437,32 @@ impl<S: SigScheme> Core<S> {
         self.chain_db.chain.len() as u64
     }
 
+    /// How many blocks of the selected chain are never rolled back: all but the last k, and at least those that it was
+    /// opened on. Takes no memory.
+    pub fn immutable(&self) -> u64
+        ensures count { result ≡ immutable_length (network_held self.now S.verifies) self.now.chain }
+        // The chain that it was opened on begins them.
+        ensures opened { BeginsWith (immutable_part (network_held self.now S.verifies) self.now.chain) self.now.opened }
+    {
+        self.chain_db.immutable() as u64
+    }
+
+    /// The text of the block of this number of the selected chain, from 1 to [`Core::height`], and else None. It has
+    /// at most 1,048,576 bytes. In constant time; copies nothing, and takes no memory.
+    pub fn block(&self, number: u64) -> Option<&[u8]>
+        ensures { MatchOption result (block_numbered self.now.chain number ≡ None) (λ bytes. (b : Plain)
+            × (block_numbered self.now.chain number ≡ Some b) × IsRead b bytes.now) }
+    {
+        match block_at(&self.chain_db.chain, number) {
+            Some(block) => Some(block.bytes()),
+            None => None,
+        }
+    }
+
     /// The unspent outputs of the selected chain. Takes no memory.
     pub fn utxo(&self) -> &Utxo
         // They are those of the fold of the rules over the chain.
-        ensures { (ledger : Ledger) × (ledger_of (network_of self.now.genesis S.verifies) self.now.chain ≡ Some ledger)
+        ensures { (ledger : Ledger) × (ledger_of (network_held self.now S.verifies) self.now.chain ≡ Some ledger)
             × (result.now ≡ ledger.utxo) }
     {
         self.chain_db.state().utxo()
@@ -377,11 +471,11 @@ impl<S: SigScheme> Core<S> {
     /// The fees of all transactions of the selected chain, in lovelace. Takes no memory.
     pub fn fees(&self) -> u64
         ensures fees { (ledger : Ledger)
-            × (ledger_of (network_of self.now.genesis S.verifies) self.now.chain ≡ Some ledger)
+            × (ledger_of (network_held self.now S.verifies) self.now.chain ≡ Some ledger)
             × (result ≡ ledger.fees) }
         // With what the unspent outputs hold they are what the genesis granted.
         ensures supply { (ledger : Ledger)
-            → ledger_of (network_of self.now.genesis S.verifies) self.now.chain ≡ Some ledger
+            → ledger_of (network_held self.now S.verifies) self.now.chain ≡ Some ledger
             → coin_of (outputs_of ledger.utxo) + result ≡ supply_of self.now.genesis }
     {
         self.chain_db.state().fees()

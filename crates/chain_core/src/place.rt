@@ -4,6 +4,7 @@ ghost use Rattle.std.specs.Prelude.{◌≡◌, ◌↔◌, IsTrue, map, option_ma
 ghost use Rattle.model.specs.Chain.{tip_point};
 ghost use Rattle.model.specs.Follower.{IsOn, IsFirstOn};
 ghost use Rattle.ident.specs.PointView.{point_of};
+ghost use Rattle.chain_core.specs.Numbers.{block_numbered};
 
 use block::CheckedBlock;
 use ident::Point;
@@ -17,6 +18,16 @@ pub fn end_of<S: SigScheme>(chain: &[CheckedBlock<S>]) -> Point
         Some(block) => block.point(),
         None => Point::genesis(),
     }
+}
+
+/// The block of this number, from 1 to how many there are.
+pub fn block_at<S: SigScheme>(chain: &[CheckedBlock<S>], number: u64) -> Option<&CheckedBlock<S>>
+    ensures { option_map (λ b. b.now) result ≡ block_numbered chain.now number }
+{
+    if number == 0 {
+        return None;
+    }
+    chain.get(number as usize - 1)
 }
 
 /// Where the first so many blocks of the chain end, or all where there are fewer.

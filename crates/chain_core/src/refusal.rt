@@ -55,8 +55,8 @@ pub fn first_refusal<S: SigScheme>(
 ) -> Option<Refusal>
     // It is that of each state with this chain and these live blocks.
     ensures { (network : Network) (s : State) (block : Plain) → IsWhole network chain_db.now
-        → HasState network.genesis chain_db.now s → IsRead block bytes.now → IsPointOf point block
-        → IsJudged network.genesis s block (option_map refusal_of result) }
+        → HasState network chain_db.now s → IsRead block bytes.now → IsPointOf point block
+        → IsJudged network s block (option_map refusal_of result) }
 {
     if point.number <= chain_db.immutable() as u64 {
         return Some(Refusal::TooOld);

@@ -32,25 +32,25 @@ module _ (network : Network) (chain : List Block) (store : Store) (db : Database
   chain_valid = database_valid network chain db ready.settled.database
 
   -- what is at hand past the immutable part is live or the one that came
-  pub is_past : (b : Block) → Contains (at_hand chain store new) b → immutable_length network.genesis chain < b.header.number → Contains (new ∷ blocks_of store) b
+  pub is_past : (b : Block) → Contains (at_hand chain store new) b → immutable_length network chain < b.header.number → Contains (new ∷ blocks_of store) b
   is_past b member past =
       elim (Contains-append_cases (new ∷ blocks_of store) chain b member) [
         | inl there ↦ there
-        | inr on_chain ↦ contains_later new (blocks_of store) b (all_of_member (λ c. immutable_length network.genesis chain < c.header.number → HasBlock store c) chain b ready.settled.live on_chain past)
+        | inr on_chain ↦ contains_later new (blocks_of store) b (all_of_member (λ c. immutable_length network chain < c.header.number → HasBlock store c) chain b ready.settled.live on_chain past)
       ]
 
   -- and the rest is of the chain
-  is_before : (b : Block) → Contains (at_hand chain store new) b → b.header.number ≤ immutable_length network.genesis chain → Contains chain b
+  is_before : (b : Block) → Contains (at_hand chain store new) b → b.header.number ≤ immutable_length network chain → Contains chain b
   is_before b member before =
       elim (Contains-append_cases (new ∷ blocks_of store) chain b member) [
-        | inl there ↦ absurd (let past = all_of_member (λ c. immutable_length network.genesis chain < c.header.number) (new ∷ blocks_of store) b (ready.past, ready.settled.past) there in omega (arith, past, before))
+        | inl there ↦ absurd (let past = all_of_member (λ c. immutable_length network chain < c.header.number) (new ∷ blocks_of store) b (ready.past, ready.settled.past) there in omega (arith, past, before))
         | inr on_chain ↦ on_chain
       ]
 
   -- each has its place
   pub at_hand_placed : HaveOnePlace (at_hand chain store new)
   at_hand_placed a b has_a has_b hash number =
-      let m = immutable_length network.genesis chain in
+      let m = immutable_length network chain in
       elim (cases_lt m a.header.number) [
         | inl past ↦ distinct_placed (new ∷ blocks_of store) (ready.alone, ready.settled.distinct) a b (is_past a has_a past) (is_past b has_b (omega (arith, past, number))) hash number
         | inr before ↦ one_number genesis_tip chain a b chain_valid.linked (is_before a has_a (omega (arith, before))) (is_before b has_b (omega (arith, before, number))) number
@@ -95,16 +95,15 @@ module _ (network : Network) (chain : List Block) (store : Store) (db : Database
 
   -- the blocks of a candidate past the immutable part
   pub candidate_steps : (invalid : List BlockHash) → AllByRecursion (IsFoundDead network chain (new ∷ blocks_of store)) invalid → (c : List Block) → IsCandidate network (at_hand chain store new) chain c
-      → AllByRecursion (IsStep store invalid new) (drop (immutable_length network.genesis chain) c)
+      → AllByRecursion (IsStep store invalid new) (drop (immutable_length network chain) c)
   candidate_steps invalid found c candidate =
-      let genesis = network.genesis in
-      let m = immutable_length genesis chain in
+      let m = immutable_length network chain in
       let splits = candidate_front network (at_hand chain store new) chain c candidate in
-      let long : m ≤ length c = omega (arith, ap length splits, length-append (immutable_part genesis chain) (drop m c), length_immutable genesis chain) in
+      let long : m ≤ length c = omega (arith, ap length splits, length-append (immutable_part network chain) (drop m c), length_immutable network chain) in
       let live = live_rest network (at_hand chain store new) chain c candidate long in
       all_from_members (IsStep store invalid new) (drop m c)
       (λ b member.
-      let is_live = all_of_member (Contains (live_blocks genesis (at_hand chain store new) chain)) (drop m c) b live member in
-      let past = live_number genesis (at_hand chain store new) chain b is_live in
-      let there = is_past b (live_is_kept genesis (at_hand chain store new) chain b is_live) past in
-      step_of invalid found b there (λ unused. unused c candidate.valid candidate.members (subst (λ (xs : List Block). Contains xs b) (sym splits) (Contains-append_right (immutable_part genesis chain) (drop m c) b member))))
+      let is_live = all_of_member (Contains (live_blocks network (at_hand chain store new) chain)) (drop m c) b live member in
+      let past = live_number network (at_hand chain store new) chain b is_live in
+      let there = is_past b (live_is_kept network (at_hand chain store new) chain b is_live) past in
+      step_of invalid found b there (λ unused. unused c candidate.valid candidate.members (subst (λ (xs : List Block). Contains xs b) (sym splits) (Contains-append_right (immutable_part network chain) (drop m c) b member))))

@@ -48,13 +48,13 @@ fault_dead network chain live root s b fault linked members is has later past pl
     (all_weaker (Contains (live ++ chain)) (Contains (later ++ (live ++ chain))) (root ++ b ∷ []) (λ c member. Contains-append_right later (live ++ chain) c member) members) is has
 
 -- dead stays dead when a block comes
-pub dead_with : (network : Network) (chain live : List Block) (new b : Block) → immutable_length network.genesis chain < new.header.number → IsDead network chain live b → IsDead network chain (new ∷ live) b
+pub dead_with : (network : Network) (chain live : List Block) (new b : Block) → immutable_length network chain < new.header.number → IsDead network chain live b → IsDead network chain (new ∷ live) b
 dead_with network chain live new b new_past dead later past place =
     let parts : (later ++ new ∷ []) ++ (live ++ chain) ≡ later ++ ((new ∷ live) ++ chain) = append_assoc later (new ∷ []) (live ++ chain) in
-    let more : AllByRecursion (λ c. immutable_length network.genesis chain < c.header.number) (later ++ new ∷ []) = all_push_past later past in
+    let more : AllByRecursion (λ c. immutable_length network chain < c.header.number) (later ++ new ∷ []) = all_push_past later past in
     subst (λ (bs : List Block). IsUnused network bs b) parts (dead (later ++ new ∷ []) more (subst HaveOnePlace (sym parts) place))
   where
-    all_push_past : (xs : List Block) → AllByRecursion (λ c. immutable_length network.genesis chain < c.header.number) xs
-        → AllByRecursion (λ c. immutable_length network.genesis chain < c.header.number) (xs ++ new ∷ [])
+    all_push_past : (xs : List Block) → AllByRecursion (λ c. immutable_length network chain < c.header.number) xs
+        → AllByRecursion (λ c. immutable_length network chain < c.header.number) (xs ++ new ∷ [])
     all_push_past [] all = (new_past, tt)
     all_push_past (x ∷ xs) all = (all.0, all_push_past xs all.1)

@@ -6,7 +6,6 @@ use Rattle.std.specs.declared.cmp.Ordering.TheVariants.{Greater}
 use Rattle.std.specs.Cmp.Lexicographic.{slice_cmp}
 use Rattle.std.proofs.lemmas.List.{take-append-drop, take-take, drop-take}
 use Rattle.std.proofs.lemmas.List.Elements.{Contains-append_right}
-use Rattle.model.specs.Genesis.{Genesis}
 use Rattle.model.specs.Block.{Block, block_hash_of}
 use Rattle.model.specs.Ledger.{Network}
 use Rattle.model.specs.Chain.{Tip, genesis_tip, tip_at, tip_after, tip_hash, IsLinked, immutable_length}
@@ -31,17 +30,17 @@ use Rattle.chainsel.proofs.Switching.{led_length, led_ends}
 use Rattle.chainsel.proofs.Turns.{true_way, led_by}
 
 -- no open path makes a longer chain
-abbrev pub AreShort : Genesis → List Block → Store → Block → List BlockHash → Type 0
-AreShort genesis chain store new told =
-    (keep : ℕ) (path : List Block) → IsOpenPath genesis chain store new told keep path → length (take keep chain ++ path) ≤ length chain
+abbrev pub AreShort : Network → List Block → Store → Block → List BlockHash → Type 0
+AreShort network chain store new told =
+    (keep : ℕ) (path : List Block) → IsOpenPath network chain store new told keep path → length (take keep chain ++ path) ≤ length chain
 
-pub when_kept : {S : Type 0} (genesis : Genesis) (chain : List Block) (store : Store) (new : Block) (told : List BlockHash) (chosen : Choice S)
-    → chosen ≡ choice.Keep → AreShort genesis chain store new told → IsExplained genesis chain store new told chosen
-when_kept genesis chain store new told chosen is short = subst (IsExplained genesis chain store new told) (sym is) short
+pub when_kept : {S : Type 0} (network : Network) (chain : List Block) (store : Store) (new : Block) (told : List BlockHash) (chosen : Choice S)
+    → chosen ≡ choice.Keep → AreShort network chain store new told → IsExplained network chain store new told chosen
+when_kept network chain store new told chosen is short = subst (IsExplained network chain store new told) (sym is) short
 
 module _ (network : Network) (chain : List Block) (store : Store) (db : Database) (new : Block) (ready : IsReady network chain store db new) (told : List BlockHash) where
   -- an open path comes to the new block, and goes on from there
-  module _ (keep : ℕ) (path : List Block) (is : IsOpenPath network.genesis chain store new told keep path) where
+  module _ (keep : ℕ) (path : List Block) (is : IsOpenPath network chain store new told keep path) where
     abbrev root : Tip
     root = tip_after genesis_tip (take keep chain)
 
@@ -97,7 +96,7 @@ module _ (network : Network) (chain : List Block) (store : Store) (db : Database
     -- and it is a way to all that goes on from the new block
     module _ (found : AllByRecursion (IsFoundDead network chain (new ∷ blocks_of store)) told) where
       abbrev m : ℕ
-      m = immutable_length network.genesis chain
+      m = immutable_length network chain
 
       abbrev start : Tip
       start = tip_after genesis_tip (take m chain)
@@ -121,7 +120,7 @@ module _ (network : Network) (chain : List Block) (store : Store) (db : Database
           let all = candidate_steps network chain store db new ready told found chain (record {
             valid = chain_valid network chain store db new ready;
             members = all_from_members (Contains (at_hand chain store new)) chain (λ b member. Contains-append_right (new ∷ blocks_of store) chain b member);
-            begins = begins_with_itself network.genesis chain;
+            begins = begins_with_itself network chain;
           }) in
           subst (AllByRecursion (IsStep store told new)) (sym same) (all_take (IsStep store told new) (keep - m) (drop m chain) all)
 
@@ -143,26 +142,26 @@ module _ (network : Network) (chain : List Block) (store : Store) (db : Database
   -- ---- where the chain stays
 
   -- since nothing goes on past it
-  pub short_by_number : (best : Block) → IsBest store told new best → best.header.number ≤ length chain → AreShort network.genesis chain store new told
+  pub short_by_number : (best : Block) → IsBest store told new best → best.header.number ≤ length chain → AreShort network chain store new told
   short_by_number best is_best within keep path is = let far = within_best keep path is best is_best in omega (arith, far, within)
 
   -- since the block that came is told to be dead
-  pub short_by_death : (hash : BlockHash) → Contains told hash → hash.bytes ≡ block_hash_of new → AreShort network.genesis chain store new told
+  pub short_by_death : (hash : BlockHash) → Contains told hash → hash.bytes ≡ block_hash_of new → AreShort network chain store new told
   short_by_death hash among same keep path is = absurd (all_of_member (λ (h : BlockHash). h.bytes ≢ block_hash_of new) told hash is.untold among same)
 
   module _ (found : AllByRecursion (IsFoundDead network chain (new ∷ blocks_of store)) told) where
     -- since no way leads to what goes on from it
-    pub short_by_way : (immutable : ℕ) (b : Block) → immutable ≡ immutable_length network.genesis chain → Descends store told new b → HasNoWay store told chain immutable new b
-        → AreShort network.genesis chain store new told
+    pub short_by_way : (immutable : ℕ) (b : Block) → immutable ≡ immutable_length network chain → Descends store told new b → HasNoWay store told chain immutable new b
+        → AreShort network chain store new told
     short_by_way immutable b same goes no_way keep path is = absurd (leads keep path is found b goes (subst (λ (n : ℕ). HasNoWay store told chain n new b) same no_way))
 
     -- ---- where it changes
-    module _ (best : Block) (is_best : IsBest store told new best) (longer : length chain < best.header.number) (immutable kept_blocks : ℕ) (same : immutable ≡ immutable_length network.genesis chain) (blocks : List Block)
+    module _ (best : Block) (is_best : IsBest store told new best) (longer : length chain < best.header.number) (immutable kept_blocks : ℕ) (same : immutable ≡ immutable_length network chain) (blocks : List Block)
         (way : IsWay store told chain immutable new best kept_blocks blocks) where
       abbrev selected : List Block
       selected = take kept_blocks chain ++ blocks
 
-      way_on : IsWay store told chain (immutable_length network.genesis chain) new best kept_blocks blocks
+      way_on : IsWay store told chain (immutable_length network chain) new best kept_blocks blocks
       way_on = true_way network chain store db new ready told found best is_best longer immutable kept_blocks same blocks way
 
       as_long : length selected ≡ best.header.number
@@ -171,14 +170,14 @@ module _ (network : Network) (chain : List Block) (store : Store) (db : Database
       of_hash : tip_hash selected ≡ block_hash_of best
       of_hash = hash_by_end selected best (led_ends network chain store db new ready told found best is_best longer kept_blocks blocks way_on)
 
-      no_better : (keep : ℕ) (path : List Block) → IsOpenPath network.genesis chain store new told keep path → IsNoBetter selected (take keep chain ++ path)
+      no_better : (keep : ℕ) (path : List Block) → IsOpenPath network chain store new told keep path → IsNoBetter selected (take keep chain ++ path)
       no_better keep path is = record {
         longest = let far = within_best keep path is best is_best in omega (arith, far, as_long);
         least = λ level greater. not_less keep path is best is_best (level ∙ as_long) (ap (λ (h : List ℕ). slice_cmp nat_cmp h (tip_hash (take keep chain ++ path))) (sym of_hash) ∙ greater);
       }
 
       pub none_better : (back : ℕ) (put_on : List Block) → back ≡ length chain - kept_blocks → put_on ≡ blocks
-          → (keep : ℕ) (path : List Block) → IsOpenPath network.genesis chain store new told keep path → IsNoBetter (without_last back chain ++ put_on) (take keep chain ++ path)
+          → (keep : ℕ) (path : List Block) → IsOpenPath network chain store new told keep path → IsNoBetter (without_last back chain ++ put_on) (take keep chain ++ path)
       none_better back put_on as_back as_blocks keep path is =
           let led_on = led_by network chain store db new ready told found best is_best longer immutable kept_blocks same blocks way back put_on as_back as_blocks in
           subst (λ (bs : List Block). IsNoBetter bs (take keep chain ++ path)) (sym led_on) (no_better keep path is)

@@ -46,24 +46,24 @@ module _ (network : Network) (chain : List Block) (store : Store) (db : Database
   pub selected_over : (selected : List Block) → IsSelection network (at_hand chain store new) chain selected → IsSelected network store chain new selected
   selected_over selected is kept live has_chain = selection_over network (at_hand chain store new) (new ∷ kept) chain selected to back has_all has_kept is
     where
-      to : (b : Block) → Contains (live_blocks network.genesis (at_hand chain store new) chain) b → Contains (new ∷ kept) b
+      to : (b : Block) → Contains (live_blocks network (at_hand chain store new) chain) b → Contains (new ∷ kept) b
       to b member =
-          elim (Contains-append_cases (new ∷ blocks_of store) chain b (live_is_kept network.genesis (at_hand chain store new) chain b member)) [
+          elim (Contains-append_cases (new ∷ blocks_of store) chain b (live_is_kept network (at_hand chain store new) chain b member)) [
             | inl there ↦ elim (contains_cases new (blocks_of store) b there) [
               | inl same ↦ subst (Contains (new ∷ kept)) same (contains_first new kept)
-              | inr among ↦ contains_later new kept b (live_is_kept network.genesis kept chain b ((live.members b).0 among))
+              | inr among ↦ contains_later new kept b (live_is_kept network kept chain b ((live.members b).0 among))
             ]
             | inr on_chain ↦ contains_later new kept b (all_of_member (Contains kept) chain b has_chain on_chain)
           ]
 
-      back : (b : Block) → Contains (live_blocks network.genesis (new ∷ kept) chain) b → Contains (at_hand chain store new) b
+      back : (b : Block) → Contains (live_blocks network (new ∷ kept) chain) b → Contains (at_hand chain store new) b
       back b member =
-          let past = live_number network.genesis (new ∷ kept) chain b member in
+          let past = live_number network (new ∷ kept) chain b member in
           Contains-append_left (new ∷ blocks_of store) chain b
-          (elim (contains_cases new kept b (live_is_kept network.genesis (new ∷ kept) chain b member)) [
+          (elim (contains_cases new kept b (live_is_kept network (new ∷ kept) chain b member)) [
             | inl same ↦ subst (Contains (new ∷ blocks_of store)) same (contains_first new (blocks_of store))
             | inr among ↦ contains_later new (blocks_of store) b ((live.members b).1
-                (contains_filter (λ d. nat_lt (immutable_length network.genesis chain) d.header.number) kept b among (lt-ltb (immutable_length network.genesis chain) b.header.number past)))
+                (contains_filter (λ d. nat_lt (immutable_length network chain) d.header.number) kept b among (lt-ltb (immutable_length network chain) b.header.number past)))
           ])
 
       has_all : AllByRecursion (Contains (at_hand chain store new)) chain
@@ -85,7 +85,7 @@ module _ (network : Network) (chain : List Block) (store : Store) (db : Database
         ]
 
     -- where no way leads to what goes on from it
-    pub none_by_way : (b : Block) → Descends store invalid new b → HasNoWay store invalid chain (immutable_length network.genesis chain) new b → NoneLonger network (at_hand chain store new) chain
+    pub none_by_way : (b : Block) → Descends store invalid new b → HasNoWay store invalid chain (immutable_length network chain) new b → NoneLonger network (at_hand chain store new) chain
     none_by_way b is no_way c candidate =
         elim (candidate_cases network chain store db new ready invalid found c candidate) [
           | inl through ↦ absurd (leads through)
@@ -93,7 +93,7 @@ module _ (network : Network) (chain : List Block) (store : Store) (db : Database
         ]
       where
         tip : Tip
-        tip = tip_after genesis_tip (immutable_part network.genesis chain)
+        tip = tip_after genesis_tip (immutable_part network chain)
 
         steps : AllByRecursion (IsStep store invalid new) (new ∷ is.path)
         steps = (inl refl, all_weaker (IsFitLive store invalid) (IsStep store invalid new) is.path (λ d fit. inr fit) is.members)

@@ -40,13 +40,6 @@ one_front bs place tip xs ys b linked others in_xs in_ys =
     (same_placed bs place tip tip refl (xs ++ b ∷ []) (ys ++ b ∷ []) linked others in_xs in_ys (omega (arith, first, second))
     (ap (λ (t : Tip). t.hash) (tip_of_end tip xs b ∙ sym (tip_of_end tip ys b)))).0
 
--- the numbers of linked blocks are at most that of their end
-pub numbers_within : (tip : Tip) (xs : List Block) → IsLinked tip xs → AllByRecursion (λ b. b.header.number ≤ tip.number + length xs) xs
-numbers_within tip [] linked = tt
-numbers_within tip (x ∷ xs) linked =
-    let number = linked.0.number in
-    (omega (arith, number), all_weaker (λ b. b.header.number ≤ x.header.number + length xs) (λ b. b.header.number ≤ tip.number + length (x ∷ xs)) xs (λ b le. omega (arith, number, le)) (numbers_within (tip_at x) xs linked.1))
-
 -- linked blocks of one number are one
 pub one_number : (tip : Tip) (xs : List Block) (a b : Block) → IsLinked tip xs → Contains xs a → Contains xs b → a.header.number ≡ b.header.number → a ≡ b
 one_number tip [] a b linked has_a has_b same = absurd (omega (arith, has_a.1))

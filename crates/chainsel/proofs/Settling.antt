@@ -1,16 +1,18 @@
 -- From one selection to the next: what was settled before a block came is settled after it.
 use Rattle.std.proofs.Common.{◌≡◌, ℕ, ◌+◌, ◌-◌, ◌<◌, ◌≤◌, Bool, true, false, cond, List, [], ◌∷◌, ◌++◌, length, map, Contains, refl, sym, ap, subst, ◌∙◌, arith, inl, inr, append-nil, drop}
-use Rattle.std.specs.Prelude.{nat_lt, min}
+use Rattle.std.specs.Prelude.{nat_lt, min, max}
 use Rattle.std.specs.List.{AllByRecursion, filter}
 use Rattle.std.proofs.lemmas.Bool.{cases_lt, lt-ltb, ltb-true}
 use Rattle.std.proofs.lemmas.List.{length-map, take-append-drop}
 use Rattle.std.proofs.lemmas.List.Elements.{Contains-append_left, Contains-append_right, Contains-append_cases, filter-append}
 use Rattle.model.specs.Block.{Block}
 use Rattle.model.specs.Ledger.{Network}
-use Rattle.model.specs.Chain.{genesis_tip, IsLinked, IsSelection, HaveDistinctHashes, immutable_length, immutable_part, live_blocks}
+use Rattle.model.specs.Chain.{genesis_tip, IsLinked, IsOpening, IsSelection, BeginsWith, NoneLonger, HaveDistinctHashes, immutable_length, immutable_part, live_blocks}
 use Rattle.model.proofs.Lists.{all_of_member, all_from_members, all_weaker, all_both, all_append, all_take, contains_first, contains_later, contains_cases, nothing_contained}
-use Rattle.model.proofs.Chains.{linked_front, length_immutable}
-use Rattle.model.proofs.Selections.{past_numbers, selection_not_shorter, selection_longest}
+use Rattle.model.proofs.Chains.{linked_front, length_immutable, begins_with_whole}
+use Rattle.model.proofs.FollowerSteps.{begins_fewer, begins_not_longer}
+use Rattle.model.proofs.LegalHistories.{numbers_within, none_longer_than_all}
+use Rattle.model.proofs.Selections.{past_numbers, selection_not_shorter, selection_begins, selection_longest}
 use Rattle.model.proofs.Candidates.{live_is_kept, live_number, selection_over}
 use Rattle.blockstore.specs.Stored.{Stored, Store, HasBlock, blocks_of}
 use Rattle.blockstore.specs.Live.{HoldsLive}
@@ -19,19 +21,18 @@ use Rattle.ledgerdb.specs.Chains.{without_last, IsDatabaseOf}
 use Rattle.chainsel.specs.Dead.{HaveOnePlace, IsDead}
 use Rattle.chainsel.specs.Ready.{IsSettled, IsReady}
 use Rattle.chainsel.specs.Choices.{IsSelected}
-use Rattle.chainsel.proofs.Places.{numbers_within}
 use Rattle.chainsel.proofs.AtHand.{at_hand, chain_valid, is_past, at_hand_placed}
 
 -- ---- dead blocks
 
 -- Dead stays dead when the chain changes: what there is then was there before, and what was there past the new immutable
 -- part is there still.
-pub dead_moves : (network : Network) (chain live next_chain next_live : List Block) (b : Block) → HaveOnePlace (live ++ chain) → immutable_length network.genesis chain ≤ immutable_length network.genesis next_chain
+pub dead_moves : (network : Network) (chain live next_chain next_live : List Block) (b : Block) → HaveOnePlace (live ++ chain) → immutable_length network chain ≤ immutable_length network next_chain
     → ((c : Block) → Contains (next_live ++ next_chain) c → Contains (live ++ chain) c)
-    → ((c : Block) → Contains (live ++ chain) c → immutable_length network.genesis next_chain < c.header.number → Contains (next_live ++ next_chain) c)
+    → ((c : Block) → Contains (live ++ chain) c → immutable_length network next_chain < c.header.number → Contains (next_live ++ next_chain) c)
     → IsDead network chain live b → IsDead network next_chain next_live b
 dead_moves network chain live next_chain next_live b place further was still dead later past next_place c valid within member =
-    dead later (all_weaker (λ x. immutable_length network.genesis next_chain < x.header.number) (λ x. immutable_length network.genesis chain < x.header.number) later (λ x above. omega (arith, above, further)) past) old_place c valid
+    dead later (all_weaker (λ x. immutable_length network next_chain < x.header.number) (λ x. immutable_length network chain < x.header.number) later (λ x above. omega (arith, above, further)) past) old_place c valid
     (all_weaker (Contains (later ++ (next_live ++ next_chain))) (Contains (later ++ (live ++ chain))) c to_old within) member
   where
     to_old : (x : Block) → Contains (later ++ (next_live ++ next_chain)) x → Contains (later ++ (live ++ chain)) x
@@ -44,7 +45,7 @@ dead_moves network chain live next_chain next_live b place further was still dea
     -- one of those that come later, and one of those that there were, in one place
     mixed : (x y : Block) → Contains later x → Contains (live ++ chain) y → x.header.number ≡ y.header.number → Contains (later ++ (next_live ++ next_chain)) y
     mixed x y among old number =
-        let above = all_of_member (λ z. immutable_length network.genesis next_chain < z.header.number) later x past among in
+        let above = all_of_member (λ z. immutable_length network next_chain < z.header.number) later x past among in
         Contains-append_right later (next_live ++ next_chain) y (still y old (omega (arith, above, number)))
 
     old_place : HaveOnePlace (later ++ (live ++ chain))
@@ -67,10 +68,10 @@ all_pass p [] each = refl
 all_pass p (x ∷ xs) each = ap (λ (t : Bool). cond t (x ∷ filter p xs) (filter p xs)) (each x (contains_first x xs)) ∙ ap (λ (bs : List Block). x ∷ bs) (all_pass p xs (λ b member. each b (contains_later x xs b member)))
 
 -- with nothing kept but the live blocks, the store holds what is live
-pub settled_live : (network : Network) (chain : List Block) (store : Store) (db : Database) → IsSettled network chain store db → HoldsLive network.genesis (blocks_of store) chain store
+pub settled_live : (network : Network) (chain : List Block) (store : Store) (db : Database) → IsSettled network chain store db → HoldsLive network (blocks_of store) chain store
 settled_live network chain store db settled =
-    let n = immutable_length network.genesis chain in
-    let same : live_blocks network.genesis (blocks_of store) chain ≡ blocks_of store =
+    let n = immutable_length network chain in
+    let same : live_blocks network (blocks_of store) chain ≡ blocks_of store =
     all_pass (λ b. nat_lt n b.header.number) (blocks_of store) (λ b member. lt-ltb n b.header.number (all_of_member (λ c. n < c.header.number) (blocks_of store) b settled.past member)) in
     record {
       members = λ b. (subst (λ (bs : List Block). Contains bs b) (sym same), subst (λ (bs : List Block). Contains bs b) same);
@@ -87,10 +88,10 @@ none_passes p (x ∷ xs) each = one (p x) refl (none_passes p xs (λ b member. e
 
 module _ (network : Network) (chain : List Block) (store : Store) (db : Database) (new : Block) (ready : IsReady network chain store db new) where
   abbrev imm : List Block
-  imm = immutable_part network.genesis chain
+  imm = immutable_part network chain
 
   abbrev m : ℕ
-  m = immutable_length network.genesis chain
+  m = immutable_length network chain
 
   abbrev passes : Block → Bool
   passes b = nat_lt m b.header.number
@@ -100,19 +101,19 @@ module _ (network : Network) (chain : List Block) (store : Store) (db : Database
       let linked : IsLinked genesis_tip imm = linked_front genesis_tip imm (drop m chain) (subst (IsLinked genesis_tip) (sym (take-append-drop m chain)) (chain_valid network chain store db new ready).linked) in
       let within = all_of_member (λ c. c.header.number ≤ 0 + length imm) imm b (numbers_within genesis_tip imm linked) member in
       let past = ltb-true m b.header.number above in
-      omega (arith, within, past, length_immutable network.genesis chain)
+      omega (arith, within, past, length_immutable network chain)
 
   -- the live blocks and the immutable part, as if no other block had been kept
   abbrev kept : List Block
   kept = blocks_of store ++ imm
 
-  live_are : live_blocks network.genesis kept chain ≡ blocks_of store
+  live_are : live_blocks network kept chain ≡ blocks_of store
   live_are =
       filter-append passes (blocks_of store) imm
       ∙ (ap (λ (bs : List Block). bs ++ filter passes imm) (all_pass passes (blocks_of store) (λ b member. lt-ltb m b.header.number (all_of_member (λ c. m < c.header.number) (blocks_of store) b ready.settled.past member)))
       ∙ (ap (λ (bs : List Block). blocks_of store ++ bs) (none_passes passes imm imm_below) ∙ append-nil (blocks_of store)))
 
-  held : HoldsLive network.genesis kept chain store
+  held : HoldsLive network kept chain store
   held = record {
     members = λ b. (subst (λ (bs : List Block). Contains bs b) (sym live_are), subst (λ (bs : List Block). Contains bs b) live_are);
     count = sym (length-map store.blocks (λ (s : Stored). s.block)) ∙ sym (ap length live_are);
@@ -131,9 +132,9 @@ module _ (network : Network) (chain : List Block) (store : Store) (db : Database
   selection_at_hand selected is = selection_over network (new ∷ kept) (at_hand chain store new) chain selected to back (all_weaker (Contains kept) (Contains (new ∷ kept)) chain (λ b member. contains_later new kept b member) chain_kept)
       (all_from_members (Contains (at_hand chain store new)) chain (λ b member. Contains-append_right (new ∷ blocks_of store) chain b member)) (is kept held chain_kept)
     where
-      to : (b : Block) → Contains (live_blocks network.genesis (new ∷ kept) chain) b → Contains (at_hand chain store new) b
+      to : (b : Block) → Contains (live_blocks network (new ∷ kept) chain) b → Contains (at_hand chain store new) b
       to b member =
-          elim (contains_cases new kept b (live_is_kept network.genesis (new ∷ kept) chain b member)) [
+          elim (contains_cases new kept b (live_is_kept network (new ∷ kept) chain b member)) [
             | inl same ↦ Contains-append_left (new ∷ blocks_of store) chain b (subst (Contains (new ∷ blocks_of store)) same (contains_first new (blocks_of store)))
             | inr among ↦ elim (Contains-append_cases (blocks_of store) imm b among) [
               | inl live ↦ Contains-append_left (new ∷ blocks_of store) chain b (contains_later new (blocks_of store) b live)
@@ -141,9 +142,9 @@ module _ (network : Network) (chain : List Block) (store : Store) (db : Database
             ]
           ]
 
-      back : (b : Block) → Contains (live_blocks network.genesis (at_hand chain store new) chain) b → Contains (new ∷ kept) b
+      back : (b : Block) → Contains (live_blocks network (at_hand chain store new) chain) b → Contains (new ∷ kept) b
       back b member =
-          let there = is_past network chain store db new ready b (live_is_kept network.genesis (at_hand chain store new) chain b member) (live_number network.genesis (at_hand chain store new) chain b member) in
+          let there = is_past network chain store db new ready b (live_is_kept network (at_hand chain store new) chain b member) (live_number network (at_hand chain store new) chain b member) in
           elim (contains_cases new (blocks_of store) b there) [
             | inl same ↦ subst (Contains (new ∷ kept)) same (contains_first new kept)
             | inr live ↦ contains_later new kept b (Contains-append_left (blocks_of store) imm b live)
@@ -152,18 +153,20 @@ module _ (network : Network) (chain : List Block) (store : Store) (db : Database
   -- what a store keeps of the blocks that it had and of the one that came, where the selected chain becomes this one
   pub record IsNextStore (next_chain : List Block) (next : Store) : Type 0 where
     pub was : (b : Block) → HasBlock next b → Contains (new ∷ blocks_of store) b
-    pub still : (b : Block) → Contains (new ∷ blocks_of store) b → immutable_length network.genesis next_chain < b.header.number → HasBlock next b
-    pub past : AllByRecursion (λ b. immutable_length network.genesis next_chain < b.header.number) (blocks_of next)
+    pub still : (b : Block) → Contains (new ∷ blocks_of store) b → immutable_length network next_chain < b.header.number → HasBlock next b
+    pub past : AllByRecursion (λ b. immutable_length network next_chain < b.header.number) (blocks_of next)
     pub distinct : HaveDistinctHashes (blocks_of next)
     pub marks : (s : Stored) → Contains next.blocks s → s.invalid ≡ true → IsDead network chain (new ∷ blocks_of store) s.block
 
   -- so it is settled again
   pub settled_again : (next_chain : List Block) (next : Store) (next_db : Database) → IsSelected network store chain new next_chain → AllByRecursion (Contains (at_hand chain store new)) next_chain → IsNextStore next_chain next
-      → IsDatabaseOf network next_chain next_db → depth next_db ≡ min network.genesis.k (length next_chain) → IsSettled network next_chain next next_db
+      → IsDatabaseOf network next_chain next_db → depth next_db ≡ length next_chain - immutable_length network next_chain → IsSettled network next_chain next next_db
   settled_again next_chain next next_db selected made is database deep = record {
     database = database;
     depth = deep;
-    live = all_from_members (λ b. immutable_length network.genesis next_chain < b.header.number → HasBlock next b) next_chain (λ b member past. is.still b (at_hand_past b (all_of_member (Contains (at_hand chain store new)) next_chain b made member) past) past);
+    opened = subst (BeginsWith next_chain) ready.settled.opened (begins_fewer chain next_chain (length network.opened) (immutable_length network chain) (let within = begins_not_longer chain network.opened ready.settled.opened in omega arith)
+        (selection_begins network (at_hand chain store new) chain next_chain (selection_at_hand next_chain selected)));
+    live = all_from_members (λ b. immutable_length network next_chain < b.header.number → HasBlock next b) next_chain (λ b member past. is.still b (at_hand_past b (all_of_member (Contains (at_hand chain store new)) next_chain b made member) past) past);
     past = is.past;
     distinct = is.distinct;
     longest = λ c candidate. selection_longest network (at_hand chain store new) chain next_chain (selection_at_hand next_chain selected) c (record {
@@ -175,10 +178,10 @@ module _ (network : Network) (chain : List Block) (store : Store) (db : Database
         dead_moves network chain (new ∷ blocks_of store) next_chain (blocks_of next) s.block (at_hand_placed network chain store db new ready) further was still (is.marks s member marked));
   }
     where
-      further : immutable_length network.genesis chain ≤ immutable_length network.genesis next_chain
+      further : immutable_length network chain ≤ immutable_length network next_chain
       further = let longer = selection_not_shorter network (at_hand chain store new) chain next_chain (selection_at_hand next_chain selected) in omega (arith, longer)
 
-      at_hand_past : (b : Block) → Contains (at_hand chain store new) b → immutable_length network.genesis next_chain < b.header.number → Contains (new ∷ blocks_of store) b
+      at_hand_past : (b : Block) → Contains (at_hand chain store new) b → immutable_length network next_chain < b.header.number → Contains (new ∷ blocks_of store) b
       at_hand_past b member past = is_past network chain store db new ready b member (omega (arith, past, further))
 
       was : (b : Block) → Contains (blocks_of next ++ next_chain) b → Contains (at_hand chain store new) b
@@ -188,28 +191,25 @@ module _ (network : Network) (chain : List Block) (store : Store) (db : Database
             | inr on_chain ↦ all_of_member (Contains (at_hand chain store new)) next_chain b made on_chain
           ]
 
-      still : (b : Block) → Contains (at_hand chain store new) b → immutable_length network.genesis next_chain < b.header.number → Contains (blocks_of next ++ next_chain) b
+      still : (b : Block) → Contains (at_hand chain store new) b → immutable_length network next_chain < b.header.number → Contains (blocks_of next ++ next_chain) b
       still b member past = Contains-append_left (blocks_of next) next_chain b (is.still b (at_hand_past b member past) past)
 
 -- ---- how it begins, and how a switch goes on
 
--- before the first block
-pub settled_at_start : (network : Network) (store : Store) (db : Database) → store.blocks ≡ [] → IsDatabaseOf network [] db → depth db ≡ 0 → IsSettled network [] store db
-settled_at_start network store db empty database deep =
+-- before the first arrival
+pub settled_at_start : (network : Network) (store : Store) (db : Database) → IsOpening network → store.blocks ≡ [] → IsDatabaseOf network network.opened db → depth db ≡ 0 → IsSettled network network.opened store db
+settled_at_start network store db opens empty database deep =
     let none : [] ≡ blocks_of store = sym (ap (map (λ (s : Stored). s.block)) empty) in
     record {
       database = database;
-      depth = let e : min network.genesis.k 0 ≡ 0 = omega arith in deep ∙ sym e;
-      live = tt;
-      past = subst (AllByRecursion (λ b. immutable_length network.genesis [] < b.header.number)) none tt;
+      depth = omega (arith, deep);
+      opened = begins_with_whole network.opened;
+      live = all_weaker (λ b. b.header.number ≤ 0 + length network.opened) (λ b. immutable_length network network.opened < b.header.number → HasBlock store b) network.opened (λ b within past. absurd (omega arith)) (numbers_within genesis_tip network.opened opens.valid.linked);
+      past = subst (AllByRecursion (λ b. immutable_length network network.opened < b.header.number)) none tt;
       distinct = subst HaveDistinctHashes none tt;
-      longest = λ c candidate. nothing_longer c (subst (λ (bs : List Block). AllByRecursion (Contains (bs ++ [])) c) (sym none) candidate.members);
-      marks = subst (AllByRecursion (λ (s : Stored). s.invalid ≡ true → IsDead network [] (blocks_of store) s.block)) (sym empty) tt;
+      longest = subst (λ (bs : List Block). NoneLonger network (bs ++ network.opened) network.opened) none (none_longer_than_all network network.opened opens.valid);
+      marks = subst (AllByRecursion (λ (s : Stored). s.invalid ≡ true → IsDead network network.opened (blocks_of store) s.block)) (sym empty) tt;
     }
-  where
-    nothing_longer : (c : List Block) → AllByRecursion (Contains []) c → length c ≤ 0
-    nothing_longer [] members = omega arith
-    nothing_longer (x ∷ xs) members = absurd (nothing_contained x members.0)
 
 -- the chain that is switched to is of blocks at hand
 pub switched_at_hand : (chain : List Block) (store : Store) (new : Block) (back : ℕ) (blocks : List Block) → AllByRecursion (Contains (new ∷ blocks_of store)) blocks
@@ -220,9 +220,10 @@ switched_at_hand chain store new back blocks members =
     (all_weaker (Contains (new ∷ blocks_of store)) (Contains (at_hand chain store new)) blocks (λ b member. Contains-append_left (new ∷ blocks_of store) chain b member) members)
 
 -- as many states as may be rolled back, where the chain doesn't become shorter
-pub depth_next : (k long deep back added : ℕ) → deep ≡ min k long → back ≤ deep → back ≤ added → min k (deep - back + added) ≡ min k (long - back + added)
-depth_next k long deep back added is within longer =
-    elim (cases_lt k long) [
-      | inl over ↦ omega (arith, is, within, longer, over)
-      | inr not_over ↦ omega (arith, is, within, longer, not_over)
+pub depth_next : (k opened long deep back added : ℕ) → deep ≡ long - min long (max (long - k) opened) → opened ≤ long → back ≤ deep → back ≤ added
+    → min k (deep - back + added) ≡ (long - back + added) - min (long - back + added) (max (long - back + added - k) opened)
+depth_next k opened long deep back added is begins within longer =
+    elim (cases_lt opened (long - k)) [
+      | inl over ↦ omega (arith, is, begins, within, longer, over)
+      | inr not_over ↦ omega (arith, is, begins, within, longer, not_over)
     ]

@@ -32,7 +32,7 @@ use Rattle.chainsel.proofs.Keeping.{linked_join, end_is_step}
 
 module _ (network : Network) (chain : List Block) (store : Store) (db : Database) (new : Block) (ready : IsReady network chain store db new) (invalid : List BlockHash)
     (found : AllByRecursion (IsFoundDead network chain (new ∷ blocks_of store)) invalid) (end : Block) (best : IsBest store invalid new end) (longer : length chain < end.header.number) (keep : ℕ) (blocks : List Block)
-    (way : IsWay store invalid chain (immutable_length network.genesis chain) new end keep blocks) where
+    (way : IsWay store invalid chain (immutable_length network chain) new end keep blocks) where
   -- the chain that the way leads on
   abbrev pub led : List Block
   led = take keep chain ++ blocks
@@ -65,10 +65,10 @@ module _ (network : Network) (chain : List Block) (store : Store) (db : Database
       (all_take (Contains (at_hand chain store new)) keep chain (all_from_members (Contains (at_hand chain store new)) chain (λ b member. Contains-append_right (new ∷ blocks_of store) chain b member)))
       (all_weaker (Contains (new ∷ blocks_of store)) (Contains (at_hand chain store new)) blocks (λ b member. Contains-append_left (new ∷ blocks_of store) chain b member) blocks_there)
 
-  led_begins : BeginsWith led (immutable_part network.genesis chain)
+  led_begins : BeginsWith led (immutable_part network chain)
   led_begins =
-      let m = immutable_length network.genesis chain in
-      let imm = immutable_part network.genesis chain in
+      let m = immutable_length network chain in
+      let imm = immutable_part network chain in
       let rest = drop m (take keep chain) ++ blocks in
       let front : take keep chain ≡ imm ++ drop m (take keep chain) = sym (take-append-drop m (take keep chain)) ∙ ap (λ (bs : List Block). bs ++ drop m (take keep chain)) (take-take m keep chain way.low) in
       let whole : led ≡ imm ++ rest = ap (λ (bs : List Block). bs ++ blocks) front ∙ append_assoc imm (drop m (take keep chain)) blocks in

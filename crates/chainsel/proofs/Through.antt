@@ -79,9 +79,9 @@ module _ (network : Network) (chain : List Block) (store : Store) (db : Database
   pub record GoesThrough (c : List Block) : Type 0 where
     pub before : List Block
     pub after : List Block
-    pub parts : c ≡ (immutable_part network.genesis chain ++ before) ++ new ∷ after
+    pub parts : c ≡ (immutable_part network chain ++ before) ++ new ∷ after
     pub fit : AllByRecursion (IsFitLive store invalid) before
-    pub linked : IsLinked (tip_after genesis_tip (immutable_part network.genesis chain)) (before ++ new ∷ after)
+    pub linked : IsLinked (tip_after genesis_tip (immutable_part network chain)) (before ++ new ∷ after)
     pub descends : Descends store invalid new (last_block new after)
     pub ends : tip_after genesis_tip c ≡ tip_at (last_block new after)
 
@@ -94,10 +94,10 @@ module _ (network : Network) (chain : List Block) (store : Store) (db : Database
       ]
     where
       m : ℕ
-      m = immutable_length network.genesis chain
+      m = immutable_length network chain
 
       imm : List Block
-      imm = immutable_part network.genesis chain
+      imm = immutable_part network chain
 
       splits : c ≡ imm ++ drop m c
       splits = candidate_front network (at_hand chain store new) chain c candidate
@@ -139,4 +139,4 @@ module _ (network : Network) (chain : List Block) (store : Store) (db : Database
   pub has_new : (c : List Block) → GoesThrough c → Contains c new
   has_new c is =
       subst (λ (bs : List Block). Contains bs new) (sym is.parts)
-      (Contains-append_right (immutable_part network.genesis chain ++ is.before) (new ∷ is.after) new (contains_first new is.after))
+      (Contains-append_right (immutable_part network chain ++ is.before) (new ∷ is.after) new (contains_first new is.after))

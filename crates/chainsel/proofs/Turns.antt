@@ -37,14 +37,14 @@ match_some A B o x is some = subst (λ p. MatchOption p A B) some is
 
 module _ (network : Network) (chain : List Block) (store : Store) (db : Database) (new : Block) (ready : IsReady network chain store db new) where
   -- so many blocks of the chain can't be rolled back
-  pub immutable_is : (n d : ℕ) → n ≡ length chain - d → d ≡ depth db → n ≡ immutable_length network.genesis chain
+  pub immutable_is : (n d : ℕ) → n ≡ length chain - d → d ≡ depth db → n ≡ immutable_length network chain
   immutable_is n d is depth_is = let e = ready.settled.depth in omega (arith, is, depth_is, e)
 
   module _ (invalid : List BlockHash) (found : AllByRecursion (IsFoundDead network chain (new ∷ blocks_of store)) invalid) where
     pub stays_by_number : (best : Block) → IsBest store invalid new best → best.header.number ≤ length chain → IsSelected network store chain new chain
     stays_by_number best is within = selected_over network chain store db new ready chain (Stays (none_by_number network chain store db new ready invalid found best is within))
 
-    pub stays_by_way : (immutable : ℕ) (b : Block) → immutable ≡ immutable_length network.genesis chain → Descends store invalid new b → HasNoWay store invalid chain immutable new b → IsSelected network store chain new chain
+    pub stays_by_way : (immutable : ℕ) (b : Block) → immutable ≡ immutable_length network chain → Descends store invalid new b → HasNoWay store invalid chain immutable new b → IsSelected network store chain new chain
     stays_by_way immutable b same is no_way =
         selected_over network chain store db new ready chain
         (Stays (none_by_way network chain store db new ready invalid found b is (subst (λ (n : ℕ). HasNoWay store invalid chain n new b) same no_way)))
@@ -53,9 +53,9 @@ module _ (network : Network) (chain : List Block) (store : Store) (db : Database
     stays_by_death hash among same = selected_over network chain store db new ready chain (Stays (none_by_death network chain store db new ready invalid found hash among same))
 
     -- with a way that leads past the chain
-    module _ (best : Block) (is : IsBest store invalid new best) (longer : length chain < best.header.number) (immutable keep : ℕ) (same : immutable ≡ immutable_length network.genesis chain) (blocks : List Block)
+    module _ (best : Block) (is : IsBest store invalid new best) (longer : length chain < best.header.number) (immutable keep : ℕ) (same : immutable ≡ immutable_length network chain) (blocks : List Block)
         (way : IsWay store invalid chain immutable new best keep blocks) where
-      pub true_way : IsWay store invalid chain (immutable_length network.genesis chain) new best keep blocks
+      pub true_way : IsWay store invalid chain (immutable_length network chain) new best keep blocks
       true_way = subst (λ (n : ℕ). IsWay store invalid chain n new best keep blocks) same way
 
       front : without_last (length chain - keep) chain ≡ take keep chain

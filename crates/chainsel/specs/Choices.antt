@@ -4,7 +4,6 @@ use Rattle.std.specs.List.{AllByRecursion}
 use Rattle.std.specs.Ordering.{nat_cmp}
 use Rattle.std.specs.declared.cmp.Ordering.TheVariants.{Greater}
 use Rattle.std.specs.Cmp.Lexicographic.{slice_cmp}
-use Rattle.model.specs.Genesis.{Genesis}
 use Rattle.model.specs.Block.{Block, block_hash_of}
 use Rattle.model.specs.Ledger.{Network}
 use Rattle.model.specs.Chain.{genesis_tip, tip_after, tip_hash, immutable_length, IsLinked, IsSelection}
@@ -24,7 +23,7 @@ use Rattle.chainsel.specs.declared.choice.Switch.{Switch}
 -- of the chain are, and the store has those that are live.
 abbrev pub IsSelected : Network → Store → (chain : List Block) → (new : Block) → (selected : List Block) → Type 0
 IsSelected network store chain new selected =
-    (kept : List Block) → HoldsLive network.genesis kept chain store → AllByRecursion (Contains kept) chain
+    (kept : List Block) → HoldsLive network kept chain store → AllByRecursion (Contains kept) chain
     → IsSelection network (new ∷ kept) chain selected
 
 -- The chain without its last `back` blocks, and with these after it, is selected. Just so many are rolled back, no
@@ -68,9 +67,9 @@ IsPossible chain db (choice.Switch switch) = CanSwitch chain db switch
 -- OPEN PATH (this project's own)
 -- Blocks that go on, each following the one before, from the first `keep` of the selected chain, at least its immutable
 -- part. One of them is the block that came, the others are live, and none has a mark or is told to be dead.
-pub record IsOpenPath (genesis : Genesis) (chain : List Block) (store : Store) (new : Block) (told : List BlockHash)
+pub record IsOpenPath (network : Network) (chain : List Block) (store : Store) (new : Block) (told : List BlockHash)
     (keep : ℕ) (path : List Block) : Type 0 where
-  pub low : immutable_length genesis chain ≤ keep
+  pub low : immutable_length network chain ≤ keep
   pub high : keep ≤ length chain
   pub linked : IsLinked (tip_after genesis_tip (take keep chain)) path
   pub through : Contains path new
@@ -85,11 +84,11 @@ pub record IsNoBetter (selected other : List Block) : Type 0 where
 -- EXPLAINED CHOICE (this project's own)
 -- With the marks there are, what is told to be dead explains the choice by links alone. Where the chain stays, no open
 -- path makes a longer one of it, and where it changes, none makes a better one than is selected.
-abbrev pub IsExplained : {S : Type 0} → Genesis → (chain : List Block) → Store → (new : Block)
+abbrev pub IsExplained : {S : Type 0} → Network → (chain : List Block) → Store → (new : Block)
     → (told : List BlockHash) → Choice S → Type 0
-IsExplained genesis chain store new told choice.Keep =
-    (keep : ℕ) (path : List Block) → IsOpenPath genesis chain store new told keep path
+IsExplained network chain store new told choice.Keep =
+    (keep : ℕ) (path : List Block) → IsOpenPath network chain store new told keep path
     → length (take keep chain ++ path) ≤ length chain
-IsExplained genesis chain store new told (choice.Switch switch) =
-    (keep : ℕ) (path : List Block) → IsOpenPath genesis chain store new told keep path
+IsExplained network chain store new told (choice.Switch switch) =
+    (keep : ℕ) (path : List Block) → IsOpenPath network chain store new told keep path
     → IsNoBetter (without_last switch.back chain ++ switch.blocks.items) (take keep chain ++ path)

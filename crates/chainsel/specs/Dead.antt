@@ -22,5 +22,5 @@ IsUnused network blocks b =
 -- that is there.
 abbrev pub IsDead : Network → (chain live : List Block) → Block → Type 0
 IsDead network chain live b =
-    (later : List Block) → AllByRecursion (λ c. immutable_length network.genesis chain < c.header.number) later
+    (later : List Block) → AllByRecursion (λ c. immutable_length network chain < c.header.number) later
     → HaveOnePlace (later ++ (live ++ chain)) → IsUnused network (later ++ (live ++ chain)) b

@@ -1,9 +1,10 @@
 //! The search for the longest way through a block that came.
 
-ghost use Rattle.std.specs.Prelude.{◌≡◌, ◌∷◌, IfOk};
+ghost use Rattle.std.specs.Prelude.{◌≡◌, ◌∷◌, List, IfOk};
 ghost use Rattle.std.specs.List.{AllByRecursion};
 ghost use Rattle.model.specs.Genesis.{Genesis};
-ghost use Rattle.model.specs.Ledger.{network_of};
+ghost use Rattle.model.specs.Block.{Block};
+ghost use Rattle.model.specs.Ledger.{network_on};
 ghost use Rattle.blockstore.specs.Stored.{blocks_of};
 ghost use Rattle.chainsel.specs.Ready.{IsReady};
 ghost use Rattle.chainsel.specs.Choices.{IsChoice, IsFoundDead, IsExplained, IsPossible};
@@ -30,18 +31,19 @@ pub fn search<S: SigScheme>(
     new: &CheckedBlock<S>,
 ) -> Result<Selection<S>, AllocError>
     // The answer is that of the selection rule, whatever was kept.
-    ensures choice { IfOk result (λ selection. (genesis : Genesis) →
-        IsReady (network_of genesis S.verifies) chain.now store.now db.now new.now →
-        IsChoice (network_of genesis S.verifies) chain.now store.now db.now new.now selection.choice) }
+    ensures choice { IfOk result (λ selection. (genesis : Genesis) (opened : List Block) →
+        IsReady (network_on genesis S.verifies opened) chain.now store.now db.now new.now →
+        IsChoice (network_on genesis S.verifies opened) chain.now store.now db.now new.now selection.choice) }
     // What was found dead is so, whatever comes later.
-    ensures invalid { IfOk result (λ selection. (genesis : Genesis) →
-        IsReady (network_of genesis S.verifies) chain.now store.now db.now new.now →
-        AllByRecursion (IsFoundDead (network_of genesis S.verifies) chain.now (new.now ∷ blocks_of store.now))
+    ensures invalid { IfOk result (λ selection. (genesis : Genesis) (opened : List Block) →
+        IsReady (network_on genesis S.verifies opened) chain.now store.now db.now new.now →
+        AllByRecursion (IsFoundDead (network_on genesis S.verifies opened) chain.now (new.now ∷ blocks_of store.now))
         selection.invalid.items) }
     // What is told explains the choice by links alone: nothing found dead that it rests on is kept back.
-    ensures told { IfOk result (λ selection. (genesis : Genesis) →
-        IsReady (network_of genesis S.verifies) chain.now store.now db.now new.now →
-        IsExplained genesis chain.now store.now new.now selection.invalid.items selection.choice) }
+    ensures told { IfOk result (λ selection. (genesis : Genesis) (opened : List Block) →
+        IsReady (network_on genesis S.verifies opened) chain.now store.now db.now new.now →
+        IsExplained (network_on genesis S.verifies opened) chain.now store.now new.now selection.invalid.items
+        selection.choice) }
     // Whatever it was asked with, a switch can be made: the database can commit what is prepared.
     ensures switch { IfOk result (λ selection. IsPossible chain.now db.now selection.choice) }
 {

@@ -173,6 +173,13 @@ impl<D: Disk> Log<D> {
         Ok(())
     }
 
+    /// Whether the disk failed in a call. It isn't touched any more then.
+    pub fn is_broken(&self) -> bool
+        ensures { result ≡ self.now.broken }
+    {
+        self.broken
+    }
+
     /// How many blocks are durable: a crash leaves them all. In constant time.
     pub fn durable(&self) -> usize
         ensures count { result ≡ length self.now.blocks }

@@ -43,7 +43,7 @@ impl LedgerDb {
     ghost use Rattle.std.specs.Prelude.{◌≡◌, ◌+◌, ◌-◌, ◌^◌, ◌≤◌, min, List, ◌++◌, length, IfOk, IfErr};
     ghost use Rattle.model.specs.Genesis.{Genesis};
     ghost use Rattle.model.specs.Block.{Block};
-    ghost use Rattle.model.specs.Ledger.{Network, network_of};
+    ghost use Rattle.model.specs.Ledger.{Network, network_on};
     ghost use Rattle.model.specs.Applying.{IsStateOf, AreStates, last_state};
     ghost use Rattle.ledgerdb.specs.Values.{depth, count, state_back};
     ghost use Rattle.ledgerdb.specs.Chains.{without_last, IsDatabaseOf, IsPreparedOf};
@@ -121,12 +121,12 @@ impl LedgerDb {
             AreStates S.verifies (state_back self.now back) blocks.now prepared.states) }
         ensures refused { IfErr result (IsForkFault S.verifies (state_back self.now back) blocks.now) }
         // The same, said of the chain whose database it is.
-        ensures chain { IfOk result (λ prepared. (genesis : Genesis) (chain : List Block) →
-            IsDatabaseOf (network_of genesis S.verifies) chain self.now →
-            IsPreparedOf (network_of genesis S.verifies) (without_last back chain) blocks.now prepared) }
-        ensures chain_refused { IfErr result (λ fault. (genesis : Genesis) (chain : List Block) →
-            IsDatabaseOf (network_of genesis S.verifies) chain self.now →
-            IsFaultOnChain (network_of genesis S.verifies) (without_last back chain) blocks.now fault) }
+        ensures chain { IfOk result (λ prepared. (genesis : Genesis) (opened chain : List Block) →
+            IsDatabaseOf (network_on genesis S.verifies opened) chain self.now →
+            IsPreparedOf (network_on genesis S.verifies opened) (without_last back chain) blocks.now prepared) }
+        ensures chain_refused { IfErr result (λ fault. (genesis : Genesis) (opened chain : List Block) →
+            IsDatabaseOf (network_on genesis S.verifies opened) chain self.now →
+            IsFaultOnChain (network_on genesis S.verifies opened) (without_last back chain) blocks.now fault) }
     {
         let root = match self.state_at(back) {
             Ok(root) => root,

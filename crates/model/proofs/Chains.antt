@@ -4,7 +4,6 @@ use Rattle.std.specs.Prelude.{unwrap_or}
 use Rattle.std.specs.List.{AllByRecursion}
 use Rattle.std.proofs.lemmas.List.{length-take, take_all, take-take}
 use Rattle.model.specs.Block.{Block, block_hash_of}
-use Rattle.model.specs.Genesis.{Genesis}
 use Rattle.model.specs.Ledger.{Network}
 use Rattle.model.specs.Chain.{Tip, tip_at, genesis_tip, tip_after, tip_hash, IsLinked, HaveDistinctHashes, immutable_length, immutable_part, BeginsWith, IsCandidate}
 use Rattle.model.proofs.Lists.{all_of_member, all_weaker, contains_cases}
@@ -81,26 +80,26 @@ same_blocks bs distinct s t (x ∷ xs) (y ∷ ys) linked others in_xs in_ys long
 
 -- ---- the immutable part
 
-pub length_immutable : (genesis : Genesis) (chain : List Block) → length (immutable_part genesis chain) ≡ immutable_length genesis chain
-length_immutable genesis chain = omega (arith, length-take (immutable_length genesis chain) chain)
+pub length_immutable : (network : Network) (chain : List Block) → length (immutable_part network chain) ≡ immutable_length network chain
+length_immutable network chain = omega (arith, length-take (immutable_length network chain) chain)
 
-pub begins_with_itself : (genesis : Genesis) (chain : List Block) → BeginsWith chain (immutable_part genesis chain)
-begins_with_itself genesis chain = ap (λ n. take n chain) (length_immutable genesis chain)
+pub begins_with_itself : (network : Network) (chain : List Block) → BeginsWith chain (immutable_part network chain)
+begins_with_itself network chain = ap (λ n. take n chain) (length_immutable network chain)
 
 pub begins_with_whole : (chain : List Block) → BeginsWith chain chain
 begins_with_whole chain = take_all (length chain) chain (omega arith)
 
 -- what begins with a longer chain's immutable part begins with this one's, where that chain begins so
-pub begins_earlier : (genesis : Genesis) (old new c : List Block) → length old ≤ length new → BeginsWith new (immutable_part genesis old) → BeginsWith c (immutable_part genesis new) → BeginsWith c (immutable_part genesis old)
-begins_earlier genesis old new c longer new_begins c_begins =
-    let m = immutable_length genesis old in
-    let n = immutable_length genesis new in
+pub begins_earlier : (network : Network) (old new c : List Block) → length old ≤ length new → BeginsWith new (immutable_part network old) → BeginsWith c (immutable_part network new) → BeginsWith c (immutable_part network old)
+begins_earlier network old new c longer new_begins c_begins =
+    let m = immutable_length network old in
+    let n = immutable_length network new in
     let le : m ≤ n = omega arith in
-    let c_at : take n c ≡ take n new = ap (λ j. take j c) (sym (length_immutable genesis new)) ∙ c_begins in
-    let new_at : take m new ≡ immutable_part genesis old = ap (λ j. take j new) (sym (length_immutable genesis old)) ∙ new_begins in
-    ap (λ j. take j c) (length_immutable genesis old) ∙ (sym (take-take m n c le) ∙ (ap (take m) c_at ∙ (take-take m n new le ∙ new_at)))
+    let c_at : take n c ≡ take n new = ap (λ j. take j c) (sym (length_immutable network new)) ∙ c_begins in
+    let new_at : take m new ≡ immutable_part network old = ap (λ j. take j new) (sym (length_immutable network old)) ∙ new_begins in
+    ap (λ j. take j c) (length_immutable network old) ∙ (sym (take-take m n c le) ∙ (ap (take m) c_at ∙ (take-take m n new le ∙ new_at)))
 
 -- a candidate through the new immutable tip is one through the old one
-pub older_candidate : (network : Network) (kept old new c : List Block) → length old ≤ length new → BeginsWith new (immutable_part network.genesis old) → IsCandidate network kept new c → IsCandidate network kept old c
+pub older_candidate : (network : Network) (kept old new c : List Block) → length old ≤ length new → BeginsWith new (immutable_part network old) → IsCandidate network kept new c → IsCandidate network kept old c
 older_candidate network kept old new c longer begins candidate =
-    record { valid = candidate.valid; members = candidate.members; begins = begins_earlier network.genesis old new c longer begins candidate.begins }
+    record { valid = candidate.valid; members = candidate.members; begins = begins_earlier network old new c longer begins candidate.begins }

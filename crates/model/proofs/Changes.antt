@@ -56,8 +56,8 @@ one_change old new back added other_back other_added first second =
 -- no change leaves more than k blocks
 pub change_bounded : (network : Network) (kept old new : List Block) (back added : ℕ) → IsSelection network kept old new → IsChange old new back added → back ≤ network.genesis.k
 change_bounded network kept old new back added selection change =
-    let m = immutable_length network.genesis old in
-    let begins : take m new ≡ take m old = ap (λ n. take n new) (sym (length_immutable network.genesis old)) ∙ selection_begins network kept old new selection in
+    let m = immutable_length network old in
+    let begins : take m new ≡ take m old = ap (λ n. take n new) (sym (length_immutable network old)) ∙ selection_begins network kept old new selection in
     let not_shorter = selection_not_shorter network kept old new selection in
     let shared : m ≤ change.common = change.is_common.longest m (omega arith) (omega arith) (sym begins) in
     let is = change.left in omega arith

@@ -25,6 +25,11 @@ begins_through c b a first second =
 pub begins_less : (c a b : List Block) → BeginsWith c a → BeginsWith c b → length a ≤ length b → BeginsWith b a
 begins_less c a b first second less = ap (take (length a)) (sym second) ∙ (take-take (length a) (length b) c less ∙ first)
 
+-- a chain that begins with some blocks of another begins with fewer of them
+pub begins_fewer : (old new : List Block) (n m : ℕ) → n ≤ m → BeginsWith new (take m old) → BeginsWith new (take n old)
+begins_fewer old new n m le begins =
+    begins_through new (take m old) (take n old) begins (begins_less old (take n old) (take m old) (begins_take n old) (begins_take m old) (omega (arith, le, length-take n old, length-take m old)))
+
 pub begins_same : (c a b : List Block) → BeginsWith c a → BeginsWith c b → length a ≡ length b → a ≡ b
 begins_same c a b first second same = sym first ∙ (ap (λ n. take n c) same ∙ second)
 

@@ -23,9 +23,9 @@ use Rattle.model.proofs.ForgedBlocks.{forged_follows, forged_length, forged_vali
 pub record IsReadyForOne (network : Network) (s : State) : Type 0 where
   pub valid : IsValidChain network s.chain
   pub longest : NoneLonger network s.kept s.chain
-  pub distinct : HaveDistinctHashes (live_of network.genesis s)
+  pub distinct : HaveDistinctHashes (live_of network s)
   pub members : AllByRecursion (Contains s.kept) s.chain
-  pub spelled : (b : Block) → Contains (live_of network.genesis s) b → HasItsText b
+  pub spelled : (b : Block) → Contains (live_of network s) b → HasItsText b
 
 pub sound_is_ready : (network : Network) (s : State) → IsSoundState network s → IsReadyForOne network s
 sound_is_ready network s sound = record {
@@ -33,7 +33,7 @@ sound_is_ready network s sound = record {
   longest = sound.longest;
   distinct = sound.distinct;
   members = sound.members;
-  spelled = λ b live. all_of_member HasItsText s.kept b sound.spelled (live_is_kept network.genesis s.kept s.chain b live);
+  spelled = λ b live. all_of_member HasItsText s.kept b sound.spelled (live_is_kept network s.kept s.chain b live);
 }
 
 -- ---- a list of kept blocks and one more
@@ -94,11 +94,11 @@ module _ (network : Network) (s : State) (waiting : List Transaction) (slot : �
   longer : length extended ≡ length s.chain + 1
   longer = omega (arith, length-append s.chain (b ∷ []))
 
-  begins_so : BeginsWith extended (immutable_part network.genesis s.chain)
+  begins_so : BeginsWith extended (immutable_part network s.chain)
   begins_so =
-      let m = immutable_length network.genesis s.chain in
+      let m = immutable_length network s.chain in
       let within : m ≤ length s.chain = omega arith in
-      ap (λ (n : ℕ). take n extended) (length_immutable network.genesis s.chain) ∙ take-append-le m s.chain (b ∷ []) within
+      ap (λ (n : ℕ). take n extended) (length_immutable network s.chain) ∙ take-append-le m s.chain (b ∷ []) within
 
   -- with the block the chain is a candidate over kept blocks that have it
   candidate : (kept : List Block) → AllByRecursion (Contains kept) s.chain → Contains kept b → IsCandidate network kept s.chain extended
@@ -110,13 +110,13 @@ module _ (network : Network) (s : State) (waiting : List Transaction) (slot : �
 
   -- ---- refusals
 
-  not_too_old : (c : Block) → SpellsBlock c bytes → c.header.number ≤ immutable_length network.genesis s.chain → ⊥
+  not_too_old : (c : Block) → SpellsBlock c bytes → c.header.number ≤ immutable_length network s.chain → ⊥
   not_too_old c read old = let same = ap (λ (d : Block). d.header.number) (one_block c b bytes read spelled) in omega (arith, number_is)
 
-  not_known : (c : Block) → Contains (live_of network.genesis s) c → block_text c ≡ bytes → ⊥
+  not_known : (c : Block) → Contains (live_of network s) c → block_text c ≡ bytes → ⊥
   not_known c live text =
       let same = one_block c b bytes (subst (SpellsBlock c) text (ready.spelled c live)) spelled in
-      let kept = subst (Contains s.kept) same (live_is_kept network.genesis s.kept s.chain c live) in
+      let kept = subst (Contains s.kept) same (live_is_kept network s.kept s.chain c live) in
       let most = ready.longest extended (candidate s.kept ready.members kept) in
       omega (arith, longer)
 
@@ -138,8 +138,8 @@ module _ (network : Network) (s : State) (waiting : List Transaction) (slot : �
     with_it : IsCandidate network t.kept s.chain extended
     with_it = candidate t.kept chain_kept (subst (λ (bs : List Block). Contains bs b) (sym kept_is) (contains_first b s.kept))
 
-    distinct : HaveDistinctHashes (live_blocks network.genesis t.kept s.chain)
-    distinct = subst (λ (bs : List Block). HaveDistinctHashes (live_blocks network.genesis bs s.chain)) (sym keeps.kept) (distinct_with network.genesis s bytes keeps.block ready.distinct keeps.read keeps.not_refused)
+    distinct : HaveDistinctHashes (live_blocks network t.kept s.chain)
+    distinct = subst (λ (bs : List Block). HaveDistinctHashes (live_blocks network bs s.chain)) (sym keeps.kept) (distinct_with network s bytes keeps.block ready.distinct keeps.read keeps.not_refused)
 
     -- a longer candidate goes on from the block
     goes_on : (c : List Block) → IsCandidate network t.kept s.chain c → length s.chain < length c → (rest : List Block) × (c ≡ extended ++ rest)
@@ -154,10 +154,10 @@ module _ (network : Network) (s : State) (waiting : List Transaction) (slot : �
               let number = (linked_rest genesis_tip split.front (b ∷ []) valid.linked).0.number in
               let tip = tip_number genesis_tip split.front (linked_front genesis_tip split.front (b ∷ []) valid.linked) in
               let long : length front ≡ length s.chain + 1 = omega (arith, length-append split.front (b ∷ []), number_is) in
-              let m = immutable_length network.genesis s.chain in
+              let m = immutable_length network s.chain in
               let cut : take m c ≡ take m front = ap (take m) at ∙ take-append-le m front split.rest (omega arith) in
-              let begins : BeginsWith front (immutable_part network.genesis s.chain) =
-              ap (λ (n : ℕ). take n front) (length_immutable network.genesis s.chain) ∙ (sym cut ∙ (ap (λ (n : ℕ). take n c) (sym (length_immutable network.genesis s.chain)) ∙ is.begins)) in
+              let begins : BeginsWith front (immutable_part network s.chain) =
+              ap (λ (n : ℕ). take n front) (length_immutable network s.chain) ∙ (sym cut ∙ (ap (λ (n : ℕ). take n c) (sym (length_immutable network s.chain)) ∙ is.begins)) in
               let other : IsCandidate network t.kept s.chain front = record { valid = valid; members = in_front (Contains t.kept) front split.rest (subst (AllByRecursion (Contains t.kept)) at is.members); begins = begins } in
               let same : front ≡ extended =
               same_candidates network t.kept s.chain front extended distinct other with_it (omega (arith, long)) (omega (arith, long, longer)) (ends_in split.front b ∙ sym (ends_in s.chain b)) in

@@ -1,20 +1,21 @@
 -- What every legal history keeps, and that it determines its state.
-use Rattle.std.proofs.Common.{◌≡◌, ◌≢◌, ℕ, zero, suc, ◌<◌, ◌≤◌, ◌↔◌, Bool, true, false, cond, List, [], ◌∷◌, Some, None, take, length, Contains, refl, sym, ap, subst, ◌∙◌, arith, inl, inr, ◌⊎◌}
+use Rattle.std.proofs.Common.{◌≡◌, ◌≢◌, ℕ, ◌+◌, ◌-◌, zero, suc, ◌<◌, ◌≤◌, ◌↔◌, Bool, true, false, cond, List, [], ◌∷◌, Some, None, take, length, Contains, refl, sym, ap, subst, ◌∙◌, arith, inl, inr, ◌⊎◌}
 use Rattle.std.specs.Prelude.{nat_lt, slice_set}
 use Rattle.std.specs.List.{AllByRecursion, filter}
 use Rattle.std.proofs.lemmas.Bool.{lt-ltb, ltb-true}
 use Rattle.model.specs.Block.{Block, SpellsBlock, block_text, block_hash_of}
 use Rattle.model.specs.Genesis.{Genesis}
-use Rattle.model.specs.Ledger.{Network}
-use Rattle.model.specs.Chain.{IsValidChain, NoneLonger, IsSelection, Stays, Changes, HaveDistinctHashes, immutable_length, immutable_part, live_blocks, BeginsWith}
+use Rattle.model.specs.Signature.{Verifies}
+use Rattle.model.specs.Ledger.{Network, network_of}
+use Rattle.model.specs.Chain.{Tip, tip_at, genesis_tip, IsLinked, IsOpening, IsValidChain, NoneLonger, IsSelection, Stays, Changes, HaveDistinctHashes, immutable_length, immutable_part, live_blocks, BeginsWith}
 use Rattle.model.specs.Mempool.{SubmitReply, IsValidPool, revalidated}
 use Rattle.model.specs.Follower.{Follower, Followers, Instruction, IsNext, AreMoved, follower_of, standing_at, with_opened}
 use Rattle.model.specs.History.{State, opening, live_of, Refusal, Known, Clash, Applies, Event, Arrive, Submit, Open, Next, Forward, Close, Reply, Kept, Refused, Submitted, Opened, TooManyFollowers, Instructed, Forwarded, Closed, UnknownFollower, OutOfMemory, Keeps, Takes, Instructs, with_follower, Step, Entry, IsRun, IsLegal, BringsBlock, IsKeptBy, length_with, length_from}
-use Rattle.model.proofs.Lists.{all_weaker, all_from_members, all_filter_narrower, nothing_contained, contains_first, contains_later, contains_cases}
+use Rattle.model.proofs.Lists.{all_of_member, all_weaker, all_from_members, all_filter_narrower, contains_first, contains_later, contains_cases}
 use Rattle.model.proofs.Chains.{begins_with_itself, begins_earlier}
 use Rattle.model.proofs.Selections.{one_selection, selection_valid, selection_longer, selection_not_shorter, selection_begins, selection_longest}
 use Rattle.model.proofs.BlockTexts.{one_block, block_text_is}
-use Rattle.model.proofs.FollowerSteps.{AllSound, begins_take, standing_sound, next_sound, next_one, moved_one, moved_all_sound, opened_all_sound, set_all_sound, closed_all_sound}
+use Rattle.model.proofs.FollowerSteps.{AllSound, begins_take, begins_fewer, standing_sound, next_sound, next_one, moved_one, moved_all_sound, opened_all_sound, set_all_sound, closed_all_sound}
 use Rattle.model.proofs.MempoolSteps.{up_to_date, nothing_valid, submitted_valid, submitted_one}
 
 -- ---- live blocks have distinct hashes
@@ -30,19 +31,19 @@ narrower_distinct p q (x ∷ xs) narrower distinct = one (p x) (q x) (narrower x
     one false true n d more = absurd (let e : false ≡ true = n refl in cc)
 
 -- a block that is not refused has another hash than the live blocks
-new_hash : (genesis : Genesis) (s : State) (bytes : List ℕ) (b : Block) → SpellsBlock b bytes → ((refusal : Refusal) → Applies genesis s bytes refusal → ⊥)
-    → AllByRecursion (λ c. block_hash_of c ≢ block_hash_of b) (live_of genesis s)
-new_hash genesis s bytes b spelled not_refused =
-    all_from_members (λ c. block_hash_of c ≢ block_hash_of b) (live_of genesis s)
+new_hash : (network : Network) (s : State) (bytes : List ℕ) (b : Block) → SpellsBlock b bytes → ((refusal : Refusal) → Applies network s bytes refusal → ⊥)
+    → AllByRecursion (λ c. block_hash_of c ≢ block_hash_of b) (live_of network s)
+new_hash network s bytes b spelled not_refused =
+    all_from_members (λ c. block_hash_of c ≢ block_hash_of b) (live_of network s)
     (λ c member same. not_refused Clash (b, spelled, (c, inl member, same, λ text. not_refused Known (c, member, text))))
 
 -- with a block that is not refused the live blocks have distinct hashes still
-pub distinct_with : (genesis : Genesis) (s : State) (bytes : List ℕ) (b : Block) → HaveDistinctHashes (live_of genesis s) → SpellsBlock b bytes
-    → ((refusal : Refusal) → Applies genesis s bytes refusal → ⊥) → HaveDistinctHashes (live_blocks genesis (b ∷ s.kept) s.chain)
-distinct_with genesis s bytes b distinct spelled not_refused = with_test (nat_lt (immutable_length genesis s.chain) b.header.number)
+pub distinct_with : (network : Network) (s : State) (bytes : List ℕ) (b : Block) → HaveDistinctHashes (live_of network s) → SpellsBlock b bytes
+    → ((refusal : Refusal) → Applies network s bytes refusal → ⊥) → HaveDistinctHashes (live_blocks network (b ∷ s.kept) s.chain)
+distinct_with network s bytes b distinct spelled not_refused = with_test (nat_lt (immutable_length network s.chain) b.header.number)
   where
-    with_test : (t : Bool) → HaveDistinctHashes (cond t (b ∷ live_of genesis s) (live_of genesis s))
-    with_test true = (new_hash genesis s bytes b spelled not_refused, distinct)
+    with_test : (t : Bool) → HaveDistinctHashes (cond t (b ∷ live_of network s) (live_of network s))
+    with_test true = (new_hash network s bytes b spelled not_refused, distinct)
     with_test false = distinct
 
 -- ---- what each step keeps
@@ -55,28 +56,63 @@ HasItsText b = SpellsBlock b (block_text b)
 pub record IsSoundState (network : Network) (s : State) : Type 0 where
   pub valid : IsValidChain network s.chain
   pub longest : NoneLonger network s.kept s.chain
-  pub distinct : HaveDistinctHashes (live_of network.genesis s)
+  pub distinct : HaveDistinctHashes (live_of network s)
   pub mempool : IsValidPool network s.chain s.mempool
   pub members : AllByRecursion (Contains s.kept) s.chain
   pub spelled : AllByRecursion HasItsText s.kept
   pub followers : AllSound network.genesis.k s.chain s.followers
 
-no_longer_than_nothing : (network : Network) → NoneLonger network [] []
-no_longer_than_nothing network [] candidate = omega arith
-no_longer_than_nothing network (b ∷ bs) candidate = absurd (nothing_contained b candidate.members.0)
+-- the numbers of a linked chain are at most those of its places
+pub numbers_within : (tip : Tip) (chain : List Block) → IsLinked tip chain → AllByRecursion (λ b. b.header.number ≤ tip.number + length chain) chain
+numbers_within tip [] linked = tt
+numbers_within tip (b ∷ bs) linked = (
+  (let first = linked.0.number in omega arith),
+  all_weaker (λ c. c.header.number ≤ b.header.number + length bs) (λ c. c.header.number ≤ tip.number + length (b ∷ bs)) bs (λ c le. let first = linked.0.number in omega arith) (numbers_within (tip_at b) bs linked.1),
+)
+
+-- a linked chain of blocks whose numbers are at most this is no longer
+linked_within : (n : ℕ) (tip : Tip) (chain : List Block) → IsLinked tip chain → tip.number ≤ n → AllByRecursion (λ b. b.header.number ≤ n) chain → tip.number + length chain ≤ n
+linked_within n tip [] linked at within = omega arith
+linked_within n tip (b ∷ bs) linked at within = let first = linked.0.number in let rest = linked_within n (tip_at b) bs linked.1 within.0 within.1 in omega arith
+
+-- so no valid chain of the blocks of a valid chain is longer
+pub none_longer_than_all : (network : Network) (opened : List Block) → IsValidChain network opened → NoneLonger network opened opened
+none_longer_than_all network opened valid candidate is =
+    let numbers = numbers_within genesis_tip opened valid.linked in
+    let no_longer = linked_within (length opened) genesis_tip candidate is.valid.linked (omega arith)
+    (all_weaker (Contains opened) (λ b. b.header.number ≤ length opened) candidate (λ b member. let le = all_of_member (λ c. c.header.number ≤ 0 + length opened) opened b numbers member in omega arith) is.members) in
+    omega arith
+
+-- none of blocks with such numbers is past this one
+pub none_past : (n : ℕ) (bs : List Block) → AllByRecursion (λ b. b.header.number ≤ n) bs → filter (λ b. nat_lt n b.header.number) bs ≡ []
+none_past n [] old = refl
+none_past n (b ∷ bs) old = not_this (nat_lt n b.header.number) refl (none_past n bs old.1)
+  where
+    not_this : (t : Bool) → nat_lt n b.header.number ≡ t → filter (λ c. nat_lt n c.header.number) bs ≡ [] → cond t (b ∷ filter (λ c. nat_lt n c.header.number) bs) (filter (λ c. nat_lt n c.header.number) bs) ≡ []
+    not_this true is rest = absurd (let lt = ltb-true n b.header.number is in let le = old.0 in omega arith)
+    not_this false is rest = rest
+
+-- a new node is opened on no block, which is a valid chain
+pub opens_nothing : (genesis : Genesis) (verifies : Verifies) → IsOpening (network_of genesis verifies)
+opens_nothing genesis verifies = record { valid = record { linked = tt; sizes = tt; ledger = refl }; spelled = tt }
+
+-- so of a chain that is opened on no block is live
+pub none_live_at_start : (network : Network) → IsValidChain network network.opened → live_blocks network network.opened network.opened ≡ []
+none_live_at_start network valid = none_past (immutable_length network network.opened) network.opened
+    (all_weaker (λ b. b.header.number ≤ 0 + length network.opened) (λ b. b.header.number ≤ immutable_length network network.opened) network.opened (λ b le. omega arith) (numbers_within genesis_tip network.opened valid.linked))
 
 no_follower : (id : ℕ) (f : Follower) → follower_of [] id ≡ Some f → ⊥
 no_follower zero f is = let e : None ≡ Some f = is in cc
 no_follower (suc id) f is = let e : None ≡ Some f = is in cc
 
-pub opening_sound : (network : Network) → IsSoundState network opening
-opening_sound network = record {
-  valid = record { linked = tt; sizes = tt; ledger = refl };
-  longest = no_longer_than_nothing network;
-  distinct = tt;
-  mempool = nothing_valid network [];
-  members = tt;
-  spelled = tt;
+pub opening_sound : (network : Network) → IsOpening network → IsSoundState network (opening network)
+opening_sound network opens = record {
+  valid = opens.valid;
+  longest = none_longer_than_all network network.opened opens.valid;
+  distinct = subst HaveDistinctHashes (sym (none_live_at_start network opens.valid)) tt;
+  mempool = nothing_valid network network.opened;
+  members = all_from_members (Contains network.opened) network.opened (λ b member. member);
+  spelled = opens.spelled;
   followers = λ id f is. absurd (no_follower id f is);
 }
 
@@ -93,17 +129,17 @@ selected_kept network kept more old new b is members (Changes chosen changes) = 
 keeps_sound : (network : Network) (s : State) (bytes : List ℕ) (back added : ℕ) (t : State) → IsSoundState network s → Keeps network s bytes back added t → IsSoundState network t
 keeps_sound network s bytes back added t sound keeps =
     let more = selection_not_shorter network t.kept s.chain t.chain keeps.selection in
-    let distinct : HaveDistinctHashes (live_blocks network.genesis t.kept s.chain) = subst (λ (bs : List Block). HaveDistinctHashes (live_blocks network.genesis bs s.chain)) (sym keeps.kept) (distinct_with network.genesis s bytes keeps.block sound.distinct keeps.read keeps.not_refused) in
+    let distinct : HaveDistinctHashes (live_blocks network t.kept s.chain) = subst (λ (bs : List Block). HaveDistinctHashes (live_blocks network bs s.chain)) (sym keeps.kept) (distinct_with network s bytes keeps.block sound.distinct keeps.read keeps.not_refused) in
     record {
       valid = selection_valid network t.kept s.chain t.chain sound.valid keeps.selection;
       longest = selection_longest network t.kept s.chain t.chain keeps.selection;
-      distinct = narrower_distinct (λ b. nat_lt (immutable_length network.genesis s.chain) b.header.number) (λ b. nat_lt (immutable_length network.genesis t.chain) b.header.number) t.kept
-          (λ b passes. lt-ltb (immutable_length network.genesis s.chain) b.header.number (let past = ltb-true (immutable_length network.genesis t.chain) b.header.number passes in omega arith)) distinct;
+      distinct = narrower_distinct (λ b. nat_lt (immutable_length network s.chain) b.header.number) (λ b. nat_lt (immutable_length network t.chain) b.header.number) t.kept
+          (λ b passes. lt-ltb (immutable_length network s.chain) b.header.number (let past = ltb-true (immutable_length network t.chain) b.header.number passes in omega arith)) distinct;
       mempool = subst (IsValidPool network t.chain) (sym keeps.mempool) (up_to_date network t.chain s.mempool);
       members = selected_kept network s.kept t.kept s.chain t.chain keeps.block keeps.kept sound.members keeps.selection;
       spelled = subst (AllByRecursion HasItsText) (sym keeps.kept) (spelled_by keeps.block bytes keeps.read, sound.spelled);
       followers = moved_all_sound network.genesis.k s.chain t.chain s.followers t.followers (selection_longer network t.kept s.chain t.chain keeps.selection)
-          (selection_begins network t.kept s.chain t.chain keeps.selection) sound.followers keeps.followers;
+          (begins_fewer s.chain t.chain (length s.chain - network.genesis.k) (immutable_length network s.chain) (omega arith) (selection_begins network t.kept s.chain t.chain keeps.selection)) sound.followers keeps.followers;
     }
 
 -- a step that neither keeps a block nor changes the chain, and leaves the mempool valid
@@ -177,7 +213,7 @@ quiet_sound : (network : Network) (s : State) (event : Event) (reply : Reply) (t
 quiet_sound network s event reply t sound quiet = record {
   valid = subst (IsValidChain network) (sym quiet.chain) sound.valid;
   longest = subst (λ (bs : List Block). NoneLonger network bs t.chain) (sym quiet.kept) (subst (λ (c : List Block). NoneLonger network s.kept c) (sym quiet.chain) sound.longest);
-  distinct = subst (λ (bs : List Block). HaveDistinctHashes (live_blocks network.genesis bs t.chain)) (sym quiet.kept) (subst (λ (c : List Block). HaveDistinctHashes (live_blocks network.genesis s.kept c)) (sym quiet.chain) sound.distinct);
+  distinct = subst (λ (bs : List Block). HaveDistinctHashes (live_blocks network bs t.chain)) (sym quiet.kept) (subst (λ (c : List Block). HaveDistinctHashes (live_blocks network s.kept c)) (sym quiet.chain) sound.distinct);
   mempool = quiet.mempool sound.mempool;
   members = subst (λ (bs : List Block). AllByRecursion (Contains bs) t.chain) (sym quiet.kept) (subst (AllByRecursion (Contains s.kept)) (sym quiet.chain) sound.members);
   spelled = subst (AllByRecursion HasItsText) (sym quiet.kept) sound.spelled;
@@ -195,8 +231,8 @@ pub run_sound : (network : Network) (s : State) (es : List Entry) (t : State) �
 run_sound network s [] t sound run = subst (IsSoundState network) (sym run) sound
 run_sound network s (e ∷ es) t sound run = run_sound network run.0 es t (step_sound network s e.event e.reply run.0 sound run.1) run.2
 
-pub legal_sound : (network : Network) (history : List Entry) (s : State) → IsLegal network history s → IsSoundState network s
-legal_sound network history s legal = run_sound network opening history s (opening_sound network) legal
+pub legal_sound : (network : Network) (history : List Entry) (s : State) → IsOpening network → IsLegal network history s → IsSoundState network s
+legal_sound network history s opens legal = run_sound network (opening network) history s (opening_sound network opens) legal
 
 -- ---- a history determines its state
 
@@ -204,7 +240,7 @@ pub keeps_one : (network : Network) (s : State) (bytes : List ℕ) (back added o
 keeps_one network s bytes back added other_back other_added t u sound first second =
     let blocks : first.block ≡ second.block = one_block first.block second.block bytes first.read second.read in
     let kept : t.kept ≡ u.kept = first.kept ∙ (ap (λ (b : Block). b ∷ s.kept) blocks ∙ sym second.kept) in
-    let distinct : HaveDistinctHashes (live_blocks network.genesis u.kept s.chain) = subst (λ (bs : List Block). HaveDistinctHashes (live_blocks network.genesis bs s.chain)) (sym second.kept) (distinct_with network.genesis s bytes second.block sound.distinct second.read second.not_refused) in
+    let distinct : HaveDistinctHashes (live_blocks network u.kept s.chain) = subst (λ (bs : List Block). HaveDistinctHashes (live_blocks network bs s.chain)) (sym second.kept) (distinct_with network s bytes second.block sound.distinct second.read second.not_refused) in
     let chain : t.chain ≡ u.chain = one_selection network u.kept s.chain t.chain u.chain distinct (subst (λ (bs : List Block). IsSelection network bs s.chain t.chain) kept first.selection) second.selection in
     let followers : t.followers ≡ u.followers = moved_one u.chain s.followers t.followers u.followers (subst (λ (c : List Block). AreMoved c s.followers t.followers) chain first.followers) second.followers in
     let mempool : t.mempool ≡ u.mempool = first.mempool ∙ (ap (λ (c : List Block). revalidated network c s.mempool) chain ∙ sym second.mempool) in
@@ -283,11 +319,8 @@ kept_before network s (e ∷ es) t b run member =
       | inr later ↦ inr (inr later)
     ]
 
-pub kept_by_history : (network : Network) (history : List Entry) (s : State) (b : Block) → IsLegal network history s → Contains s.kept b ↔ IsKeptBy history b
-kept_by_history network history s b legal = (
-  λ member. elim (kept_before network opening history s b legal member) [ inl nothing ↦ absurd (nothing_contained b nothing) | inr by_history ↦ by_history ],
-  λ by_history. kept_after network opening history s b legal (inr by_history),
-)
+pub kept_by_history : (network : Network) (history : List Entry) (s : State) (b : Block) → IsLegal network history s → Contains s.kept b ↔ (Contains network.opened b ⊎ IsKeptBy history b)
+kept_by_history network history s b legal = (kept_before network (opening network) history s b legal, kept_after network (opening network) history s b legal)
 
 -- ---- lengths
 
@@ -314,10 +347,10 @@ step_longer network s event reply t step = kind_longer network s event reply t (
 -- how a later chain stands to an earlier one
 pub record GoesOn (network : Network) (old new : List Block) : Type 0 where
   pub not_shorter : length old ≤ length new
-  pub begins : BeginsWith new (immutable_part network.genesis old)
+  pub begins : BeginsWith new (immutable_part network old)
 
 goes_on_itself : (network : Network) (chain : List Block) → GoesOn network chain chain
-goes_on_itself network chain = record { not_shorter = omega arith; begins = begins_with_itself network.genesis chain }
+goes_on_itself network chain = record { not_shorter = omega arith; begins = begins_with_itself network chain }
 
 kind_goes_on : (network : Network) (s : State) (event : Event) (reply : Reply) (t : State) → Kind network s event reply t → GoesOn network s.chain t.chain
 kind_goes_on network s event reply t (Keeping bytes back added u keeps) =
@@ -332,4 +365,4 @@ run_goes_on network s [] t run = subst (λ (u : State). GoesOn network s.chain u
 run_goes_on network s (e ∷ es) t run =
     let first = step_goes_on network s e.event e.reply run.0 run.1 in
     let rest = run_goes_on network run.0 es t run.2 in
-    record { not_shorter = let a = first.not_shorter in let b = rest.not_shorter in omega arith; begins = begins_earlier network.genesis s.chain run.0.chain t.chain first.not_shorter first.begins rest.begins }
+    record { not_shorter = let a = first.not_shorter in let b = rest.not_shorter in omega arith; begins = begins_earlier network s.chain run.0.chain t.chain first.not_shorter first.begins rest.begins }

@@ -2,7 +2,6 @@
 use Rattle.std.proofs.Common.{◌≡◌, ◌≢◌, ℕ, ◌<◌, ◌≤◌, List, [], ◌∷◌, Option, Some, None, length, get_or, refl, sym, ap, subst, ◌∙◌, inl, inr, arith}
 use Rattle.std.proofs.lemmas.Bool.{cases_lt}
 use Rattle.model.specs.Block.{Block, block_text}
-use Rattle.model.specs.Genesis.{Genesis}
 use Rattle.model.specs.Transaction.{Transaction, SpellsTransaction}
 use Rattle.model.specs.Signature.{Verifies}
 use Rattle.model.specs.Utxo.{Utxo}
@@ -37,8 +36,8 @@ of_number Known = refl
 of_number Clash = refl
 of_number VolatileFull = refl
 
-refused_one : (genesis : Genesis) (s : State) (bytes : List ℕ) (r q : Refusal) → IsRefused genesis s bytes r → IsRefused genesis s bytes q → r ≡ q
-refused_one genesis s bytes r q one two = elim (cases_lt (refusal_number r) (refusal_number q)) [
+refused_one : (network : Network) (s : State) (bytes : List ℕ) (r q : Refusal) → IsRefused network s bytes r → IsRefused network s bytes q → r ≡ q
+refused_one network s bytes r q one two = elim (cases_lt (refusal_number r) (refusal_number q)) [
   | inl less ↦ absurd (two.first r less one.applies)
   | inr up ↦ elim (cases_lt (refusal_number q) (refusal_number r)) [
     | inl less ↦ absurd (one.first q less two.applies)
@@ -57,7 +56,7 @@ arrival_one network s bytes (Kept back added) (Refused q) t u sound enough enoug
 arrival_one network s bytes (Kept back added) OutOfMemory t u sound enough enough_too one two = absurd (enough_too refl)
 arrival_one network s bytes (Kept back added) q t u sound enough enough_too one two = absurd two
 arrival_one network s bytes (Refused r) (Kept back added) t u sound enough enough_too one two = absurd (two.not_refused r one.0.applies)
-arrival_one network s bytes (Refused r) (Refused q) t u sound enough enough_too one two = ap Refused (refused_one network.genesis s bytes r q one.0 two.0)
+arrival_one network s bytes (Refused r) (Refused q) t u sound enough enough_too one two = ap Refused (refused_one network s bytes r q one.0 two.0)
 arrival_one network s bytes (Refused r) OutOfMemory t u sound enough enough_too one two = absurd (enough_too refl)
 arrival_one network s bytes (Refused r) q t u sound enough enough_too one two = absurd two
 arrival_one network s bytes OutOfMemory q t u sound enough enough_too one two = absurd (enough refl)

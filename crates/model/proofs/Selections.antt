@@ -37,24 +37,24 @@ past_numbers n c linked long =
     (numbers_past (tip_after genesis_tip (take n c)) (drop n c) (linked_rest genesis_tip (take n c) (drop n c) parts))
 
 -- the blocks of a candidate past the immutable part are live
-pub live_rest : (network : Network) (kept selected c : List Block) → IsCandidate network kept selected c → immutable_length network.genesis selected ≤ length c
-    → AllByRecursion (Contains (live_blocks network.genesis kept selected)) (drop (immutable_length network.genesis selected) c)
+pub live_rest : (network : Network) (kept selected c : List Block) → IsCandidate network kept selected c → immutable_length network selected ≤ length c
+    → AllByRecursion (Contains (live_blocks network kept selected)) (drop (immutable_length network selected) c)
 live_rest network kept selected c candidate long =
-    let m = immutable_length network.genesis selected in
+    let m = immutable_length network selected in
     let past = past_numbers m c candidate.valid.linked long in
     let members = all_drop (Contains kept) m c candidate.members in
-    all_weaker (λ b. (m < b.header.number) × Contains kept b) (Contains (live_blocks network.genesis kept selected)) (drop m c)
+    all_weaker (λ b. (m < b.header.number) × Contains kept b) (Contains (live_blocks network kept selected)) (drop m c)
     (λ b both. contains_filter (λ d. nat_lt m d.header.number) kept b both.1 (lt-ltb m b.header.number both.0))
     (all_both (λ b. m < b.header.number) (Contains kept) (drop m c) past members)
 
 -- two candidates of one length that end in one hash are the same
-pub same_candidates : (network : Network) (kept selected a b : List Block) → HaveDistinctHashes (live_blocks network.genesis kept selected)
+pub same_candidates : (network : Network) (kept selected a b : List Block) → HaveDistinctHashes (live_blocks network kept selected)
     → IsCandidate network kept selected a → IsCandidate network kept selected b
     → length selected < length a → length a ≡ length b → tip_hash a ≡ tip_hash b → a ≡ b
 same_candidates network kept selected a b distinct first second longer long same =
-    let m = immutable_length network.genesis selected in
-    let front_of_a : take m a ≡ immutable_part network.genesis selected = ap (λ n. take n a) (sym (length_immutable network.genesis selected)) ∙ first.begins in
-    let front_of_b : take m b ≡ immutable_part network.genesis selected = ap (λ n. take n b) (sym (length_immutable network.genesis selected)) ∙ second.begins in
+    let m = immutable_length network selected in
+    let front_of_a : take m a ≡ immutable_part network selected = ap (λ n. take n a) (sym (length_immutable network selected)) ∙ first.begins in
+    let front_of_b : take m b ≡ immutable_part network selected = ap (λ n. take n b) (sym (length_immutable network selected)) ∙ second.begins in
     let fronts : take m a ≡ take m b = front_of_a ∙ sym front_of_b in
     let parts_of_a : IsLinked genesis_tip (take m a ++ drop m a) = subst (IsLinked genesis_tip) (sym (take-append-drop m a)) first.valid.linked in
     let parts_of_b : IsLinked genesis_tip (take m b ++ drop m b) = subst (IsLinked genesis_tip) (sym (take-append-drop m b)) second.valid.linked in
@@ -63,14 +63,14 @@ same_candidates network kept selected a b distinct first second longer long same
     let end_of_a : tip_after genesis_tip a ≡ tip_after s (drop m a) = ap (tip_after genesis_tip) (sym (take-append-drop m a)) ∙ tip_after-append genesis_tip (take m a) (drop m a) in
     let end_of_b : tip_after genesis_tip b ≡ tip_after t (drop m b) = ap (tip_after genesis_tip) (sym (take-append-drop m b)) ∙ tip_after-append genesis_tip (take m b) (drop m b) in
     let ends : (tip_after s (drop m a)).hash ≡ (tip_after t (drop m b)).hash = ap (λ (u : Tip). u.hash) (sym end_of_a) ∙ (same_tips a b (omega arith) (omega arith) same ∙ ap (λ (u : Tip). u.hash) end_of_b) in
-    let rests = same_blocks (live_blocks network.genesis kept selected) distinct s t (drop m a) (drop m b)
+    let rests = same_blocks (live_blocks network kept selected) distinct s t (drop m a) (drop m b)
     (linked_rest genesis_tip (take m a) (drop m a) parts_of_a) (linked_rest genesis_tip (take m b) (drop m b) parts_of_b)
     (live_rest network kept selected a first (omega arith)) (live_rest network kept selected b second (omega arith))
     (omega (arith, length-drop m a, length-drop m b)) ends in
     sym (take-append-drop m a) ∙ ((λ i. fronts i ++ rests.0 i) ∙ take-append-drop m b)
 
 -- where no two live blocks have one hash, the rule has one answer at most
-pub one_selection : (network : Network) (kept selected a b : List Block) → HaveDistinctHashes (live_blocks network.genesis kept selected) → IsSelection network kept selected a → IsSelection network kept selected b → a ≡ b
+pub one_selection : (network : Network) (kept selected a b : List Block) → HaveDistinctHashes (live_blocks network kept selected) → IsSelection network kept selected a → IsSelection network kept selected b → a ≡ b
 one_selection network kept selected a b distinct (Stays none) (Stays none_too) = refl
 one_selection network kept selected a b distinct (Stays none) (Changes c chosen) = absurd (let le = none c chosen.candidate in let longer = chosen.longer in omega arith)
 one_selection network kept selected a b distinct (Changes c chosen) (Stays none) = absurd (let le = none c chosen.candidate in let longer = chosen.longer in omega arith)
@@ -94,8 +94,8 @@ pub selection_not_shorter : (network : Network) (kept old new : List Block) → 
 selection_not_shorter network kept old new (Stays none) = omega arith
 selection_not_shorter network kept old new (Changes c chosen) = let longer = chosen.longer in omega arith
 
-pub selection_begins : (network : Network) (kept old new : List Block) → IsSelection network kept old new → BeginsWith new (immutable_part network.genesis old)
-selection_begins network kept old new (Stays none) = begins_with_itself network.genesis old
+pub selection_begins : (network : Network) (kept old new : List Block) → IsSelection network kept old new → BeginsWith new (immutable_part network old)
+selection_begins network kept old new (Stays none) = begins_with_itself network old
 selection_begins network kept old new (Changes c chosen) = chosen.candidate.begins
 
 -- then no candidate is longer

@@ -4,7 +4,7 @@ use Rattle.std.specs.Prelude.{slice_set, slice_get}
 use Rattle.std.specs.List.{AllByRecursion}
 use Rattle.model.specs.Block.{Block, SpellsBlock, block_text}
 use Rattle.model.specs.Ledger.{Network}
-use Rattle.model.specs.Chain.{BeginsWith}
+use Rattle.model.specs.Chain.{IsOpening, BeginsWith}
 use Rattle.model.specs.Follower.{Follower, Followers, standing_at, follower_of, Instruction, IsReplayed, AreReplayed, left_to_tell}
 use Rattle.model.specs.History.{State, opening, Event, Arrive, Submit, Open, Next, Forward, Close, Reply, Kept, Refused, Submitted, Opened, TooManyFollowers, Instructed, Forwarded, Closed, UnknownFollower, OutOfMemory, Step, Entry, IsRun, IsLegal, WasSelected, SetsFollower, told_to, instructions_to, AreTold, WasTold, ChainTheorem}
 use Rattle.model.proofs.Lists.{all_of_member, all_push}
@@ -164,7 +164,7 @@ run_known : (network : Network) (history : List Entry) (s : State) (es : List En
 run_known network history s [] t legal sound known run =
     subst (λ (h : List Entry). AllKnown network h t) (sym (append-nil history)) (subst (AllKnown network history) (sym run) known)
 run_known network history s (e ∷ es) t legal sound known run =
-    let now = run_on network opening history s e run.0 legal run.1 in
+    let now = run_on network (opening network) history s e run.0 legal run.1 in
     subst (λ (h : List Entry). AllKnown network h t) (append_assoc history (e ∷ []) es)
     (run_known network (history ++ e ∷ []) run.0 es t now (step_sound network s e.event e.reply run.0 sound run.1) (step_known network history s e.event e.reply run.0 legal sound known run.1) run.2)
 
@@ -172,16 +172,16 @@ no_follower : (id : ℕ) (f : Follower) → follower_of [] id ≡ Some f → ⊥
 no_follower zero f is = let e : None ≡ Some f = is in cc
 no_follower (suc id) f is = let e : None ≡ Some f = is in cc
 
-all_known : (network : Network) (history : List Entry) (s : State) → IsLegal network history s → AllKnown network history s
-all_known network history s legal = run_known network [] opening history s refl (opening_sound network) (λ id f is. absurd (no_follower id f is)) legal
+all_known : (network : Network) (history : List Entry) (s : State) → IsOpening network → IsLegal network history s → AllKnown network history s
+all_known network history s opens legal = run_known network [] (opening network) history s refl (opening_sound network opens) (λ id f is. absurd (no_follower id f is)) legal
 
 -- in a legal history each follower was told the beginning of a chain that was once selected
-pub was_selected : (network : Network) (history : List Entry) (s : State) (id : ℕ) (f : Follower) → IsLegal network history s → follower_of s.followers id ≡ Some f → WasSelected network history f.told
-was_selected network history s id f legal is = (all_known network history s legal id f is).selected
+pub was_selected : (network : Network) (history : List Entry) (s : State) (id : ℕ) (f : Follower) → IsOpening network → IsLegal network history s → follower_of s.followers id ≡ Some f → WasSelected network history f.told
+was_selected network history s id f opens legal is = (all_known network history s opens legal id f is).selected
 
-pub theorem_of_legal : (network : Network) (history : List Entry) (s : State) → IsLegal network history s → ChainTheorem network history s
-theorem_of_legal network history s legal =
-    let sound = legal_sound network history s legal in
+pub theorem_of_legal : (network : Network) (history : List Entry) (s : State) → IsOpening network → IsLegal network history s → ChainTheorem network history s
+theorem_of_legal network history s opens legal =
+    let sound = legal_sound network history s opens legal in
     record {
       legal = legal;
       valid = sound.valid;
@@ -190,7 +190,7 @@ theorem_of_legal network history s legal =
       followers = λ id f is.
           let good = sound.followers id f is in
           record {
-            replayed = (all_known network history s legal id f is).replayed;
+            replayed = (all_known network history s opens legal id f is).replayed;
             begins = good.begins;
             bounded = good.bounded;
             at_end = λ instruction new next. next_at_end network.genesis.k s.chain f instruction new good next;

@@ -1,15 +1,14 @@
 -- Valid chains, the immutable part, candidates and the selection rule (the Consensus and Storage Layer
 -- report, chain selection and the chain database).
-use Rattle.std.specs.Prelude.{◌≡◌, ◌≢◌, ℕ, ◌+◌, ◌-◌, ◌≤◌, ◌<◌, List, [], ◌∷◌, length, take, filter, nat_lt, Contains}
-use Rattle.std.specs.Prelude.{Option, Some, None, IsSome, unwrap_or, replicate}
+use Rattle.std.specs.Prelude.{◌≡◌, ◌≢◌, ℕ, ◌+◌, ◌-◌, ◌≤◌, ◌<◌, List, [], ◌∷◌, length, take, filter, nat_lt, min, max}
+use Rattle.std.specs.Prelude.{Contains, Option, Some, None, IsSome, unwrap_or, replicate}
 use Rattle.std.specs.List.{AllByRecursion}
 use Rattle.std.specs.Ordering.{nat_cmp}
 use Rattle.std.specs.declared.cmp.Ordering.TheVariants.{Greater}
 use Rattle.std.specs.Cmp.Lexicographic.{slice_cmp}
-use Rattle.model.specs.Genesis.{Genesis}
 use Rattle.model.specs.Ledger.{Network, ledger_of}
 use Rattle.model.specs.Limits.{hash_size}
-use Rattle.model.specs.Block.{Block, block_hash_of, body_size_of}
+use Rattle.model.specs.Block.{Block, SpellsBlock, block_text, block_hash_of, body_size_of}
 
 -- ---- valid chains
 
@@ -44,17 +43,17 @@ pub record IsValidChain (network : Network) (chain : List Block) : Type 0 where
 
 -- ---- selection
 
--- how many blocks of a chain are never rolled back
-abbrev pub immutable_length : Genesis → List Block → ℕ
-immutable_length genesis chain = length chain - genesis.k
+-- how many blocks of a chain are never rolled back: all but the last k, and at least those that were opened on
+abbrev pub immutable_length : Network → List Block → ℕ
+immutable_length network chain = min (length chain) (max (length chain - network.genesis.k) (length network.opened))
 
--- a chain without its last k blocks, empty where it has at most k
-abbrev pub immutable_part : Genesis → List Block → List Block
-immutable_part genesis chain = take (immutable_length genesis chain) chain
+-- these blocks
+abbrev pub immutable_part : Network → List Block → List Block
+immutable_part network chain = take (immutable_length network chain) chain
 
 -- the blocks that may still come into a selected chain: those past the immutable part
-abbrev pub live_blocks : Genesis → List Block → List Block → List Block
-live_blocks genesis kept chain = filter (λ b. nat_lt (immutable_length genesis chain) b.header.number) kept
+abbrev pub live_blocks : Network → List Block → List Block → List Block
+live_blocks network kept chain = filter (λ b. nat_lt (immutable_length network chain) b.header.number) kept
 
 -- no two blocks of the list have one hash
 abbrev pub HaveDistinctHashes : List Block → Type 0
@@ -69,7 +68,7 @@ BeginsWith chain part = take (length part) chain ≡ part
 pub record IsCandidate (network : Network) (kept selected candidate : List Block) : Type 0 where
   pub valid : IsValidChain network candidate
   pub members : AllByRecursion (Contains kept) candidate
-  pub begins : BeginsWith candidate (immutable_part network.genesis selected)
+  pub begins : BeginsWith candidate (immutable_part network selected)
 
 abbrev pub NoneLonger : Network → List Block → List Block → Type 0
 NoneLonger network kept selected =
@@ -111,3 +110,10 @@ pub record IsChosen (network : Network) (kept selected chosen : List Block) : Ty
 pub data IsSelection (network : Network) (kept selected : List Block) : List Block → Type 0 where
   Stays : NoneLonger network kept selected → IsSelection network kept selected selected
   Changes : (chosen : List Block) → IsChosen network kept selected chosen → IsSelection network kept selected chosen
+
+-- ---- what a node is opened on
+
+-- it is a valid chain, whose blocks have texts
+pub record IsOpening (network : Network) : Type 0 where
+  pub valid : IsValidChain network network.opened
+  pub spelled : AllByRecursion (λ b. SpellsBlock b (block_text b)) network.opened

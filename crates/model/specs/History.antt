@@ -4,7 +4,6 @@ use Rattle.std.specs.Prelude.{◌≡◌, ◌≢◌, ◌++◌, ℕ, ◌+◌, ◌-
 use Rattle.std.specs.Prelude.{None, Option, slice_set, ◌==◌, if◌then◌else◌, ◌↔◌}
 use Rattle.std.specs.List.{AllByRecursion}
 use Rattle.model.specs.Block.{Block, SpellsBlock, block_text, block_hash_of, body_hash_of}
-use Rattle.model.specs.Genesis.{Genesis}
 use Rattle.model.specs.Ledger.{Network}
 use Rattle.model.specs.Chain.{Point, immutable_length, live_blocks, IsSelection, BeginsWith, IsValidChain, NoneLonger}
 use Rattle.model.specs.Limits.{block_size_limit, follower_limit}
@@ -21,8 +20,9 @@ pub record State : Type 0 where
   pub mempool : List Transaction
   pub followers : Followers
 
-abbrev pub opening : State
-opening = record { kept = []; chain = []; mempool = []; followers = [] }
+-- before the first event: the chain that the node is opened on is kept and selected
+abbrev pub opening : Network → State
+opening network = record { kept = network.opened; chain = network.opened; mempool = []; followers = [] }
 
 -- ---- refusals
 
@@ -49,25 +49,25 @@ refusal_number VolatileFull = 7
 abbrev pub IsBlockWith : List ℕ → (Block → Type 0) → Type 0
 IsBlockWith bytes P = (b : Block) × SpellsBlock b bytes × P b
 
-abbrev pub live_of : Genesis → State → List Block
-live_of genesis s = live_blocks genesis s.kept s.chain
+abbrev pub live_of : Network → State → List Block
+live_of network s = live_blocks network s.kept s.chain
 
 -- the condition of each refusal
-abbrev pub Applies : Genesis → State → List ℕ → Refusal → Type 0
-Applies genesis s bytes TooLarge = block_size_limit < length bytes
-Applies genesis s bytes Malformed = (b : Block) → SpellsBlock b bytes → ⊥
-Applies genesis s bytes BodyHashMismatch = IsBlockWith bytes (λ b. b.header.body_hash ≢ body_hash_of b.transactions)
-Applies genesis s bytes TooOld = IsBlockWith bytes (λ b. b.header.number ≤ immutable_length genesis s.chain)
-Applies genesis s bytes Known = (b : Block) × Contains (live_of genesis s) b × (block_text b ≡ bytes)
-Applies genesis s bytes Clash = IsBlockWith bytes (λ b. (c : Block)
-    × (Contains (live_of genesis s) c ⊎ Contains s.chain c) × (block_hash_of c ≡ block_hash_of b)
+abbrev pub Applies : Network → State → List ℕ → Refusal → Type 0
+Applies network s bytes TooLarge = block_size_limit < length bytes
+Applies network s bytes Malformed = (b : Block) → SpellsBlock b bytes → ⊥
+Applies network s bytes BodyHashMismatch = IsBlockWith bytes (λ b. b.header.body_hash ≢ body_hash_of b.transactions)
+Applies network s bytes TooOld = IsBlockWith bytes (λ b. b.header.number ≤ immutable_length network s.chain)
+Applies network s bytes Known = (b : Block) × Contains (live_of network s) b × (block_text b ≡ bytes)
+Applies network s bytes Clash = IsBlockWith bytes (λ b. (c : Block)
+    × (Contains (live_of network s) c ⊎ Contains s.chain c) × (block_hash_of c ≡ block_hash_of b)
     × (block_text c ≢ bytes))
-Applies genesis s bytes VolatileFull = genesis.max_volatile ≤ length (live_of genesis s)
+Applies network s bytes VolatileFull = network.genesis.max_volatile ≤ length (live_of network s)
 
 -- the first refusal that applies
-pub record IsRefused (genesis : Genesis) (s : State) (bytes : List ℕ) (refusal : Refusal) : Type 0 where
-  pub applies : Applies genesis s bytes refusal
-  pub first : (other : Refusal) → refusal_number other < refusal_number refusal → Applies genesis s bytes other → ⊥
+pub record IsRefused (network : Network) (s : State) (bytes : List ℕ) (refusal : Refusal) : Type 0 where
+  pub applies : Applies network s bytes refusal
+  pub first : (other : Refusal) → refusal_number other < refusal_number refusal → Applies network s bytes other → ⊥
 
 -- ---- steps
 
@@ -117,7 +117,7 @@ pub record IsChange (old new : List Block) (back added : ℕ) : Type 0 where
 pub record Keeps (network : Network) (s : State) (bytes : List ℕ) (back added : ℕ) (t : State) : Type 0 where
   pub block : Block
   pub read : SpellsBlock block bytes
-  pub not_refused : (refusal : Refusal) → Applies network.genesis s bytes refusal → ⊥
+  pub not_refused : (refusal : Refusal) → Applies network s bytes refusal → ⊥
   pub kept : t.kept ≡ block ∷ s.kept
   pub followers : AreMoved t.chain s.followers t.followers
   pub mempool : t.mempool ≡ revalidated network t.chain s.mempool
@@ -175,7 +175,7 @@ pub record Closes (s : State) (id : ℕ) (t : State) : Type 0 where
 -- refused changes nothing, nor does want of memory, which may be answered to any event.
 abbrev pub Step : Network → State → Event → Reply → State → Type 0
 Step network s (Arrive bytes) (Kept back added) t = Keeps network s bytes back added t
-Step network s (Arrive bytes) (Refused refusal) t = IsRefused network.genesis s bytes refusal × (t ≡ s)
+Step network s (Arrive bytes) (Refused refusal) t = IsRefused network s bytes refusal × (t ≡ s)
 Step network s (Submit bytes) (Submitted reply) t = Takes network s bytes reply t
 Step network s Open (Opened id) t = Opens s id t
 Step network s Open TooManyFollowers t = (follower_limit ≤ free_id s.followers) × (t ≡ s)
@@ -203,7 +203,7 @@ IsRun network s (e ∷ es) t = (mid : State) × Step network s e.event e.reply m
 
 -- a history from the beginning, and the state that it leaves
 abbrev pub IsLegal : Network → List Entry → State → Type 0
-IsLegal network history s = IsRun network opening history s
+IsLegal network history s = IsRun network (opening network) history s
 
 -- ---- what a history says by itself
 
@@ -225,8 +225,8 @@ abbrev pub length_from : ℕ → List Entry → ℕ
 length_from n [] = n
 length_from n (e ∷ es) = length_from (length_with n e.reply) es
 
-abbrev pub length_after : List Entry → ℕ
-length_after history = length_from 0 history
+abbrev pub length_after : Network → List Entry → ℕ
+length_after network history = length_from (length network.opened) history
 
 -- the chain was the beginning of a selected chain after some part of the history
 pub record WasSelected (network : Network) (history : List Entry) (chain : List Block) : Type 0 where

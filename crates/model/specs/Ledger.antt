@@ -9,14 +9,20 @@ use Rattle.model.specs.Rules.{Params, Reason, reason_against}
 use Rattle.model.specs.Genesis.{Genesis, opening_utxo}
 use Rattle.model.specs.Block.{Block}
 
--- what a network agrees on: its genesis, and which signatures are good
+-- What a node begins from: what its network agrees on, which is the genesis and which signatures are good, and the
+-- chain that it is opened on. A new node has no block of that.
 pub record Network : Type 0 where
   pub genesis : Genesis
   pub verifies : Verifies
+  pub opened : List Block
 
--- the network of a genesis under a scheme of signatures
+-- a node of this genesis under a scheme of signatures that is opened on a chain
+abbrev pub network_on : Genesis → Verifies → List Block → Network
+network_on genesis verifies opened = record { genesis = genesis; verifies = verifies; opened = opened }
+
+-- a new one
 abbrev pub network_of : Genesis → Verifies → Network
-network_of genesis verifies = record { genesis = genesis; verifies = verifies }
+network_of genesis verifies = network_on genesis verifies []
 
 -- the unspent outputs, and the fees so far
 pub record Ledger : Type 0 where

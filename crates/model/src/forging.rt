@@ -5,7 +5,7 @@ ghost use Rattle.model.specs.Transaction.{Transaction};
 ghost use Rattle.model.specs.Genesis.{IsGenesis};
 ghost use Rattle.model.specs.Block.{Block, SpellsBlock};
 ghost use Rattle.model.specs.Ledger.{Network};
-ghost use Rattle.model.specs.Chain.{IsValidChain};
+ghost use Rattle.model.specs.Chain.{IsValidChain, IsOpening};
 ghost use Rattle.model.specs.History.{State, Entry, IsLegal};
 ghost use Rattle.model.specs.Forging.{IsForged, ArrivesNext};
 
@@ -17,6 +17,6 @@ pub fn forged_blocks()
         → IsValidChain network (chain ++ b ∷ []) }
     // Where it arrives next it is put on that chain.
     ensures arrives { (network : Network) (history : List Entry) (s : State) (slot : ℕ) (b : Block) (bytes : List ℕ)
-        → IsGenesis network.genesis → IsLegal network history s → IsForged network s.chain s.mempool slot b
-        → SpellsBlock b bytes → ArrivesNext network s b bytes }
+        → IsGenesis network.genesis → IsOpening network → IsLegal network history s
+        → IsForged network s.chain s.mempool slot b → SpellsBlock b bytes → ArrivesNext network s b bytes }
 {}

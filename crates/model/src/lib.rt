@@ -23,7 +23,8 @@ pub use examples::{
 pub use forging::forged_blocks;
 pub use histories::{
     chain_theorem, change_counts, followers_catch_up, immutable_part_grows, kept_blocks,
-    live_hashes_differ, one_reply, one_selection, one_state, selected_chain, told_chains,
+    live_hashes_differ, new_nodes, one_reply, one_selection, one_state, selected_chain,
+    told_chains,
 };
 pub use journals::heights_never_fall;
 pub use ledgers::{one_answer_to_a_block, states_of_chains, supply_conserved};

@@ -1,6 +1,6 @@
 -- The subcommand that was found, from its name and its rows.
-use Rattle.std.proofs.Common.{◌≡◌, false, not, List, Option, Some, None, option_map, rules}
-use Rattle.std.specs.Prelude.{bytes_eq}
+use Rattle.std.proofs.Common.{◌≡◌, true, List, Option, Some, None, option_map, rules}
+use Rattle.std.specs.Prelude.{bytes_eq, IfSome}
 use Rattle.std.proofs.lemmas.Slice.Eq.{bytes_eq-Decides}
 use Rattle.clap.specs.Words.{Text, Row}
 
@@ -9,6 +9,11 @@ pub name_and_rows : {B : Type 0} (name : B → Text) (rows : B → List Row) (fo
 name_and_rows name rows None n m r same p q = cc
 name_and_rows name rows (Some b) n m r same p q = cc
 
--- texts that aren't unequal are the same
-pub same_text : (a b : Text) → false ≡ not (bytes_eq a b) → a ≡ b
+-- texts that are equal are the same
+pub same_text : (a b : Text) → true ≡ bytes_eq a b → a ≡ b
 same_text a b h = search (rules, bytes_eq-Decides a b, h)
+
+-- what holds of it, if there is one, with what follows from that
+pub some_weaker : {X : Type 0} (P Q : X → Type 0) (r : Option X) → ((x : X) → P x → Q x) → IfSome r P → IfSome r Q
+some_weaker P Q None weaker holds = tt
+some_weaker P Q (Some x) weaker holds = weaker x holds

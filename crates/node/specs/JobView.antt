@@ -1,16 +1,30 @@
 -- Which job a command line names.
-use Rattle.std.specs.Prelude.{◌≡◌, List, Option, Some, codes}
+use Rattle.std.specs.Prelude.{◌≡◌, ◌⊎◌, List, Option, Some, option_map, codes}
 use Rattle.clap.specs.Words.{Text, Row, first_of}
 use Rattle.node.specs.declared.jobs.Job.{Job}
-use Rattle.node.specs.declared.jobs.Job.TheVariants.{Run}
+use Rattle.node.specs.declared.jobs.Job.TheVariants.{Run, Replay}
 
--- the subcommand `run` with the values of its two options
-pub record IsRun (found : Option (Text × List Row)) (genesis script : Text) : Type 0 where
-  pub rows : List Row
-  pub is_found : found ≡ Some (codes "run", rows)
+-- the values of the options of `run`
+pub record IsRun (rows : List Row) (genesis script : Text) (log : Option Text) : Type 0 where
   pub genesis_is : first_of (codes "genesis") rows ≡ Some genesis
   pub script_is : first_of (codes "script") rows ≡ Some script
+  pub log_is : first_of (codes "log") rows ≡ log
+
+-- those of `replay`
+pub record IsReplay (rows : List Row) (genesis log : Text) : Type 0 where
+  pub genesis_is : first_of (codes "genesis") rows ≡ Some genesis
+  pub log_is : first_of (codes "log") rows ≡ Some log
+
+abbrev pub IsRunJob : List Row → Job → Type 0
+IsRunJob rows (Run genesis script log) = IsRun rows genesis.now script.now (option_map (λ path. path.now) log)
+IsRunJob rows (Replay genesis log) = ⊥
+
+abbrev pub IsReplayJob : List Row → Job → Type 0
+IsReplayJob rows (Run genesis script log) = ⊥
+IsReplayJob rows (Replay genesis log) = IsReplay rows genesis.now log.now
 
 -- the job is the subcommand that was found, with its paths
 abbrev pub IsJobOf : Option (Text × List Row) → Job → Type 0
-IsJobOf found (Run genesis script) = IsRun found genesis.now script.now
+IsJobOf found job =
+    ((rows : List Row) × (found ≡ Some (codes "run", rows)) × IsRunJob rows job)
+    ⊎ ((rows : List Row) × (found ≡ Some (codes "replay", rows)) × IsReplayJob rows job)

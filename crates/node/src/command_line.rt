@@ -1,17 +1,17 @@
 //! The command line.
 
 ghost use Rattle.std.specs.Prelude.{◌≡◌, map, IfOk, IfSome, false, string_bytes};
-ghost use Rattle.clap.specs.Words.{app_of, rule_of, subcommand_of, subcommand_rows_of};
+ghost use Rattle.clap.specs.Words.{app_of, rule_of, rows_of, found_of, subcommand_of, subcommand_rows_of};
 ghost use Rattle.clap.specs.declared.builder.command.Command.TheViews.{out-Command};
-ghost use Rattle.node.specs.CommandLine.{option_rule, run_app, node_app};
-ghost use Rattle.node.specs.JobView.{IsJobOf};
+ghost use Rattle.node.specs.CommandLine.{option_rule, required_rule, run_app, replay_app, node_app};
+ghost use Rattle.node.specs.JobView.{IsJobOf, IsRunJob, IsReplayJob};
 
 use crate::jobs::Job;
 use clap::error::ErrorKind;
 use clap::{Arg, ArgAction, ArgMatches, Command, Error};
 use std::alloc::{AllocError, Global};
 
-/// An option that has to be given, with the path of a file.
+/// An option with the path of a file.
 fn path_option<'a>(alloc: Global, id: &'a str, help: &'a str) -> Arg<'a>
     ensures rule { rule_of result ≡ option_rule id.entry.now }
     ensures local { result.global ≡ false }
@@ -19,9 +19,16 @@ fn path_option<'a>(alloc: Global, id: &'a str, help: &'a str) -> Arg<'a>
     Arg::new(alloc, id)
         .long(id)
         .action(ArgAction::Set)
-        .required(true)
         .value_name("FILE")
         .help(help)
+}
+
+/// One that has to be given.
+fn required_path<'a>(alloc: Global, id: &'a str, help: &'a str) -> Arg<'a>
+    ensures rule { rule_of result ≡ required_rule id.entry.now }
+    ensures local { result.global ≡ false }
+{
+    path_option(alloc, id, help).required(true)
 }
 
 /// The command `run`.
@@ -29,12 +36,31 @@ fn run_command<'a>(alloc: Global) -> Result<Command<'a>, AllocError>
     ensures app { IfOk result (λ c. app_of c ≡ run_app) }
     ensures local { IfOk result (λ c. (out-Command c).has_globals ≡ false) }
 {
-    let genesis = path_option(alloc, "genesis", "What the network agrees on");
-    let script = path_option(alloc, "script", "What happens");
+    let genesis = required_path(alloc, "genesis", "What the network agrees on");
+    let script = required_path(alloc, "script", "What happens");
+    let log = path_option(
+        alloc,
+        "log",
+        "The blocks that are kept, from this run on or before",
+    );
     Command::new(alloc, "run")
         .about("Run a script, and print what it prints")
         .arg(genesis)?
-        .arg(script)
+        .arg(script)?
+        .arg(log)
+}
+
+/// The command `replay`.
+fn replay_command<'a>(alloc: Global) -> Result<Command<'a>, AllocError>
+    ensures app { IfOk result (λ c. app_of c ≡ replay_app) }
+    ensures local { IfOk result (λ c. (out-Command c).has_globals ≡ false) }
+{
+    let genesis = required_path(alloc, "genesis", "What the network agrees on");
+    let log = required_path(alloc, "log", "The blocks that were kept");
+    Command::new(alloc, "replay")
+        .about("Open a log, and print the height of its chain")
+        .arg(genesis)?
+        .arg(log)
 }
 
 /// The command that the program is.
@@ -42,11 +68,36 @@ fn node_command<'a>(alloc: Global) -> Result<Command<'a>, AllocError>
     ensures { IfOk result (λ c. app_of c ≡ node_app) }
 {
     let run = run_command(alloc)?;
+    let replay = replay_command(alloc)?;
     Command::new(alloc, "node")
         .version("0.1.0")
         .about("The chain database of a node")
         .subcommand_required(true)
-        .subcommand(run)
+        .subcommand(run)?
+        .subcommand(replay)
+}
+
+/// The run that these options name, if they name one.
+fn run_job<'a>(found: &ArgMatches<'a>) -> Option<Job<'a>>
+    ensures { IfSome result (IsRunJob (rows_of (found_of found.now))) }
+{
+    let genesis = found.get_str("genesis")?;
+    let script = found.get_str("script")?;
+    let log = found.get_str("log");
+    Some(Job::Run {
+        genesis,
+        script,
+        log,
+    })
+}
+
+/// The replay that these options name, if they name one.
+fn replay_job<'a>(found: &ArgMatches<'a>) -> Option<Job<'a>>
+    ensures { IfSome result (IsReplayJob (rows_of (found_of found.now))) }
+{
+    let genesis = found.get_str("genesis")?;
+    let log = found.get_str("log")?;
+    Some(Job::Replay { genesis, log })
 }
 
 /// The job that matches name, if there is one.
@@ -54,12 +105,13 @@ fn job_of<'a>(matches: &ArgMatches<'a>) -> Option<Job<'a>>
     ensures { IfSome result (IsJobOf (subcommand_rows_of matches.now)) }
 {
     let (name, found) = matches.subcommand()?;
-    if name != "run" {
-        return None;
+    if name == "run" {
+        return run_job(found);
     }
-    let genesis = found.get_str("genesis")?;
-    let script = found.get_str("script")?;
-    Some(Job::Run { genesis, script })
+    if name == "replay" {
+        return replay_job(found);
+    }
+    None
 }
 
 /// What the words of a command line, the first of which names the program, ask for.

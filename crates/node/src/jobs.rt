@@ -3,6 +3,15 @@
 /// What the program is to do.
 #[derive(Debug, Drop)]
 pub enum Job<'a> {
-    /// Run the script of this file under the genesis of this one.
-    Run { genesis: &'a str, script: &'a str },
+    /// Run the script of this file under the genesis of this one, on the log of a file where one is named.
+    Run {
+        genesis: &'a str,
+        script: &'a str,
+        log: Option<&'a str>,
+    },
+    /// Open the log of this file under the genesis of this one, and tell how many blocks it has.
+    Replay {
+        genesis: &'a str,
+        log: &'a str,
+    },
 }

@@ -2,8 +2,10 @@
 #![tactic(auto)]
 
 mod command_line;
+mod failure;
 mod genesis_file;
 mod jobs;
+mod log_runs;
 mod start;
 
 use std::process::ExitCode;
@@ -15,5 +17,7 @@ fn main(rt: HostRuntime) -> io::Result<ExitCode> {
     Ok(ExitCode::from(status))
 }
 
+#[cfg(test)]
+mod log_tests;
 #[cfg(test)]
 mod tests;

@@ -6,31 +6,18 @@ ghost use Rattle.scenario.specs.Run.{script_network, EndsWell};
 ghost use Rattle.node.specs.Ending.{EndsBySome};
 
 use crate::command_line::job;
+use crate::failure::Failure;
 use crate::genesis_file::{MAX_GENESIS_SIZE, NoGenesis, read_genesis};
 use crate::jobs::Job;
+use crate::log_runs::{replay, run_logged};
 use clap::Error;
 use clap::error::ErrorKind;
-use genesis::{Genesis, GenesisFault};
+use genesis::Genesis;
 use scenario::ScenarioFault;
 use std::alloc::{AllocError, Global};
 use std::fs::File;
 use std::io::{BufReader, Read, Write};
 use std::rt::Files;
-use thiserror::Error as Fault;
-
-/// Why a job is not done.
-#[derive(Debug, Drop, Fault)]
-enum Failure<'a> {
-    /// The file of this path can't be read.
-    #[error("cannot read {0}")]
-    CannotRead(&'a str),
-    /// What the genesis file says is no genesis: the fault, with its number.
-    #[error("genesis: {number} {fault}")]
-    Genesis { number: u8, fault: GenesisFault },
-    /// The run of the script failed, or memory ran out before it.
-    #[error(transparent)]
-    Scenario(ScenarioFault),
-}
 
 /// Why a genesis file of this path says no genesis.
 fn genesis_failure<'a>(path: &'a str, why: NoGenesis) -> Failure<'a> {
@@ -44,7 +31,7 @@ fn genesis_failure<'a>(path: &'a str, why: NoGenesis) -> Failure<'a> {
 }
 
 /// The genesis that a file says.
-fn genesis_of_file<'a, R: Files + AllocGlobal>(
+pub fn genesis_of_file<'a, R: Files + AllocGlobal>(
     rt: &R,
     path: &'a str,
 ) -> Result<Genesis, Failure<'a>> {
@@ -142,13 +129,31 @@ fn do_job<R: Files + AllocGlobal, O: Write, E: Write>(
     ensures quiet { result ≡ 0 → err.new ≡ err.old }
 {
     match job {
-        Job::Run { genesis, script } => match run_files(rt, *genesis, *script, out) {
-            Ok(()) => 0,
-            Err(failure) => {
-                let _ = write!(err, "{failure}\n");
-                1
-            }
-        },
+        Job::Run {
+            genesis,
+            script,
+            log: None,
+        } => tell(run_files(rt, *genesis, *script, out), err),
+        Job::Run {
+            genesis,
+            script,
+            log: Some(log),
+        } => tell(run_logged(rt, *genesis, *script, *log, out), err),
+        Job::Replay { genesis, log } => tell(replay(rt, *genesis, *log, out), err),
+    }
+}
+
+/// Tells why a job wasn't done, where it wasn't, and answers the status.
+fn tell<E: Write>(end: Result<(), Failure<'_>>, err: &mut E) -> u8
+    ensures status { result ≤ 1 }
+    ensures quiet { result ≡ 0 → err.new ≡ err.old }
+{
+    match end {
+        Ok(()) => 0,
+        Err(failure) => {
+            let _ = write!(err, "{failure}\n");
+            1
+        }
     }
 }
 

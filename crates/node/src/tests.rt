@@ -10,7 +10,7 @@ use std::{fs, io};
 // otherwise end a test on the spot.
 
 /// What is said where memory runs out.
-const MEMORY: &str = "memory";
+pub const MEMORY: &str = "memory";
 
 /// The words of a command line.
 fn words_of(rt: &(impl Abort + AllocGlobal), words: &[&str]) -> Vec<String> {
@@ -24,7 +24,7 @@ fn words_of(rt: &(impl Abort + AllocGlobal), words: &[&str]) -> Vec<String> {
 
 /// The program ends with this status. On standard output it has printed this text, or one that begins so where two
 /// points stand at its end; on standard error it has told this, or where it is `?` something.
-fn ends(
+pub fn ends(
     rt: &(impl Abort + Files + AllocGlobal),
     words: &[&str],
     status: u8,
@@ -52,6 +52,8 @@ const REFUSED: &[&[&str]] = &[
     &["node"],
     &["node", "walk"],
     &["node", "run"],
+    &["node", "replay", "--log", "l"],
+    &["node", "replay", "--genesis", "g", "--script", "s"],
     &["node", "run", "--genesis", "g"],
     &["node", "run", "--genesis", "g", "--script"],
     &["node", "run", "--genesis", "g", "--script", "s", "t"],
@@ -78,6 +80,7 @@ fn refused_command_lines(rt: HostRuntime) {
 const ANSWERED: &[(&[&str], &str)] = &[
     (&["node", "--help"], "The chain database of a node\n.."),
     (&["node", "run", "--help"], "Run a script.."),
+    (&["node", "replay", "--help"], "Open a log.."),
     (&["node", "--version"], "node 0.1.0\n"),
 ];
 
@@ -89,7 +92,7 @@ fn help_and_version(rt: HostRuntime) {
 }
 
 /// Makes a folder that this test alone writes to: the first of these names that is free.
-fn own_folder(rt: &(impl Abort + Files + AllocGlobal)) -> String {
+pub fn own_folder(rt: &(impl Abort + Files + AllocGlobal)) -> String {
     for number in 0..1000u64 {
         let path = format!(in rt.alloc(); "/tmp/node_tests_{number}").expect(rt, MEMORY);
         if fs::create_dir(rt, path.as_str()).is_ok() {
@@ -116,10 +119,10 @@ coin = 1200
 ";
 
 /// A genesis.
-const GENESIS: &[&str] = &["network = 0\nk = 2\n", OTHER_NUMBERS, OUTPUT];
+pub const GENESIS: &[&str] = &["network = 0\nk = 2\n", OTHER_NUMBERS, OUTPUT];
 
 /// Writes parts to the file of this name in a folder, and answers its path.
-fn write_file(
+pub fn write_file(
     rt: &(impl Abort + Files + AllocGlobal),
     folder: &str,
     name: &str,
@@ -146,7 +149,7 @@ fn runs(
 }
 
 /// Removes a folder.
-fn remove(rt: &(impl Abort + Files + AllocGlobal), folder: &str) {
+pub fn remove(rt: &(impl Abort + Files + AllocGlobal), folder: &str) {
     fs::remove_dir_all(rt, folder).expect(rt, "a folder");
 }
 

@@ -1,10 +1,10 @@
 -- Lines that were obeyed are a legal history, of which the chain theorem holds.
 use Rattle.std.proofs.Common.{◌≡◌, ℕ, ◌+◌, List, [], ◌∷◌, ◌++◌, length, refl, sym, ap, subst}
 use Rattle.model.specs.Ledger.{Network}
-use Rattle.model.specs.History.{State, Event, Reply, Entry, Step, IsRun}
+use Rattle.model.specs.History.{State, opening, Event, Reply, Entry, Step, IsRun}
 use Rattle.model.proofs.ToldChains.{theorem_of_legal}
 use Rattle.script.specs.Meaning.{Meaning, Defines, Arrives, SubmitsTx, ForgesBlock, OpensFollower, TellsFollower, ForwardsFollower, ClosesFollower, PrintsTip, PrintsMempool, PrintsUtxo}
-use Rattle.scenario.specs.Run.{Scene, opening_scene, Acts, Prints, AreObeyed, entry}
+use Rattle.scenario.specs.Run.{Scene, first_scene, Acts, Prints, AreObeyed, entry}
 
 -- a run, and another from where it ended
 pub runs_both : (network : Network) (s : State) (es : List Entry) (m : State) (fs : List Entry) (t : State) → IsRun network s es m → IsRun network m fs t → IsRun network s (es ++ fs) t
@@ -39,10 +39,12 @@ prints_run network number before s (line ∷ lines) out history t (first, rest, 
     (runs_both network s.state entries mid.state later t.state (acts_run network s obeys.meaning first entries mid obeys.acts) (prints_run network (number + 1) (before + length line) mid lines rest later t prints))
 
 -- the chain theorem of a script
-abbrev pub obeyed : (network : Network) (lines : List (List ℕ)) (out : List ℕ) (history : List Entry) (scene : Scene) → Prints network 1 0 (opening_scene network.genesis) lines out history scene → AreObeyed network lines out
-obeyed network lines out history scene prints = record {
+abbrev pub obeyed : (network : Network) (start : State) (lines : List (List ℕ)) (out : List ℕ) (history : List Entry) (scene : Scene) → Prints network 1 0 (first_scene network start) lines out history scene → AreObeyed network start lines out
+obeyed network start lines out history scene prints = record {
   scene = scene;
   history = history;
   prints = prints;
-  theorem = theorem_of_legal network history scene.state (prints_run network 1 0 (opening_scene network.genesis) lines out history scene prints);
+  run = prints_run network 1 0 (first_scene network start) lines out history scene prints;
+  theorem = λ opens past legal. theorem_of_legal network (past ++ history) scene.state opens
+      (runs_both network (opening network) past start history scene.state legal (prints_run network 1 0 (first_scene network start) lines out history scene prints));
 }

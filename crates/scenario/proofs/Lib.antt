@@ -9,3 +9,4 @@ pub mod Histories
 pub mod Runs
 pub mod ForCallers
 pub mod SubmissionLines
+pub mod ShortLines

@@ -2,3 +2,4 @@ pub mod Print
 pub mod ForgeView
 pub mod Run
 pub mod SessionView
+pub mod Handed

@@ -8,5 +8,5 @@ mod runner;
 mod session;
 
 pub use fault::ScenarioFault;
-pub use runner::run;
+pub use runner::{run, run_from};
 pub use script::{LineFault, MAX_SCRIPT_SIZE};

@@ -1,17 +1,22 @@
 //! The run of a script.
 
 ghost use Rattle.std.specs.Prelude.{◌≡◌, ℕ, ◌+◌, ◌≤◌, ◌⊎◌, List, [], ◌∷◌, ◌++◌, length, Some, OnOk, IfErr, IfSome};
-ghost use Rattle.scenario.specs.Run.{opening_scene, script_network, EndsWell, EndsBy, fault_of};
-ghost use Rattle.scenario.specs.SessionView.{Holds};
+ghost use Rattle.script.specs.Names.{no_names};
+ghost use Rattle.script.specs.RequestView.{AreNamed};
+ghost use Rattle.scenario.specs.Run.{script_network, EndsWell, EndsBy, fault_of};
+ghost use Rattle.scenario.specs.SessionView.{core_network};
+ghost use Rattle.scenario.specs.Handed.{RunsWell, RunsInto, HasRun};
 ghost use Rattle.script.specs.declared.fault.LineFault.TheVariants.{BadLine};
 
 use crate::fault::ScenarioFault;
 use crate::output::{WriteStopped, write_all};
 use crate::session::Session;
+use chain_core::Core;
 use genesis::Genesis;
 use script::{LineFault, LinePlace, Stop};
 use std::alloc::Global;
 use std::io::{BufRead, Error, ErrorKind, Write};
+use witness_pool::TestScheme;
 
 /// Why no line was read, of which these bytes were. That memory ran out is said only where they are no whole line.
 fn read_fault(error: &Error, line: &[u8]) -> ScenarioFault
@@ -57,14 +62,16 @@ fn run_lines<R: BufRead, W: Write>(
     reader: &mut R,
     writer: &mut W,
 ) -> Result<(), ScenarioFault>
-    requires { Holds session.now (opening_scene session.now.core.genesis) }
+    requires { AreNamed session.now.names (no_names session.now.core.genesis.params.network) }
     ensures ok { OnOk result (IfSome (R.remaining reader.old)
-        (λ text. EndsWell (script_network session.old.core.genesis) text (W.contents writer.old)
+        (λ text. RunsWell session.old.core session.new.core text (W.contents writer.old)
         (W.contents writer.new))) }
     ensures rest { OnOk result (IfSome (R.remaining reader.old) (λ _. R.remaining reader.new ≡ Some [])) }
     ensures fault { IfErr result (λ why. IfSome (R.remaining reader.old)
-        (λ text. EndsBy (script_network session.old.core.genesis) text (R.remaining reader.new)
+        (λ text. RunsInto session.old.core session.new.core text (R.remaining reader.new)
         (W.contents writer.old) (W.contents writer.new) why)) }
+    ensures run { HasRun session.old.core session.new.core }
+    ensures network { core_network session.new.core ≡ core_network session.old.core }
 {
     let mut before: u64 = 0;
     for number in 1..4_194_306u64 {
@@ -126,4 +133,44 @@ pub fn run<R: BufRead, W: Write>(
         return Err(ScenarioFault::OutOfMemory);
     };
     run_lines(alloc, &mut session, reader, writer)
+}
+
+/// Runs a script line by line, as [`run`] does, on a core of this genesis to which something may have come before.
+/// Gives the core back beside the result, also after a fault. No name is bound before the first line: a block that the
+/// core had before is printed as `?`, until a line binds its hash.
+///
+/// Where memory runs out in a line, nothing that it prints is written, but its event may have happened.
+///
+/// ```text
+/// let mut more = b"block A2 genesis 2\narrive A2\n".as_slice();
+/// let (core, result) = scenario::run_from(alloc, &genesis, core, &mut more, &mut out);
+/// ```
+pub fn run_from<R: BufRead, W: Write>(
+    alloc: Global,
+    genesis: &Genesis,
+    core: Core<TestScheme>,
+    reader: &mut R,
+    writer: &mut W,
+) -> (Core<TestScheme>, Result<(), ScenarioFault>)
+    requires { core.genesis ≡ genesis.now }
+    // Without a fault, from every state of the definitions that the core stood for on: what was written is what all
+    // lines of the text print there, and the core stands for the state in which that ends.
+    ensures ok { OnOk result.1 (IfSome (R.remaining reader.old)
+        (λ text. RunsWell core result.0 text (W.contents writer.old) (W.contents writer.new))) }
+    // The whole text was then read.
+    ensures rest { OnOk result.1 (IfSome (R.remaining reader.old) (λ _. R.remaining reader.new ≡ Some [])) }
+    // At a fault of the script it is the first one, and what comes after its line is left in the reader. The core
+    // stands for the state that the lines before it left, and where memory ran out in a line, for that state or the one
+    // after the line's event.
+    ensures fault { IfErr result.1 (λ why. IfSome (R.remaining reader.old)
+        (λ text. RunsInto core result.0 text (R.remaining reader.new) (W.contents writer.old)
+        (W.contents writer.new) why)) }
+    // Whatever was read, the definitions' steps lead to the core that is given back.
+    ensures run { HasRun core result.0 }
+    ensures genesis { result.0.genesis ≡ core.genesis }
+    ensures opened { result.0.opened ≡ core.opened }
+{
+    let mut session = Session::on(alloc, genesis, core);
+    let result = run_lines(alloc, &mut session, reader, writer);
+    (session.into_core(), result)
 }

@@ -7,14 +7,14 @@ ghost use Rattle.model.specs.History.{State, Arrive, Submit, Step};
 ghost use Rattle.chain_core.specs.Held.{Stands};
 ghost use Rattle.ident.specs.PointView.{point_of};
 ghost use Rattle.chain_core.specs.Views.{arrive_reply_of, submit_reply_of};
-ghost use Rattle.script.specs.Names.{AllNames, Bound, bound_to};
+ghost use Rattle.script.specs.Names.{AllNames, Bound, bound_to, no_names};
 ghost use Rattle.script.specs.Meaning.{Arrives, ForgesBlock, OpensFollower, PrintsMempool, PrintsTip, PrintsUtxo};
 ghost use Rattle.script.specs.Meaning.{SubmitsTx, TellsFollower, ForwardsFollower, ClosesFollower};
 ghost use Rattle.script.specs.Meaning.{formed, is_late_line, Means, parse_within};
 ghost use Rattle.script.specs.RequestView.{AreNamed, HasFollowerRoom};
 ghost use Rattle.script.specs.Text.{script_size_limit};
 ghost use Rattle.scenario.specs.Run.{Scene, opening_scene, script_network};
-ghost use Rattle.scenario.specs.SessionView.{Forges, Holds, IsDone, IsObeyed};
+ghost use Rattle.scenario.specs.SessionView.{core_network, Forges, Holds, IsDone, IsObeyed};
 
 use crate::print::{
     print_arrival, print_closing, print_forging, print_forwarding, print_mempool, print_next,
@@ -86,9 +86,10 @@ fn arrive(
     bytes: &[u8],
 ) -> Result<ArriveReply, AllocError>
     ensures step { (s : State) → Stands core.old s → (t : State)
-        × Step (script_network core.old.genesis) s (Arrive (formed form bytes.now)) (arrive_reply_of result) t
+        × Step (core_network core.old) s (Arrive (formed form bytes.now)) (arrive_reply_of result) t
         × Stands core.new t }
     ensures genesis { core.new.genesis ≡ core.old.genesis }
+    ensures opened { core.new.opened ≡ core.old.opened }
 {
     let bytes = formed(alloc, form, bytes)?;
     core.arrive(&bytes)
@@ -102,9 +103,10 @@ fn submit(
 ) -> Result<SubmitReply, AllocError>
     ensures step { (all : AllNames) → AreNamed names.now all → (tx : Transaction)
         → bound_to name.now all.of_txs ≡ Some tx → (s : State) → Stands core.old s → (t : State)
-        × Step (script_network core.old.genesis) s (Submit (text_of (item_of_transaction tx)))
+        × Step (core_network core.old) s (Submit (text_of (item_of_transaction tx)))
         (submit_reply_of result) t × Stands core.new t }
     ensures genesis { core.new.genesis ≡ core.old.genesis }
+    ensures opened { core.new.opened ≡ core.old.opened }
 {
     let Some(tx) = names.tx_of(name) else {
         return Err(AllocError);
@@ -123,7 +125,7 @@ fn forge(
 ) -> Result<Result<usize, ForgeFault>, AllocError>
     ensures { IfOk result (λ answer. (s : Scene) → Stands core.now s.state → AreNamed names.old s.names
         → bound_to name.now s.names.of_bytes ≡ None
-        → Forges (script_network core.now.genesis) s name.now slot answer names.new) }
+        → Forges (core_network core.now) s name.now slot answer names.new) }
 {
     match core.forge(slot) {
         Ok(forged) => {
@@ -138,8 +140,8 @@ fn forge(
 impl Session {
     /// A session before the first line. Err where there is no memory for the outputs of the genesis.
     pub fn new(alloc: Global, genesis: Genesis) -> Result<Session, AllocError>
-        ensures holds { IfOk result (λ session. Holds session (opening_scene genesis)) }
-        ensures genesis { IfOk result (λ session. session.core.genesis ≡ genesis) }
+        ensures holds { IfOk result (λ session. Holds session (opening_scene (script_network genesis))) }
+        ensures network { IfOk result (λ session. core_network session.core ≡ script_network genesis) }
     {
         let names = Names::new(alloc, &genesis);
         Ok(Session {
@@ -149,13 +151,35 @@ impl Session {
         })
     }
 
+    /// A session before the first line, on a core of this genesis. Takes no memory.
+    pub fn on(alloc: Global, genesis: &Genesis, core: Core<TestScheme>) -> Session
+        ensures core { result.core ≡ core }
+        ensures names { AreNamed result.names (no_names genesis.now.params.network) }
+    {
+        let names = Names::new(alloc, genesis);
+        Session { alloc, core, names }
+    }
+
+    /// The core as the lines left it.
+    pub fn into_core(self) -> Core<TestScheme>
+        ensures { result ≡ self.core }
+    {
+        let Session {
+            alloc: _,
+            core,
+            names: _,
+        } = self;
+        core
+    }
+
     /// The bytes of a name arrive. The room for what it prints is taken first.
     fn arrive(&mut self, form: Form, name: Name<'_>) -> Result<Vec<u8>, Stop>
         ensures obeyed { (s : Scene) → Holds self.old s → (bound : Bound)
             → bound_to name.entry.text.now s.names.of_bytes ≡ Some bound
-            → IsDone (script_network self.old.core.genesis) s (Arrives form name.entry.text.now bound.bytes)
+            → IsDone (core_network self.old.core) s (Arrives form name.entry.text.now bound.bytes)
             result self.new }
         ensures genesis { self.new.core.genesis ≡ self.old.core.genesis }
+        ensures opened { self.new.core.opened ≡ self.old.core.opened }
     {
         let mut line = line_room(self.alloc, name)?;
         let bytes = bytes_named(&self.names, name.text);
@@ -170,8 +194,9 @@ impl Session {
     fn submit(&mut self, name: Name<'_>) -> Result<Vec<u8>, Stop>
         ensures obeyed { (s : Scene) → Holds self.old s → (tx : Transaction)
             → bound_to name.entry.text.now s.names.of_txs ≡ Some tx
-            → IsDone (script_network self.old.core.genesis) s (SubmitsTx name.entry.text.now tx) result self.new }
+            → IsDone (core_network self.old.core) s (SubmitsTx name.entry.text.now tx) result self.new }
         ensures genesis { self.new.core.genesis ≡ self.old.core.genesis }
+        ensures opened { self.new.core.opened ≡ self.old.core.opened }
     {
         let mut line = line_room(self.alloc, name)?;
         let reply = submit(&mut self.core, &self.names, name.text);
@@ -184,8 +209,9 @@ impl Session {
     /// A block is forged in a slot, and gets its name. The room for what it prints is taken first.
     fn forge(&mut self, name: Name<'_>, slot: u64) -> Result<Vec<u8>, Stop>
         ensures obeyed { (s : Scene) → Holds self.old s → bound_to name.entry.text.now s.names.of_bytes ≡ None
-            → IsDone (script_network self.old.core.genesis) s (ForgesBlock name.entry.text.now slot) result self.new }
+            → IsDone (core_network self.old.core) s (ForgesBlock name.entry.text.now slot) result self.new }
         ensures genesis { self.new.core.genesis ≡ self.old.core.genesis }
+        ensures opened { self.new.core.opened ≡ self.old.core.opened }
     {
         let mut line = line_room(self.alloc, name)?;
         let Ok(answer) = forge(&self.core, &mut self.names, name.text, slot) else {
@@ -201,9 +227,10 @@ impl Session {
     fn open(&mut self, name: Name<'_>) -> Result<Vec<u8>, Stop>
         ensures obeyed { HasFollowerRoom self.old.names name.entry.text.now → (s : Scene) → Holds self.old s
             → bound_to name.entry.text.now s.names.of_followers ≡ None
-            → IsDone (script_network self.old.core.genesis) s (OpensFollower name.entry.text.now) result
+            → IsDone (core_network self.old.core) s (OpensFollower name.entry.text.now) result
             self.new }
         ensures genesis { self.new.core.genesis ≡ self.old.core.genesis }
+        ensures opened { self.new.core.opened ≡ self.old.core.opened }
     {
         let mut line = line_room(self.alloc, name)?;
         let reply = self.core.open();
@@ -218,9 +245,10 @@ impl Session {
 
     /// The follower of a number is told what comes next. The room for what it prints is taken first.
     fn next(&mut self, name: Name<'_>, id: u64) -> Result<Vec<u8>, Stop>
-        ensures obeyed { (s : Scene) → Holds self.old s → IsDone (script_network self.old.core.genesis) s
+        ensures obeyed { (s : Scene) → Holds self.old s → IsDone (core_network self.old.core) s
             (TellsFollower name.entry.text.now id) result self.new }
         ensures genesis { self.new.core.genesis ≡ self.old.core.genesis }
+        ensures opened { self.new.core.opened ≡ self.old.core.opened }
     {
         let mut line = line_room(self.alloc, name)?;
         let reply = self.core.next(FollowerId { number: id });
@@ -233,9 +261,10 @@ impl Session {
     /// The follower of a number is set to the first of the points that is on the selected chain. The room for what it
     /// prints is taken first.
     fn forward(&mut self, name: Name<'_>, id: u64, points: &[Point]) -> Result<Vec<u8>, Stop>
-        ensures obeyed { (s : Scene) → Holds self.old s → IsDone (script_network self.old.core.genesis) s
+        ensures obeyed { (s : Scene) → Holds self.old s → IsDone (core_network self.old.core) s
             (ForwardsFollower name.entry.text.now id (map point_of points.now)) result self.new }
         ensures genesis { self.new.core.genesis ≡ self.old.core.genesis }
+        ensures opened { self.new.core.opened ≡ self.old.core.opened }
     {
         let mut line = line_room(self.alloc, name)?;
         let reply = self.core.forward(FollowerId { number: id }, points);
@@ -247,9 +276,10 @@ impl Session {
 
     /// The follower of a number is closed. The room for what it prints is taken first.
     fn close(&mut self, name: Name<'_>, id: u64) -> Result<Vec<u8>, Stop>
-        ensures obeyed { (s : Scene) → Holds self.old s → IsDone (script_network self.old.core.genesis) s
+        ensures obeyed { (s : Scene) → Holds self.old s → IsDone (core_network self.old.core) s
             (ClosesFollower name.entry.text.now id) result self.new }
         ensures genesis { self.new.core.genesis ≡ self.old.core.genesis }
+        ensures opened { self.new.core.opened ≡ self.old.core.opened }
     {
         let mut line = line_room(self.alloc, name)?;
         let reply = self.core.close(FollowerId { number: id });
@@ -262,7 +292,7 @@ impl Session {
     /// The question where the selected chain ends.
     fn tip(&self) -> Result<Vec<u8>, Stop>
         ensures { (s : Scene) → Holds self.now s
-            → IsDone (script_network self.now.core.genesis) s PrintsTip result self.now }
+            → IsDone (core_network self.now.core) s PrintsTip result self.now }
     {
         let Ok(mut line) = Vec::with_capacity(self.alloc, LONGEST_LINE.len()) else {
             return Err(Stop::OutOfMemory);
@@ -276,7 +306,7 @@ impl Session {
     /// The question what waits in the mempool.
     fn mempool(&self) -> Result<Vec<u8>, Stop>
         ensures { (s : Scene) → Holds self.now s
-            → IsDone (script_network self.now.core.genesis) s PrintsMempool result self.now }
+            → IsDone (core_network self.now.core) s PrintsMempool result self.now }
     {
         let mut line = Vec::new(self.alloc);
         match print_mempool(&mut line, &self.names, self.core.mempool()) {
@@ -288,7 +318,7 @@ impl Session {
     /// The question what is unspent on the selected chain.
     fn utxo(&self) -> Result<Vec<u8>, Stop>
         ensures { (s : Scene) → Holds self.now s
-            → IsDone (script_network self.now.core.genesis) s PrintsUtxo result self.now }
+            → IsDone (core_network self.now.core) s PrintsUtxo result self.now }
     {
         let utxo = self.core.utxo();
         let Ok(coin) = utxo.coin() else {
@@ -310,10 +340,11 @@ impl Session {
 
     /// Obeys a line that stands here in its script, and answers what it prints.
     pub fn obey(&mut self, at: LinePlace, line: &[u8]) -> Result<Vec<u8>, Stop>
-        ensures obeyed { (s : Scene) → Holds self.old s → IsObeyed (script_network self.old.core.genesis) s
+        ensures obeyed { (s : Scene) → Holds self.old s → IsObeyed (core_network self.old.core) s
             (Means at.number at.before s.names line.now) (is_late_line (parse_within at.before line.now)) result
             self.new }
         ensures genesis { self.new.core.genesis ≡ self.old.core.genesis }
+        ensures opened { self.new.core.opened ≡ self.old.core.opened }
         ensures size { OnOk result (at.before + length line.now ≤ script_size_limit) }
     {
         match self.names.obey(at, line) {

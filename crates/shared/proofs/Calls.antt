@@ -1,39 +1,48 @@
 -- What the steps of a caller's seat say of what its caller knows.
-use Rattle.std.proofs.Common.{◌≡◌, List, [], ◌∷◌, ◌++◌, length, refl, sym, ap, ◌∙◌, subst, ℕ, Ok}
+use Rattle.std.proofs.Common.{◌≡◌, ◌≢◌, List, [], ◌∷◌, ◌++◌, length, refl, sym, ap, ◌∙◌, subst, ℕ, Option, Result, Ok, Err}
 use Rattle.std.proofs.lemmas.List.{map-append}
 use Rattle.model.specs.Signature.{Verifies}
 use Rattle.model.specs.Genesis.{Genesis}
-use Rattle.model.specs.Ledger.{Network, network_of}
-use Rattle.model.specs.History.{State, Arrive, Entry, opening, Step, IsLegal}
-use Rattle.model.specs.Journal.{JournalEntry, Journal, history_of, calls_of, IsLegalJournal, IsCalled, IsLook}
-use Rattle.model.proofs.LegalHistories.{run_length}
+use Rattle.model.specs.Ledger.{Network, network_of, network_on}
+use Rattle.model.specs.History.{State, Event, Next, Reply, OutOfMemory, Entry, opening, Step, IsLegal}
+use Rattle.model.specs.Journal.{JournalEntry, Journal, history_of, calls_of, Knowledge, IsLegalJournal, IsCalled, IsLook}
+use Rattle.model.proofs.LegalHistories.{opens_nothing, run_length, legal_sound}
+use Rattle.model.proofs.OneReply.{reply_one}
 use Rattle.model.proofs.ToldChains.{run_on}
-use Rattle.chain_core.specs.Held.{Held, Stands, opening_held}
+use Rattle.chain_core.specs.Held.{Held, Stands, opening_held, network_held}
+use Rattle.chain_core.specs.Steps.{Steps}
+use Rattle.chain_core.specs.Views.{next_reply_of}
+use Rattle.chain_core.specs.declared.follower.Instruction.{Instruction}
+use Rattle.chain_core.specs.declared.follower.NextFault.{NextFault}
+use Rattle.chain_core.specs.declared.follower.NextFault.TheVariants as fault
+use Rattle.chain_core.specs.FollowerCalls.{Peeks}
 use Rattle.chain_core.proofs.ForCallers.{opening_stands as new_stands}
 use Rattle.shared.specs.Heights.{Role, Calls, Spent, SeatView, height_after, KnowsCalls, IsLooked, knowledge_of}
 use Rattle.shared.specs.Sealing.{IsSealed}
-use Rattle.shared.specs.Entries.{arrival_by}
-use Rattle.chain_core.specs.Views.{arrive_reply_of}
-use Rattle.chain_core.specs.declared.arrival.ArriveReply.{ArriveReply}
+use Rattle.shared.specs.Entries.{call_by}
+use Rattle.shared.specs.Answers.{IsAnswered, IsJournaled}
+use Rattle.shared.specs.Standing.{IsCoreOf}
 
 -- a journal without entries
 pub nothing_legal : (network : Network) → IsLegalJournal network []
-nothing_legal network = (opening, refl)
+nothing_legal network = (opening network, refl)
 
 -- a new core stands for the opening state
-pub opening_stands : (held : Held) → held ≡ opening_held held.genesis → Stands held opening
-opening_stands held new = subst (λ (h : Held). Stands h opening) (sym new) (new_stands held.genesis)
+pub opening_stands : (verifies : Verifies) (held : Held) → held ≡ opening_held held.genesis [] → Stands held (opening (network_of held.genesis verifies))
+opening_stands verifies held new =
+    let network = network_of held.genesis verifies in
+    subst (λ (h : Held). Stands h (opening network)) (sym new) (new_stands network (opens_nothing held.genesis verifies))
 
 -- one more entry, which is a step from where the journal ends
 pub legal_on : (network : Network) (journal : Journal) (s : State) (e : JournalEntry) (t : State) → IsLegal network (history_of journal) s → Step network s e.entry.event e.entry.reply t
     → IsLegal network (history_of (journal ++ e ∷ [])) t
 legal_on network journal s e t legal step =
     subst (λ (es : List Entry). IsLegal network es t) (sym (map-append (λ (x : JournalEntry). x.entry) journal (e ∷ [])))
-    (run_on network opening (history_of journal) s e.entry t legal step)
+    (run_on network (opening network) (history_of journal) s e.entry t legal step)
 
 -- the height is the length of the chain
-pub height_of_legal : (network : Network) (journal : Journal) (s : State) → IsLegal network (history_of journal) s → height_after journal ≡ length s.chain
-height_of_legal network journal s legal = sym (run_length network opening (history_of journal) s legal)
+pub height_of_legal : (genesis : Genesis) (verifies : Verifies) (journal : Journal) (s : State) → IsLegal (network_of genesis verifies) (history_of journal) s → height_after journal ≡ length s.chain
+height_of_legal genesis verifies journal s legal = let network = network_of genesis verifies in sym (run_length network (opening network) (history_of journal) s legal)
 
 -- ---- a look
 
@@ -49,7 +58,7 @@ look_of verifies genesis number v found w is role looked =
       seen = looked.seen;
       state = legal.0;
       legal = legal.1;
-      height_of = looked.height_is ∙ height_of_legal (network_of genesis verifies) w.seen legal.0 legal.1;
+      height_of = looked.height_is ∙ height_of_legal genesis verifies w.seen legal.0 legal.1;
       loads = ap (λ (u : SeatView). u.loads) looked.same;
       last = ap (λ (u : SeatView). u.last) looked.same;
       caller = refl;
@@ -75,8 +84,61 @@ call_of network number writer e v w own legal sealed =
       last = ap (λ (u : SeatView). u.last) sealed.same;
     }
 
--- the journal with an arrival
-pub arrival_legal : (network : Network) (journal seen : Journal) (s t : State) (caller : ℕ) (bytes : List ℕ) (reply : ArriveReply) → seen ≡ journal → IsLegal network (history_of journal) s
-    → Step network s (Arrive bytes) (arrive_reply_of (Ok reply)) t → IsLegal network (history_of (seen ++ arrival_by caller bytes reply ∷ [])) t
-arrival_legal network journal seen s t caller bytes reply same legal step =
-    subst (λ (j : Journal). IsLegal network (history_of (j ++ arrival_by caller bytes reply ∷ [])) t) (sym same) (legal_on network journal s (arrival_by caller bytes reply) t legal step)
+-- ---- the core under the lock
+
+-- a step of the core, and the journal with one more call
+pub core_after : (verifies : Verifies) (genesis : Genesis) (journal now : Journal) (held new : Held) (caller : ℕ) (event : Event) (reply : Reply) (e : JournalEntry) → IsCoreOf verifies genesis journal held → now ≡ journal → Steps verifies held event reply new → new.genesis ≡ held.genesis → new.opened ≡ held.opened → e ≡ call_by caller event reply
+    → IsCoreOf verifies genesis (now ++ e ∷ []) new
+core_after verifies genesis journal now held new caller event reply e core same steps genesis_same opened_same is =
+    let step = steps core.state core.stands in
+    let network = network_of genesis verifies in
+    let legal = legal_on network journal core.state (call_by caller event reply) step.0 core.legal (subst (λ (n : Network). Step n core.state event reply step.0) (λ i. network_on (core.genesis_is i) verifies (core.opened_is i)) step.1) in
+    record {
+      genesis_is = genesis_same ∙ core.genesis_is;
+      opened_is = opened_same ∙ core.opened_is;
+      state = step.0;
+      legal = subst (λ (x : Journal × JournalEntry). IsLegal network (history_of (x.0 ++ x.1 ∷ [])) step.0) (λ i. (sym same i, sym is i)) legal;
+      stands = step.2;
+    }
+
+-- what a seat that has seen all but the last call may store
+pub legal_of : (verifies : Verifies) (key genesis : Genesis) (journal seen : Journal) (e : JournalEntry) (held : Held) → IsCoreOf verifies genesis (journal ++ e ∷ []) held → key ≡ genesis → seen ≡ journal → IsLegalJournal (network_of key verifies) (seen ++ e ∷ [])
+legal_of verifies key genesis journal seen e held core is same =
+    subst (λ (x : Genesis × Journal). IsLegalJournal (network_of x.0 verifies) (x.1 ++ e ∷ [])) (λ i. (sym is i, sym same i)) (core.state, core.legal)
+
+pub height_of_core : (verifies : Verifies) (genesis : Genesis) (journal seen : Journal) (e : JournalEntry) (held : Held) (height : ℕ) → IsCoreOf verifies genesis (journal ++ e ∷ []) held → height ≡ length held.chain → seen ≡ journal → height ≡ height_after (seen ++ e ∷ [])
+height_of_core verifies genesis journal seen e held height core is same =
+    is ∙ ap length core.stands.chain ∙ sym (height_of_legal genesis verifies (journal ++ e ∷ []) core.state core.legal) ∙ ap (λ (j : Journal). height_after (j ++ e ∷ [])) (sym same)
+
+-- what a follower would be told is what it is told
+pub told_is : (verifies : Verifies) (genesis : Genesis) (journal : Journal) (held new : Held) (id : ℕ) (told answer : Reply) → IsCoreOf verifies genesis journal held → told ≢ OutOfMemory → answer ≢ OutOfMemory → Peeks verifies held id told → Steps verifies held (Next id) answer new → told ≡ answer
+told_is verifies genesis journal held new id told answer core enough enough_too peeks steps =
+    let one = peeks core.state core.stands in
+    let two = steps core.state core.stands in
+    let here : network_held held verifies ≡ network_of genesis verifies = λ i. network_on (core.genesis_is i) verifies (core.opened_is i) in
+    reply_one (network_of genesis verifies) core.state (Next id) told answer one.0 two.0 (legal_sound (network_of genesis verifies) (history_of journal) core.state (opens_nothing genesis verifies) core.legal) enough enough_too
+    (subst (λ (n : Network). Step n core.state (Next id) told one.0) here one.1) (subst (λ (n : Network). Step n core.state (Next id) answer two.0) here two.1)
+
+-- ---- what a call leaves, by an answer that isn't want of memory
+
+pub answered_as : (network : Network) (before : Knowledge) (event : Event) (reply written : Reply) (e : JournalEntry) (after : Knowledge) → reply ≢ OutOfMemory → reply ≡ written → e ≡ call_by before.caller event written → IsCalled network before e after → IsAnswered network before event reply after
+answered_as network before event reply written e after enough same is called =
+    told reply enough (subst (λ (x : JournalEntry). IsCalled network before x after) (is ∙ ap (call_by before.caller event) (sym same)) called)
+  where
+    told : (r : Reply) → r ≢ OutOfMemory → IsCalled network before (call_by before.caller event r) after → IsAnswered network before event r after
+    told OutOfMemory some made = absurd (some refl)
+    told r some made = made
+
+pub journaled_as : (old now : Journal) (caller : ℕ) (event : Event) (reply written : Reply) (e : JournalEntry) (new : Journal) → reply ≢ OutOfMemory → reply ≡ written → e ≡ call_by caller event written → now ≡ old → new ≡ now ++ e ∷ [] → IsJournaled old caller event reply new
+journaled_as old now caller event reply written e new enough same is still pushed =
+    told reply enough (pushed ∙ (λ i. still i ++ (is ∙ ap (call_by caller event) (sym same)) i ∷ []))
+  where
+    told : (r : Reply) → r ≢ OutOfMemory → new ≡ old ++ call_by caller event r ∷ [] → IsJournaled old caller event r new
+    told OutOfMemory some made = absurd (some refl)
+    told r some made = made
+
+-- what a follower is told is want of memory only where it is that fault
+pub want_is : {S : Type 0} (answer : Result (Option (Instruction S)) NextFault) → next_reply_of answer ≡ OutOfMemory → answer ≡ Err fault.OutOfMemory
+want_is (Ok told) e = absurd (cc)
+want_is (Err fault.UnknownFollower) e = absurd (cc)
+want_is (Err fault.OutOfMemory) e = refl

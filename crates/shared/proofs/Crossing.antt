@@ -22,6 +22,7 @@ use Rattle.shared.specs.contracts.heights.View as View
 use Rattle.shared.specs.contracts.heights.HeightRule as HeightRule
 use Rattle.shared.specs.contracts.heights.HeightRuleTableRuleUnitViewGenesis.TheImpl as rule
 use Rattle.shared.specs.contracts.journal_entry.JournalEntry as JournalEntry
+use Rattle.shared.specs.contracts.journal.Journal as Journal
 use Rattle.shared.specs.contracts.desk.Desk as Desk
 use Rattle.shared.specs.contracts.shared.Shared as Shared
 use Rattle.shared.proofs.caller.Caller.TheSendSync as caller
@@ -37,8 +38,11 @@ module _ (S : RattleType) (s : scheme.Ghosts S.Denot) where
   entry_send = let r = Reply-send S s in let e = event.the_field_send in search (crosses, sendable) depth 20
 
   module _ (B : RattleType) (b : room.Ghosts B.Denot) where
+    journal_send : IsSend (Journal.the_field S B s).row
+    journal_send = let e = entry_send in search (seat.the_send, crosses, sendable) depth 20
+
     desk_send : IsSend (Desk.the_field S B s b).row
-    desk_send = let c = Core-send S s in let e = entry_send in search (seat.the_send, crosses, sendable) depth 20
+    desk_send = let c = Core-send S s in let j = journal_send in search (crosses, sendable) depth 20
 
     -- the word, and the lock with what lies under it
     pub Shared-sync : IsSync (Shared.the_field S B b s).row

@@ -1,8 +1,9 @@
 -- Journals: what they begin with, and whose calls stand in them.
-use Rattle.std.proofs.Common.{◌≡◌, ◌≢◌, ℕ, zero, suc, ◌<◌, ◌==◌, List, [], ◌∷◌, ◌++◌, length, cond, Bool, Some, None, refl, sym, ap, ◌∙◌, append_assoc, append-nil, eq-eqb, ne_eqb, arith}
+use Rattle.std.proofs.Common.{◌≡◌, ◌≢◌, ℕ, zero, suc, ◌<◌, ◌==◌, List, [], ◌∷◌, ◌++◌, length, cond, ltb, Bool, true, false, Some, None, refl, sym, ap, ◌∙◌, append_assoc, append-nil, eq-eqb, ne_eqb, arith}
 use Rattle.std.specs.Prelude.{slice_get}
 use Rattle.std.proofs.lemmas.List.Elements.{filter-append}
 use Rattle.model.specs.Journal.{JournalEntry, Journal, calls_of, BeginsWithSeen}
+use Rattle.shared.specs.Heights.{longer}
 
 pub begins_all : (journal : Journal) → BeginsWithSeen journal journal
 begins_all journal = ([], sym (append-nil journal))
@@ -12,6 +13,14 @@ begins_nothing journal = (journal, refl)
 
 pub begins_longer : (journal more seen : Journal) → BeginsWithSeen journal seen → BeginsWithSeen (journal ++ more) seen
 begins_longer journal more seen begins = (begins.0 ++ more, ap (λ (j : Journal). j ++ more) begins.1 ∙ append_assoc seen begins.0 more)
+
+-- of two beginnings the longer one is a beginning
+begins_either : (journal a b : Journal) (t : Bool) → BeginsWithSeen journal a → BeginsWithSeen journal b → BeginsWithSeen journal (cond t a b)
+begins_either journal a b true one other = one
+begins_either journal a b false one other = other
+
+pub begins_longer_of : (journal a b : Journal) → BeginsWithSeen journal a → BeginsWithSeen journal b → BeginsWithSeen journal (longer a b)
+begins_longer_of journal a b = begins_either journal a b (ltb (length b) (length a))
 
 -- ---- whose call an entry is
 

@@ -1,5 +1,5 @@
 -- Each step of a seat keeps the rule of the height.
-use Rattle.std.proofs.Common.{◌≡◌, ◌≢◌, ℕ, zero, suc, ◌+◌, List, [], ◌∷◌, ◌++◌, length, set, true, Some, refl, sym, ap, ◌∙◌, subst, inl, inr, ⊎_elim, arith}
+use Rattle.std.proofs.Common.{◌≡◌, ◌≢◌, ℕ, zero, suc, ◌+◌, List, [], ◌∷◌, ◌++◌, length, set, true, false, Some, refl, sym, ap, ◌∙◌, subst, inl, inr, ⊎_elim, arith}
 use Rattle.std.specs.Prelude.{◌⊎◌, slice_get, slice_index, slice_set}
 use Rattle.std.proofs.lemmas.List.{length_push}
 use mathlib.Core.Option.{some, some-injective, some-ne-none}
@@ -10,8 +10,8 @@ use Rattle.model.specs.Signature.{Verifies}
 use Rattle.model.specs.Genesis.{Genesis}
 use Rattle.model.specs.Ledger.{network_of}
 use Rattle.model.specs.Journal.{JournalEntry, Journal, calls_of, BeginsWithSeen, IsLegalJournal}
-use Rattle.shared.specs.Heights.{height_after, Role, Deals, Calls, Carries, Spent, SeatView, first_view, without_right, note_of, with_note, spent_view, next_role, has_dealt, dealt_role, new_caller, FitsRole, Fits, IsKept, KnowsCalls, IsLooked, IsCompared, with_entry, IsWritten}
-use Rattle.shared.proofs.Journals.{begins_all, begins_nothing, begins_longer, calls_own, calls_other, seat_stays, seat_last, seat_below, one_seat}
+use Rattle.shared.specs.Heights.{height_after, Role, Deals, Calls, Carries, Spent, SeatView, first_view, without_right, note_of, with_note, copy_of, with_copy, with_news, spent_view, next_role, has_dealt, dealt_role, new_caller, FitsRole, Fits, IsKept, KnowsCalls, IsLooked, IsCompared, with_entry, IsWritten}
+use Rattle.shared.proofs.Journals.{begins_all, begins_nothing, begins_longer, begins_longer_of, calls_own, calls_other, seat_stays, seat_last, seat_below, one_seat}
 use Rattle.shared.proofs.Views.{AllFit, off, fits_set, fits_push}
 
 -- ---- the opening
@@ -313,3 +313,64 @@ writes_entry verifies genesis slots id me e new writes calling legal height s ke
 
     w : SeatView
     w = with_entry v e
+
+-- ---- notes without the right
+
+pub copies : {S : Type 0} (verifies : Verifies) (genesis : Genesis) (id : ℕ) (v : SeatView) → (v.role ≡ Spent → ⊥)
+    → Splits {S = S} (IsKept verifies genesis) id v v (copy_of v)
+copies verifies genesis id v serves s kept at =
+    let mine = kept.fits id v at serves in
+    record {
+      log = kept.log;
+      writer = kept.writer;
+      dealer = kept.dealer;
+      seats = kept.seats;
+      legal = kept.legal;
+      word = kept.word;
+      unknown = kept.unknown;
+      fits = fits_push genesis kept.log kept.writer kept.dealer kept.seats (set s.views id v) (copy_of v)
+          (fits_set genesis kept.log kept.writer kept.dealer kept.seats s.views id v
+          (λ by u apart was still. kept.fits by u was still)
+          (λ still. mine))
+          (λ still. record { genesis_is = mine.genesis_is; seen = mine.seen; before = begins_nothing kept.log; right = λ yes. absurd (off yes); role = tt });
+    }
+
+-- a seat takes a note in that has no right, and fits as it then is
+joins_as : {S : Type 0} (verifies : Verifies) (genesis : Genesis) (id : ℕ) (v : SeatView) (other : ℕ) (note w : SeatView) → (v.role ≡ Spent → ⊥) → (note.role ≡ Spent → ⊥)
+    → ((log : Journal) (writer dealer : ℕ) (seats : List ℕ) → Fits genesis log writer dealer seats id v → Fits genesis log writer dealer seats other note → Fits genesis log writer dealer seats id w)
+    → Joins {S = S} (IsKept verifies genesis) id v other note w spent_view
+joins_as verifies genesis id v other note w serves carries fit s kept at apart there =
+    record {
+      log = kept.log;
+      writer = kept.writer;
+      dealer = kept.dealer;
+      seats = kept.seats;
+      legal = kept.legal;
+      word = kept.word;
+      unknown = kept.unknown;
+      fits = fits_set genesis kept.log kept.writer kept.dealer kept.seats (set s.views id w) other spent_view
+          (λ by u far now still. ⊎_elim
+          (λ (x : (by ≡ id) × (w ≡ u)). subst (λ (y : ℕ × SeatView). Fits genesis kept.log kept.writer kept.dealer kept.seats y.0 y.1) (λ i. (sym x.0 i, x.1 i)) taken)
+          (λ (x : (by ≢ id) × (get_elem? s.views by ≡ some u)). kept.fits by u x.1 still)
+          (at_set s.views id by w u now))
+          (λ still. absurd (still refl));
+    }
+  where
+    elsewhere : ((other ≡ id) × (w ≡ note)) ⊎ ((other ≢ id) × (get_elem? s.views other ≡ some note)) → get_elem? s.views other ≡ some note
+    elsewhere (inl here) = absurd (apart here.0)
+    elsewhere (inr far) = far.1
+
+    taken : Fits genesis kept.log kept.writer kept.dealer kept.seats id w
+    taken = fit kept.log kept.writer kept.dealer kept.seats (kept.fits id v at serves) (kept.fits other note (elsewhere (at_set s.views id other w note there)) carries)
+
+pub lays : {S : Type 0} (verifies : Verifies) (genesis : Genesis) (id : ℕ) (v : SeatView) (other : ℕ) (note : SeatView) → (v.role ≡ Spent → ⊥) → (note.role ≡ Spent → ⊥)
+    → Joins {S = S} (IsKept verifies genesis) id v other note (with_copy v note) spent_view
+lays verifies genesis id v other note serves carries =
+    joins_as verifies genesis id v other note (with_copy v note) serves carries
+    (λ log writer dealer seats mine theirs. record { genesis_is = mine.genesis_is; seen = mine.seen; before = theirs.seen; right = mine.right; role = mine.role })
+
+pub learns : {S : Type 0} (verifies : Verifies) (genesis : Genesis) (id : ℕ) (v : SeatView) (other : ℕ) (note : SeatView) → (v.role ≡ Spent → ⊥) → (note.role ≡ Spent → ⊥) → v.writes ≡ false
+    → Joins {S = S} (IsKept verifies genesis) id v other note (with_news v note) spent_view
+learns verifies genesis id v other note serves carries reads =
+    joins_as verifies genesis id v other note (with_news v note) serves carries
+    (λ log writer dealer seats mine theirs. record { genesis_is = mine.genesis_is; seen = begins_longer_of log v.seen note.seen mine.seen theirs.seen; before = mine.seen; right = λ yes. absurd (off (sym reads ∙ yes)); role = mine.role })

@@ -2,7 +2,8 @@
 -- One word tells the height to all threads. What it stands for is a journal that exists in this rule alone: the word is
 -- the height after it, and each thread has a seat, whose view says which beginning of the journal its owner has seen.
 -- One seat at a time has the right to write.
-use Rattle.std.specs.Prelude.{◌≡◌, ℕ, suc, ◌+◌, ◌≤◌, List, [], ◌∷◌, ◌++◌, length, Some, None, slice_get, Bool, true, false}
+use Rattle.std.specs.Prelude.{◌≡◌, ℕ, suc, ◌+◌, ◌≤◌, List, [], ◌∷◌, ◌++◌, length, Some, None, slice_get, Bool, true}
+use Rattle.std.specs.Prelude.{false, nat_lt, if◌then◌else◌}
 use mathlib.Core.Option.{some}
 use lib.ListN.{get_elem?}
 use Rattle.atomic_table.specs.Table as table
@@ -10,12 +11,12 @@ use Rattle.atomic_table.specs.Seated.{TableId}
 use Rattle.model.specs.Signature.{Verifies}
 use Rattle.model.specs.Genesis.{Genesis}
 use Rattle.model.specs.Ledger.{network_of}
-use Rattle.model.specs.History.{Open, OutOfMemory, length_after}
+use Rattle.model.specs.History.{Open, OutOfMemory, length_from}
 use Rattle.model.specs.Journal.{JournalEntry, Journal, Knowledge, history_of, calls_of, IsLegalJournal, BeginsWithSeen}
 
--- the height after a journal: how many blocks the chain has that is then selected
+-- the height after a journal that begins from a new core: how many blocks the chain has that is then selected
 abbrev pub height_after : Journal → ℕ
-height_after journal = length_after (history_of journal)
+height_after journal = length_from 0 (history_of journal)
 
 -- ---- what a seat knows
 
@@ -82,6 +83,57 @@ with_note v note =
       role = v.role;
       writes = true;
       seen = note.seen;
+      before = v.seen;
+      calls = v.calls;
+      loads = v.loads;
+      last = v.last;
+    }
+
+-- ---- how callers meet, by notes without the right
+
+-- a note of what the seat has seen, without the right; the seat stays as it is
+abbrev pub copy_of : SeatView → SeatView
+copy_of v =
+    record {
+      genesis = v.genesis;
+      role = Carries;
+      writes = false;
+      seen = v.seen;
+      before = [];
+      calls = [];
+      loads = 0;
+      last = 0;
+    }
+
+abbrev pub unchanged : SeatView → SeatView
+unchanged v = v
+
+-- the seat lays what the note has seen beside what it has seen itself, so that a look can tell that this begins with it
+abbrev pub with_copy : SeatView → SeatView → SeatView
+with_copy v note =
+    record {
+      genesis = v.genesis;
+      role = v.role;
+      writes = v.writes;
+      seen = v.seen;
+      before = note.seen;
+      calls = v.calls;
+      loads = v.loads;
+      last = v.last;
+    }
+
+-- the longer of two journals
+abbrev pub longer : Journal → Journal → Journal
+longer a b = if nat_lt (length b) (length a) then a else b
+
+-- the seat learns from the note: it has seen the longer of the two, and keeps what it had seen before
+abbrev pub with_news : SeatView → SeatView → SeatView
+with_news v note =
+    record {
+      genesis = v.genesis;
+      role = v.role;
+      writes = v.writes;
+      seen = longer v.seen note.seen;
       before = v.seen;
       calls = v.calls;
       loads = v.loads;

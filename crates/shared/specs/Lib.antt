@@ -1,7 +1,11 @@
 pub mod Heights
 pub mod Codes
 pub mod Sealing
+pub mod Meeting
+pub mod Later
 pub mod Entries
+pub mod Answers
+pub mod Standing
 pub mod Callers
 pub mod Desks
 pub mod Opening

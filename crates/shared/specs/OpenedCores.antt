@@ -27,7 +27,7 @@ opened_view a = record { table = a.heights.shared.table_id; genesis = a.core.gen
 -- nothing came to the core, and the first seat of its word deals and writes
 pub record IsOpenedInside {S : Type 0} (a : Inside S) : Type 0 where
   pub count : AreCallers a.callers
-  pub new : a.core ≡ opening_held a.core.genesis
+  pub new : a.core ≡ opening_held a.core.genesis []
   pub words : a.heights.shared.table_id.words ≡ 1
   pub key : a.heights.shared.key ≡ a.core.genesis
   pub seat : a.seat.table_id ≡ a.heights.shared.table_id

@@ -1,38 +1,42 @@
 //! What lies under the lock.
 
-ghost use Rattle.std.specs.Prelude.{◌≡◌, ◌++◌, [], ◌∷◌, IfOk, IfErr, OnOk, OnErr};
+ghost use Rattle.std.specs.Prelude.{◌≡◌, ◌↔◌, ◌++◌, [], ◌∷◌, Ok, Err, IfOk, IfErr, OnOk, OnErr, IsTrue, map};
 ghost use Rattle.model.specs.Ledger.{network_of};
-ghost use Rattle.model.specs.Journal.{IsCalled};
-ghost use Rattle.shared.specs.Entries.{arrival_by};
-ghost use Rattle.shared.specs.Desks.{IsHeightOf};
+ghost use Rattle.model.specs.History.{Arrive, Submit, Open, Next, Forward, Close};
+ghost use Rattle.model.specs.Journal.{IsCalled, IsMeeting};
+ghost use Rattle.ident.specs.PointView.{point_of};
+ghost use Rattle.chain_core.specs.Views.{arrive_reply_of, submit_reply_of, open_reply_of, next_reply_of};
+ghost use Rattle.chain_core.specs.declared.follower.NextFault.TheVariants as fault;
+ghost use Rattle.shared.specs.Entries.{call_by};
+ghost use Rattle.shared.specs.Answers.{IsAnswered, IsJournaled, HasSeenAll, forwarded_reply, closed_reply, ComesBack};
+ghost use Rattle.shared.specs.Standing.{IsHeightOf};
 
 use crate::caller::Caller;
-use crate::heights::{HeightSeat, Heights};
-use crate::journal_entry::JournalEntry;
-use crate::not_arrived::NotArrived;
+use crate::faults::{CloseFault, NotArrived, NotForwarded, NotSubmitted};
+use crate::heights::Heights;
+use crate::journal::Journal;
 use crate::room::Room;
-use crate::sealing::seal;
-use chain_core::{ArriveReply, Core, RawEvent, Reply};
-use std::alloc::Global;
-use std::marker::{Model, PhantomData};
+use chain_core::{
+    ArriveReply, Core, FollowerId, Instruction, NextFault, OpenFault, RawEvent, Reply,
+    UnknownFollower,
+};
+use ident::Point;
+use mempool::SubmitReply;
+use std::marker::Model;
 use witness_pool::SigScheme;
 
-/// The core, the journal of all calls that were made, and the seat that has the right to write the height between them.
-/// A contract sees it as its journal.
+/// The core, and the journal of all calls that were made. A contract sees it as its journal.
 #[derive(Drop)]
 pub struct Desk<S: SigScheme, B: Room> {
-    pub(crate) alloc: Global,
     pub(crate) core: Core<S>,
-    pub(crate) entries: Vec<JournalEntry<S>>,
-    pub(crate) writer: HeightSeat,
-    pub(crate) room: PhantomData<B>,
+    pub(crate) journal: Journal<S, B>,
 }
 
 impl<S: SigScheme, B: Room> Model for Desk<S, B> {
-    ghost use Rattle.model.specs.Journal.{Journal};
+    ghost use Rattle.model.specs.Journal as model;
     ghost use Rattle.model.specs.JournalCodes.{coded_journal};
 
-    ghost Value = { Journal };
+    ghost Value = { model.Journal };
 
     ghost coded = { coded_journal };
 
@@ -43,9 +47,17 @@ impl<S: SigScheme, B: Room> Model for Desk<S, B> {
     ghost invariant = { IsDeskOf S.verifies B.table B.genesis };
 }
 
+/// Whether memory ran out for what a follower is to be told.
+fn is_want<S: SigScheme>(answer: &Result<Option<Instruction<S>>, NextFault>) -> bool
+    ensures { IsTrue result ↔ (answer.now ≡ Err fault.OutOfMemory) }
+{
+    matches!(answer, Err(NextFault::OutOfMemory))
+}
+
+// In each call room in the journal is taken first, then the core answers, and unless memory ran out the event and the
+// reply are the journal's last entry. So a call that memory runs out for changes nothing and is in no journal.
 impl<S: SigScheme, B: Room> Desk<S, B> {
-    /// Bytes of a block arrive, brought by the caller: the core answers, and the call stands in the journal, which
-    /// takes the bytes. Where memory runs out nothing changes, and the bytes come back.
+    /// Bytes of a block arrive, brought by the caller. The journal takes them; where memory runs out they come back.
     pub fn arrive(
         &mut self,
         heights: &Heights<S>,
@@ -54,30 +66,165 @@ impl<S: SigScheme, B: Room> Desk<S, B> {
     ) -> Result<ArriveReply, NotArrived>
         requires { IsHeightOf B.table B.genesis heights.now }
         // The call is the last entry of the journal, and the caller has seen all of it.
-        ensures journal { IfOk result (λ reply.
-            self.new ≡ self.old ++ arrival_by caller.old.caller bytes.items reply ∷ []) }
+        ensures journal { IfOk result (λ reply. self.new ≡ self.old
+            ++ call_by caller.old.caller (Arrive bytes.items) (arrive_reply_of (Ok reply)) ∷ []) }
         ensures seen { OnOk result (caller.new.seen ≡ self.new) }
         ensures called { IfOk result (λ reply. IsCalled (network_of B.genesis S.verifies) caller.old
-            (arrival_by caller.old.caller bytes.items reply) caller.new) }
+            (call_by caller.old.caller (Arrive bytes.items) (arrive_reply_of (Ok reply))) caller.new) }
         ensures err { OnErr result (self.new ≡ self.old) }
         ensures caller { OnErr result (caller.new ≡ caller.old) }
         ensures back { IfErr result (λ e. e.bytes ≡ bytes) }
     {
-        let Ok(()) = self.entries.reserve(1) else {
+        let Ok(()) = self.journal.reserve() else {
             return Err(NotArrived { bytes });
         };
         let Ok(reply) = self.core.arrive(&bytes) else {
             return Err(NotArrived { bytes });
         };
-        let entry = JournalEntry {
-            caller: caller.number,
-            peer: None,
-            event: RawEvent::Arrive(bytes),
-            reply: Reply::Arrive(Ok(reply)),
-        };
-        let height = self.core.height();
-        seal(heights, &mut self.writer, &mut caller.seat, &entry, height);
-        self.entries.push_reserved(entry);
+        let entry = caller.entry(RawEvent::Arrive(bytes), Reply::Arrive(Ok(reply)));
+        self.journal.write(heights, caller, &self.core, entry);
         Ok(reply)
+    }
+
+    /// Bytes of a transaction are submitted by the caller. The journal takes them; where memory runs out they come
+    /// back.
+    pub fn submit(
+        &mut self,
+        heights: &Heights<S>,
+        caller: &mut Caller<B>,
+        bytes: Vec<u8>,
+    ) -> Result<SubmitReply, NotSubmitted>
+        requires { IsHeightOf B.table B.genesis heights.now }
+        ensures journal { IfOk result (λ reply. self.new ≡ self.old
+            ++ call_by caller.old.caller (Submit bytes.items) (submit_reply_of (Ok reply)) ∷ []) }
+        ensures seen { OnOk result (caller.new.seen ≡ self.new) }
+        ensures called { IfOk result (λ reply. IsCalled (network_of B.genesis S.verifies) caller.old
+            (call_by caller.old.caller (Submit bytes.items) (submit_reply_of (Ok reply))) caller.new) }
+        ensures err { OnErr result (self.new ≡ self.old) }
+        ensures caller { OnErr result (caller.new ≡ caller.old) }
+        ensures back { IfErr result (λ e. e.bytes ≡ bytes) }
+    {
+        let Ok(()) = self.journal.reserve() else {
+            return Err(NotSubmitted { bytes });
+        };
+        let Ok(reply) = self.core.submit(&bytes) else {
+            return Err(NotSubmitted { bytes });
+        };
+        let entry = caller.entry(RawEvent::Submit(bytes), Reply::Submit(Ok(reply)));
+        self.journal.write(heights, caller, &self.core, entry);
+        Ok(reply)
+    }
+
+    /// A follower is opened for the caller.
+    pub fn open(
+        &mut self,
+        heights: &Heights<S>,
+        caller: &mut Caller<B>,
+    ) -> Result<FollowerId, OpenFault>
+        requires { IsHeightOf B.table B.genesis heights.now }
+        ensures journal { IsJournaled self.old caller.old.caller Open (open_reply_of result) self.new }
+        ensures seen { HasSeenAll (open_reply_of result) self.new caller.new }
+        ensures answered { IsAnswered (network_of B.genesis S.verifies) caller.old Open (open_reply_of result)
+            caller.new }
+    {
+        self.journal.reserve()?;
+        let answer = self.core.open();
+        if let Err(OpenFault::OutOfMemory) = answer {
+            return Err(OpenFault::OutOfMemory);
+        }
+        let entry = caller.entry(RawEvent::Open, Reply::Open(answer));
+        self.journal.write(heights, caller, &self.core, entry);
+        answer
+    }
+
+    /// The caller asks what a follower is told next. The block is shared by the core, the journal and the caller, and
+    /// the caller's share of it is taken before the core moves the follower on.
+    pub fn next(
+        &mut self,
+        heights: &Heights<S>,
+        caller: &mut Caller<B>,
+        id: FollowerId,
+    ) -> Result<Option<Instruction<S>>, NextFault>
+        requires { IsHeightOf B.table B.genesis heights.now }
+        ensures journal { IsJournaled self.old caller.old.caller (Next id.number) (next_reply_of result) self.new }
+        ensures seen { HasSeenAll (next_reply_of result) self.new caller.new }
+        ensures answered { IsAnswered (network_of B.genesis S.verifies) caller.old (Next id.number)
+            (next_reply_of result) caller.new }
+    {
+        self.journal.reserve()?;
+        let told = self.core.peek(id);
+        if is_want(&told) {
+            return Err(NextFault::OutOfMemory);
+        }
+        let answer = self.core.next(id);
+        if is_want(&answer) {
+            return Err(NextFault::OutOfMemory);
+        }
+        let entry = caller.entry(RawEvent::Next(id), Reply::Next(answer));
+        self.journal.write(heights, caller, &self.core, entry);
+        told
+    }
+
+    /// The caller has a follower set to the first of the points that is on the selected chain. The journal takes the
+    /// points; where memory runs out they come back.
+    pub fn forward(
+        &mut self,
+        heights: &Heights<S>,
+        caller: &mut Caller<B>,
+        id: FollowerId,
+        points: Vec<Point>,
+    ) -> Result<Option<Point>, NotForwarded>
+        requires { IsHeightOf B.table B.genesis heights.now }
+        ensures journal { IsJournaled self.old caller.old.caller (Forward id.number (map point_of points.items))
+            (forwarded_reply result) self.new }
+        ensures seen { HasSeenAll (forwarded_reply result) self.new caller.new }
+        ensures answered { IsAnswered (network_of B.genesis S.verifies) caller.old
+            (Forward id.number (map point_of points.items)) (forwarded_reply result) caller.new }
+        ensures back { IfErr result (ComesBack points) }
+    {
+        let Ok(()) = self.journal.reserve() else {
+            return Err(NotForwarded::OutOfMemory { points });
+        };
+        let answer = self.core.forward(id, &points);
+        let entry = caller.entry(RawEvent::Forward(id, points), Reply::Forward(answer));
+        self.journal.write(heights, caller, &self.core, entry);
+        match answer {
+            Ok(found) => Ok(found),
+            Err(UnknownFollower {}) => Err(NotForwarded::UnknownFollower),
+        }
+    }
+
+    /// The caller has a follower closed.
+    pub fn close(
+        &mut self,
+        heights: &Heights<S>,
+        caller: &mut Caller<B>,
+        id: FollowerId,
+    ) -> Result<(), CloseFault>
+        requires { IsHeightOf B.table B.genesis heights.now }
+        ensures journal { IsJournaled self.old caller.old.caller (Close id.number) (closed_reply result) self.new }
+        ensures seen { HasSeenAll (closed_reply result) self.new caller.new }
+        ensures answered { IsAnswered (network_of B.genesis S.verifies) caller.old (Close id.number)
+            (closed_reply result) caller.new }
+    {
+        self.journal.reserve()?;
+        let answer = self.core.close(id);
+        let entry = caller.entry(RawEvent::Close(id), Reply::Close(answer));
+        self.journal.write(heights, caller, &self.core, entry);
+        match answer {
+            Ok(()) => Ok(()),
+            Err(UnknownFollower {}) => Err(CloseFault::UnknownFollower),
+        }
+    }
+
+    /// Two callers see the whole journal.
+    pub fn meet(&mut self, heights: &Heights<S>, one: &mut Caller<B>, other: &mut Caller<B>)
+        requires { IsHeightOf B.table B.genesis heights.now }
+        ensures journal { self.new ≡ self.old }
+        ensures seen { (one.new.seen ≡ self.new) × (other.new.seen ≡ self.new) }
+        ensures meeting { IsMeeting one.old other.old one.new other.new }
+    {
+        self.journal.tell(heights, one);
+        self.journal.tell(heights, other);
     }
 }

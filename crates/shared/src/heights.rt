@@ -72,6 +72,39 @@ impl Split<View> for Dealing {
     ghost right = { new_caller };
 }
 
+/// What a seat has seen goes to another seat, by a note without the right.
+pub struct Copying;
+
+impl Split<View> for Copying {
+    ghost use Rattle.shared.specs.Heights.{unchanged, copy_of};
+
+    ghost left = { unchanged };
+
+    ghost right = { copy_of };
+}
+
+/// What a note has seen is laid beside what the seat has seen.
+pub struct Comparing;
+
+impl Join<View> for Comparing {
+    ghost use Rattle.shared.specs.Heights.{with_copy, spent_view};
+
+    ghost both = { with_copy };
+
+    ghost spent = { spent_view };
+}
+
+/// A seat learns from a note.
+pub struct Learning;
+
+impl Join<View> for Learning {
+    ghost use Rattle.shared.specs.Heights.{with_news, spent_view};
+
+    ghost both = { with_news };
+
+    ghost spent = { spent_view };
+}
+
 /// A look at the height.
 pub struct Looks<S: SigScheme> {
     scheme: PhantomData<S>,

@@ -7,6 +7,7 @@ ghost use Rattle.shared.specs.Opening.{IsOpenFault, newcomers};
 use crate::caller::Caller;
 use crate::desk::Desk;
 use crate::heights::{Dealing, HeightSeat, Heights};
+use crate::journal::Journal;
 use crate::open_fault::OpenFault;
 use crate::room::Room;
 use crate::shared::Shared;
@@ -98,13 +99,12 @@ impl<S: SigScheme> Opened<S> {
                 room: PhantomData,
             })?;
         }
-        let desk = Desk {
-            alloc,
-            core,
+        let journal = Journal {
             entries: Vec::new(alloc),
             writer: seat,
             room: PhantomData,
         };
+        let desk = Desk { core, journal };
         let desk = Mutex::new(desk);
         Ok((Shared { heights, desk }, all))
     }

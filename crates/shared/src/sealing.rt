@@ -40,8 +40,9 @@ fn lend<S: SigScheme>(heights: &Heights<S>, from: &mut HeightSeat, to: &mut Heig
     heights.shared.join_seat::<Lending>(to, note);
 }
 
-/// A look that tells that what a note brought begins with what had been seen before.
-fn compare<S: SigScheme>(heights: &Heights<S>, seat: &mut HeightSeat)
+/// A look that tells that what the seat has seen begins with what was laid beside it: what it had seen before a note
+/// came, or what the note has seen.
+pub fn compare<S: SigScheme>(heights: &Heights<S>, seat: &mut HeightSeat)
     requires word { heights.now.shared.table_id.words ≡ 1 }
     requires seat { seat.old.table_id ≡ heights.now.shared.table_id }
     requires serves { seat.old.me.0.role ≡ Spent → ⊥ }

@@ -1,18 +1,24 @@
 //! One core for many threads.
 
-ghost use Rattle.std.specs.Prelude.{◌≡◌, IfOk, IfErr, OnOk, OnErr};
+ghost use Rattle.std.specs.Prelude.{◌≡◌, Ok, IfOk, IfErr, OnErr, map};
 ghost use Rattle.model.specs.Ledger.{network_of};
-ghost use Rattle.model.specs.Journal.{IsCalled, IsLook};
-ghost use Rattle.shared.specs.Desks.{IsHeightOf};
-ghost use Rattle.shared.specs.Entries.{arrival_by};
+ghost use Rattle.model.specs.History.{Arrive, Submit, Open, Next, Forward, Close};
+ghost use Rattle.model.specs.Journal.{IsCalled, IsLook, IsMeeting};
+ghost use Rattle.ident.specs.PointView.{point_of};
+ghost use Rattle.chain_core.specs.Views.{arrive_reply_of, submit_reply_of, open_reply_of, next_reply_of};
+ghost use Rattle.shared.specs.Answers.{IsAnswered, forwarded_reply, closed_reply, ComesBack};
+ghost use Rattle.shared.specs.Standing.{IsHeightOf};
+ghost use Rattle.shared.specs.Entries.{call_by};
 
 use crate::caller::Caller;
 use crate::desk::Desk;
+use crate::faults::{CloseFault, NotArrived, NotForwarded, NotSubmitted};
 use crate::heights::Heights;
-use crate::not_arrived::NotArrived;
 use crate::room::Room;
 use crate::sealing::look;
-use chain_core::ArriveReply;
+use chain_core::{ArriveReply, FollowerId, Instruction, NextFault, OpenFault};
+use ident::Point;
+use mempool::SubmitReply;
 use std::sync::{Mutex, Wait};
 use witness_pool::SigScheme;
 
@@ -20,7 +26,9 @@ use witness_pool::SigScheme;
 /// the lock.
 ///
 /// What a contract says of a call it says of the caller: the journal that it has then seen is legal, begins with all
-/// that it had seen before, and ends with this call and its reply.
+/// that it had seen before, and ends with this call and its reply. A call that is refused stands in the journal too,
+/// but where memory runs out: then it is in no journal, and nothing changes. Each call takes room for its entry first,
+/// and that and the core's own want are all the memory that it asks for.
 #[derive(Drop)]
 pub struct Shared<S: SigScheme, B: Room> {
     pub(crate) heights: Heights<S>,
@@ -49,11 +57,100 @@ impl<S: SigScheme, B: Room> Shared<S, B> {
     ) -> Result<ArriveReply, NotArrived>
         // The caller has then seen a legal journal that begins with all that it had seen and ends with this call.
         ensures called { IfOk result (λ reply. IsCalled (network_of B.genesis S.verifies) caller.old
-            (arrival_by caller.old.caller bytes.items reply) caller.new) }
+            (call_by caller.old.caller (Arrive bytes.items) (arrive_reply_of (Ok reply))) caller.new) }
         ensures err { OnErr result (caller.new ≡ caller.old) }
         ensures back { IfErr result (λ e. e.bytes ≡ bytes) }
     {
         let mut desk = self.desk.lock(rt);
         desk.arrive(&self.heights, caller, bytes)
+    }
+
+    /// Bytes of a transaction are submitted by this caller. The call stands in the journal with its reply, whatever
+    /// that is, and the journal takes the bytes; where memory runs out it doesn't, nothing changes, and the bytes come
+    /// back. Waits for the lock. Costs what the submission costs the core, and copies no bytes beside.
+    pub fn submit<R: Wait>(
+        &self,
+        rt: &R,
+        caller: &mut Caller<B>,
+        bytes: Vec<u8>,
+    ) -> Result<SubmitReply, NotSubmitted>
+        ensures called { IfOk result (λ reply. IsCalled (network_of B.genesis S.verifies) caller.old
+            (call_by caller.old.caller (Submit bytes.items) (submit_reply_of (Ok reply))) caller.new) }
+        ensures err { OnErr result (caller.new ≡ caller.old) }
+        ensures back { IfErr result (λ e. e.bytes ≡ bytes) }
+    {
+        let mut desk = self.desk.lock(rt);
+        desk.submit(&self.heights, caller, bytes)
+    }
+
+    /// Opens a follower of the least number that is free, 0 to 1,023. That there are 1,024 stands in the journal as the
+    /// call's reply; where memory runs out nothing does, and nothing changes. Waits for the lock.
+    pub fn open<R: Wait>(&self, rt: &R, caller: &mut Caller<B>) -> Result<FollowerId, OpenFault>
+        // Unless memory ran out, the caller has then seen a legal journal that begins with all that it had seen and
+        // ends with this call and its reply.
+        ensures { IsAnswered (network_of B.genesis S.verifies) caller.old Open (open_reply_of result) caller.new }
+    {
+        let mut desk = self.desk.lock(rt);
+        desk.open(&self.heights, caller)
+    }
+
+    /// What the follower of this number is told next: to go back, a block, or nothing. That no such follower is open
+    /// stands in the journal as the call's reply; where memory runs out nothing does, and nothing changes. Waits for
+    /// the lock. In constant time: the block is shared with the journal, and none of its bytes are copied.
+    pub fn next<R: Wait>(
+        &self,
+        rt: &R,
+        caller: &mut Caller<B>,
+        id: FollowerId,
+    ) -> Result<Option<Instruction<S>>, NextFault>
+        ensures { IsAnswered (network_of B.genesis S.verifies) caller.old (Next id.number) (next_reply_of result)
+            caller.new }
+    {
+        let mut desk = self.desk.lock(rt);
+        desk.next(&self.heights, caller, id)
+    }
+
+    /// Sets the follower of this number to the first of the points that is on the selected chain, and answers that
+    /// point, or that none is. The call stands in the journal with its reply, also where no such follower is open, and
+    /// the journal takes the points; where memory runs out nothing changes, and the points come back. Waits for the
+    /// lock. A look-up by number for each point.
+    pub fn forward<R: Wait>(
+        &self,
+        rt: &R,
+        caller: &mut Caller<B>,
+        id: FollowerId,
+        points: Vec<Point>,
+    ) -> Result<Option<Point>, NotForwarded>
+        ensures answered { IsAnswered (network_of B.genesis S.verifies) caller.old
+            (Forward id.number (map point_of points.items)) (forwarded_reply result) caller.new }
+        ensures back { IfErr result (ComesBack points) }
+    {
+        let mut desk = self.desk.lock(rt);
+        desk.forward(&self.heights, caller, id, points)
+    }
+
+    /// Closes the follower of this number, which may then be given again. The call stands in the journal with its
+    /// reply, also where no such follower is open; where memory runs out it doesn't, and nothing changes. Waits for the
+    /// lock. In constant time.
+    pub fn close<R: Wait>(
+        &self,
+        rt: &R,
+        caller: &mut Caller<B>,
+        id: FollowerId,
+    ) -> Result<(), CloseFault>
+        ensures { IsAnswered (network_of B.genesis S.verifies) caller.old (Close id.number) (closed_reply result)
+            caller.new }
+    {
+        let mut desk = self.desk.lock(rt);
+        desk.close(&self.heights, caller, id)
+    }
+
+    /// Two callers meet: each has then seen the same journal, which begins with all that it had seen. Waits for the
+    /// lock. A few steps on the word of the height; takes no memory, and writes nothing.
+    pub fn meet<R: Wait>(&self, rt: &R, one: &mut Caller<B>, other: &mut Caller<B>)
+        ensures { IsMeeting one.old other.old one.new other.new }
+    {
+        let mut desk = self.desk.lock(rt);
+        desk.meet(&self.heights, one, other);
     }
 }

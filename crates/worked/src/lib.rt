@@ -11,7 +11,11 @@ mod follower_tests;
 #[cfg(test)]
 mod library_tests;
 #[cfg(test)]
+mod reopen_tests;
+#[cfg(test)]
 mod script_follower_tests;
+#[cfg(test)]
+mod script_from_tests;
 #[cfg(test)]
 mod script_io_tests;
 #[cfg(test)]

@@ -3,8 +3,10 @@
 ghost use Rattle.std.specs.Prelude.{◌≡◌};
 
 use super::fixture::{MEMORY, Made, SMALL_NETWORK, chain_of, kept, make, same};
-use chain_core::{ArriveReply, Refusal};
+use chain_core::{ArriveReply, Instruction, NextFault, Refusal};
 use genesis::Genesis;
+use ident::Point;
+use mempool::SubmitReply;
 use shared::{Caller, MAX_CALLERS, NotArrived, OpenFault, Opened, Room, Shared};
 use std::alloc::AllocError;
 use std::marker::Brand;
@@ -73,6 +75,55 @@ fn seen_by_another<B: Room, R: Wait + Abort + AllocGlobal>(rt: &R, opened: Opene
 fn height_is_seen_by_another(rt: HostRuntime) {
     let opened = open(&rt, 3).expect(&rt, "a shared core");
     seen_by_another::<Brand, _>(&rt, opened);
+}
+
+/// A caller submits bytes of no transaction, opens a follower, is told the block of these bytes and nothing more, sets
+/// the follower to genesis, closes it, and asks again.
+fn make_all_calls<B: Room, R: Wait + Abort + AllocGlobal>(
+    rt: &R,
+    shared: &Shared<TestScheme, B>,
+    caller: &mut Caller<B>,
+    bytes: &[u8],
+) {
+    let no_transaction = Vec::from_slice(rt.alloc(), b"\x80").expect(rt, MEMORY);
+    let reply = shared.submit(rt, caller, no_transaction);
+    assert!(rt; reply.is_ok_and(|reply| reply == SubmitReply::Malformed));
+    let id = shared.open(rt, caller).expect(rt, "a follower");
+    assert!(rt; id.number == 0);
+    let told = match shared.next(rt, caller, id) {
+        Ok(Some(Instruction::AddBlock(block))) => block.bytes() == bytes,
+        _ => false,
+    };
+    assert!(rt; told);
+    assert!(rt; matches!(shared.next(rt, caller, id), Ok(None)));
+    let genesis = vec![in rt.alloc(); Point::genesis()].expect(rt, MEMORY);
+    let found = shared.forward(rt, caller, id, genesis).expect(rt, MEMORY);
+    assert!(rt; found == Some(Point::genesis()));
+    assert!(rt; shared.close(rt, caller, id).is_ok());
+    assert!(rt; matches!(shared.next(rt, caller, id), Err(NextFault::UnknownFollower)));
+}
+
+/// One caller brings a block, and another, who made no call so far, makes one of each kind. Then the two meet.
+fn called_by_another<B: Room, R: Wait + Abort + AllocGlobal>(rt: &R, opened: Opened<TestScheme>)
+    requires table { opened.table ≡ B.table }
+    requires genesis { opened.genesis ≡ B.genesis }
+{
+    let bytes = make(rt, None, 1).text;
+    let (shared, mut callers) = opened.named::<B>().expect(rt, MEMORY);
+    let mut other = next_of(rt, &mut callers);
+    let mut one = next_of(rt, &mut callers);
+    let reply = arrive(rt, &shared, &mut one, &bytes).expect(rt, MEMORY);
+    assert!(rt; reply == kept(0, 1));
+    make_all_calls(rt, &shared, &mut other, &bytes);
+    same(rt, "height", shared.height(&mut other), 1);
+    shared.meet(rt, &mut one, &mut other);
+    same(rt, "height", shared.height(&mut one), 1);
+}
+
+#[test]
+fn calls_of_every_kind(rt: HostRuntime) {
+    let opened = open(&rt, 2).expect(&rt, "a shared core");
+    called_by_another::<Brand, _>(&rt, opened);
 }
 
 #[test]

@@ -1,9 +1,10 @@
-//! What data can't say of the log: a disk in memory that fails and is torn, and logs on it.
+//! What data can't say of the log: disks over a file that fails, logs on them, and cores on these.
 #![tactic(auto)]
 
+mod fake_file;
+#[cfg(test)]
+mod flush_tests;
 #[cfg(test)]
 mod log_tests;
-mod memory_disk;
-mod step;
 
-pub use memory_disk::MemoryDisk;
+pub use fake_file::FakeFile;

@@ -3,7 +3,8 @@ ghost use Rattle.std.specs.List.{AllByRecursion};
 ghost use Rattle.model.specs.Log.{IsLogBlock};
 ghost use Rattle.immlog.specs.Views.{lists_of};
 
-use crate::memory_disk::MemoryDisk;
+use crate::fake_file::FakeFile;
+use file_disk::FileDisk;
 use immlog::Log;
 use std::alloc::{AllocError, Global};
 use std::test::Fail;
@@ -23,7 +24,10 @@ fn two_blocks(alloc: Global) -> Result<Vec<Vec<u8>>, AllocError>
 // had been durable; None where no log was made or opened.
 fn opened_after(alloc: Global, calls: u64) -> Result<Option<(usize, usize)>, AllocError> {
     let blocks = two_blocks(alloc)?;
-    let Ok(mut log) = Log::create(alloc, MemoryDisk::new(alloc, calls)) else {
+    let Ok(disk) = FileDisk::open(alloc, FakeFile::new(calls)) else {
+        return Ok(None);
+    };
+    let Ok(mut log) = Log::create(alloc, disk) else {
         return Ok(None);
     };
     let _ = log.append(&blocks);

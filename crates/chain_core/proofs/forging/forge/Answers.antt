@@ -3,9 +3,9 @@ use Rattle.std.specs.List.{AllByRecursion}
 use Rattle.utxo_rules.specs.View.{params_of}
 use Rattle.model.specs.Cbor.{text_of}
 use Rattle.model.specs.Transaction.{Transaction}
-use Rattle.model.specs.Block.{item_of_transactions, block_hash_of, SpellsBlock}
+use Rattle.model.specs.Block.{Block, item_of_transactions, block_hash_of, SpellsBlock}
 use Rattle.model.specs.Genesis.{Genesis}
-use Rattle.model.specs.Ledger.{network_of}
+use Rattle.model.specs.Ledger.{network_on}
 use Rattle.model.specs.Chain.{genesis_tip, tip_after}
 use Rattle.model.specs.Mempool.{picked}
 use Rattle.mempool.specs.Picking.{IsSpelled}
@@ -20,13 +20,13 @@ use Rattle.chain_core.proofs.forging.forge.Goals as goal
 use Rattle.chain_core.proofs.forging.forge.Goals.{then-slot-ge-NUMBER_LIMIT-via-then-slot-ge-NUMBER_LIMIT, then-slot-ge-NUMBER_LIMIT-via-else-slot-ge-NUMBER_LIMIT+then-number-ge-NUMBER_LIMIT}
 
 pub returns-then-slot-clause-fault : goal.returns-then-slot-clause-fault
-returns-then-slot-clause-fault g c = λ genesis whole.
-    let network = network_of genesis g.S.SigScheme.verifies in
+returns-then-slot-clause-fault g c = λ genesis opened whole.
+    let network = network_on genesis g.S.SigScheme.verifies opened in
     not_after network c.args.chain_db.now.chain.items c.state-state.result.now (c.state-state.ensures network whole) c.args.chain_db.now.mempool.waiting.txs c.args.slot (omega arith)
 
 pub returns-then-slot-ge-NUMBER_LIMIT-clause-fault : goal.returns-then-slot-ge-NUMBER_LIMIT-clause-fault
-returns-then-slot-ge-NUMBER_LIMIT-clause-fault g c = λ genesis whole.
-    let network = network_of genesis g.S.SigScheme.verifies in
+returns-then-slot-ge-NUMBER_LIMIT-clause-fault g c = λ genesis opened whole.
+    let network = network_on genesis g.S.SigScheme.verifies opened in
     let which : (2 ^ 63 ≤ c.args.slot) ⊎ (2 ^ 63 ≤ length c.args.chain_db.now.chain.items + 1) = elim c.then-slot-ge-NUMBER_LIMIT.branch [
       | then-slot-ge-NUMBER_LIMIT-via-then-slot-ge-NUMBER_LIMIT w ↦ inl (omega arith)
       | then-slot-ge-NUMBER_LIMIT-via-else-slot-ge-NUMBER_LIMIT+then-number-ge-NUMBER_LIMIT w ↦ inr (omega arith)
@@ -35,20 +35,20 @@ returns-then-slot-ge-NUMBER_LIMIT-clause-fault g c = λ genesis whole.
 
 pub returns-in_err-body-clause-fault : goal.returns-in_err-body-clause-fault
 returns-in_err-body-clause-fault g c =
-    if_err c.from_residual.result fault.OutOfMemory (λ e. (genesis : Genesis) → IsWhole (network_of genesis g.S.SigScheme.verifies) c.args.chain_db.now → IsForgeFault (network_of genesis g.S.SigScheme.verifies) c.args.chain_db.now.chain.items c.args.slot e) c.from_residual.ensures.1
-    (λ genesis whole.
-    let network = network_of genesis g.S.SigScheme.verifies in
+    if_err c.from_residual.result fault.OutOfMemory (λ e. (genesis : Genesis) (opened : List Block) → IsWhole (network_on genesis g.S.SigScheme.verifies opened) c.args.chain_db.now → IsForgeFault (network_on genesis g.S.SigScheme.verifies opened) c.args.chain_db.now.chain.items c.args.slot e) c.from_residual.ensures.1
+    (λ genesis opened whole.
+    let network = network_on genesis g.S.SigScheme.verifies opened in
     no_fault network c.args.chain_db.now.chain.items c.state-state.result.now (c.state-state.ensures network whole) c.args.chain_db.now.mempool.waiting.txs c.args.slot (omega arith) (omega arith) (omega arith))
 
 pub returns-in_default-clause-fault : goal.returns-in_default-clause-fault
-returns-in_default-clause-fault g c = λ genesis whole.
-    let network = network_of genesis g.S.SigScheme.verifies in
+returns-in_default-clause-fault g c = λ genesis opened whole.
+    let network = network_on genesis g.S.SigScheme.verifies opened in
     no_fault network c.args.chain_db.now.chain.items c.state-state.result.now (c.state-state.ensures network whole) c.args.chain_db.now.mempool.waiting.txs c.args.slot (omega arith) (omega arith) (omega arith)
 
 pub returns-clause-forged : goal.returns-clause-forged
-returns-clause-forged g c = λ genesis is_genesis whole.
+returns-clause-forged g c = λ genesis opened is_genesis whole.
     let v = g.S.SigScheme.verifies in
-    let network = network_of genesis v in
+    let network = network_on genesis v opened in
     let a = c.args.chain_db.now in
     let state = c.state-state.result.now in
     let is = c.state-state.ensures network whole in

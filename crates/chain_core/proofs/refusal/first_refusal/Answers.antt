@@ -12,14 +12,14 @@ returns-then-point-immutable g c = λ network s b whole has read at.
 
 pub returns-then-has_text : goal.returns-then-has_text
 returns-then-has_text g c = λ network s b whole has read at.
-    let young : immutable_length network.genesis c.args.chain_db.now.chain.items < b.header.number = let number = at.0 in let young = c.if-point-immutable.false in let is = c.immutable.ensures.immutable network whole in omega arith in
+    let young : immutable_length network c.args.chain_db.now.chain.items < b.header.number = let number = at.0 in let young = c.if-point-immutable.false in let is = c.immutable.ensures.immutable network whole in omega arith in
     let text = block_text_is b c.args.bytes.now read.read in
     judged_known network c.args.chain_db.now s whole has b young
     (known_at c.args.chain_db.now.store b c.in-Some.stored.now c.args.point.hash.bytes c.in-Some.ensures.found (ap block_text (sym c.block.ensures) ∙ (c.if-has_text.ensures.0 refl ∙ sym text)))
 
 pub returns-in-Some : goal.returns-in-Some
 returns-in-Some g c = λ network s b whole has read at.
-    let young : immutable_length network.genesis c.args.chain_db.now.chain.items < b.header.number = let number = at.0 in let young = c.if-point-immutable.false in let is = c.immutable.ensures.immutable network whole in omega arith in
+    let young : immutable_length network c.args.chain_db.now.chain.items < b.header.number = let number = at.0 in let young = c.if-point-immutable.false in let is = c.immutable.ensures.immutable network whole in omega arith in
     let text = block_text_is b c.args.bytes.now read.read in
     let other = other_at c.args.chain_db.now.store b c.in-Some.stored.now c.args.point.hash.bytes c.get.ensures.set (c.get.ensures.one b (read_again b c.args.bytes.now read)) c.in-Some.ensures.found at.1
     (λ same. let e : false ≡ true = c.if-has_text.ensures.1 (ap block_text c.block.ensures ∙ (same ∙ text)) in cc) in
@@ -27,7 +27,7 @@ returns-in-Some g c = λ network s b whole has read at.
 
 pub returns-then-clashes_with_chain : goal.returns-then-clashes_with_chain
 returns-then-clashes_with_chain g c = λ network s b whole has read at.
-    let young : immutable_length network.genesis c.args.chain_db.now.chain.items < b.header.number = let number = at.0 in let young = c.if-point-immutable.false in let is = c.immutable.ensures.immutable network whole in omega arith in
+    let young : immutable_length network c.args.chain_db.now.chain.items < b.header.number = let number = at.0 in let young = c.if-point-immutable.false in let is = c.immutable.ensures.immutable network whole in omega arith in
     let none = none_at c.args.chain_db.now.store b c.args.point.hash.bytes (c.get.ensures.one b (read_again b c.args.bytes.now read)) c.in_default.ensures.found at.1 in
     let clash = clash_in s b c.args.point.hash.bytes c.args.bytes.now c.args.chain_db.now.chain.items has.chain read at.1 in
     let found = c.if-clashes_with_chain.ensures network whole c.in_default.ensures.found in
@@ -35,7 +35,7 @@ returns-then-clashes_with_chain g c = λ network s b whole has read at.
 
 pub returns-then-is_full : goal.returns-then-is_full
 returns-then-is_full g c = λ network s b whole has read at.
-    let young : immutable_length network.genesis c.args.chain_db.now.chain.items < b.header.number = let number = at.0 in let young = c.if-point-immutable.false in let is = c.immutable.ensures.immutable network whole in omega arith in
+    let young : immutable_length network c.args.chain_db.now.chain.items < b.header.number = let number = at.0 in let young = c.if-point-immutable.false in let is = c.immutable.ensures.immutable network whole in omega arith in
     let none = none_at c.args.chain_db.now.store b c.args.point.hash.bytes (c.get.ensures.one b (read_again b c.args.bytes.now read)) c.in_default.ensures.found at.1 in
     let clash = clash_in s b c.args.point.hash.bytes c.args.bytes.now c.args.chain_db.now.chain.items has.chain read at.1 in
     let found = c.if-clashes_with_chain.ensures network whole c.in_default.ensures.found in
@@ -43,7 +43,7 @@ returns-then-is_full g c = λ network s b whole has read at.
 
 pub returns : goal.returns
 returns g c = λ network s b whole has read at.
-    let young : immutable_length network.genesis c.args.chain_db.now.chain.items < b.header.number = let number = at.0 in let young = c.if-point-immutable.false in let is = c.immutable.ensures.immutable network whole in omega arith in
+    let young : immutable_length network c.args.chain_db.now.chain.items < b.header.number = let number = at.0 in let young = c.if-point-immutable.false in let is = c.immutable.ensures.immutable network whole in omega arith in
     let none = none_at c.args.chain_db.now.store b c.args.point.hash.bytes (c.get.ensures.one b (read_again b c.args.bytes.now read)) c.in_default.ensures.found at.1 in
     let clash = clash_in s b c.args.point.hash.bytes c.args.bytes.now c.args.chain_db.now.chain.items has.chain read at.1 in
     let found = c.if-clashes_with_chain.ensures network whole c.in_default.ensures.found in

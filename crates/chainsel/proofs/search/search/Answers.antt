@@ -5,7 +5,7 @@ use Rattle.std.proofs.lemmas.Slice.Eq.{bytes_eq-Decides}
 use Rattle.std.proofs.lemmas.List.Elements.{Contains-append_right}
 use Rattle.model.specs.Genesis.{Genesis}
 use Rattle.model.specs.Block.{Block, block_hash_of}
-use Rattle.model.specs.Ledger.{network_of}
+use Rattle.model.specs.Ledger.{network_on}
 use Rattle.model.proofs.Lists.{all_append, contains_first}
 use Rattle.ident.specs.Kinds.{BlockHash}
 use Rattle.blockstore.specs.Stored.{blocks_of}
@@ -23,32 +23,32 @@ use Rattle.chainsel.proofs.search.search.Given as given
 use Rattle.chainsel.proofs.search.search.Goals as goal
 
 pub returns-then-number-chain-clause-choice : goal.returns-then-number-chain-clause-choice
-returns-then-number-chain-clause-choice g c genesis ready =
-    let network = network_of genesis g.S.SigScheme.verifies in
+returns-then-number-chain-clause-choice g c genesis opened ready =
+    let network = network_on genesis g.S.SigScheme.verifies opened in
     let chain = c.args.chain.now in
     let store = c.args.store.now in
     let db = c.args.db.now in
     let new = c.args.new.now in
-    let found = subst (AllByRecursion (IsFoundDead network chain (new ∷ blocks_of store))) (sym c.deref.ensures.value) (c.loop-invalid.invariant.dead genesis ready) in
+    let found = subst (AllByRecursion (IsFoundDead network chain (new ∷ blocks_of store))) (sym c.deref.ensures.value) (c.loop-invalid.invariant.dead genesis opened ready) in
     let positive : 0 < new.header.number = let past = ready.past in omega arith in
     let within : c.in_ok-end.end.now.header.number ≤ length chain = let e = c.number.ensures in let le = c.if-number-chain.true in omega arith in
     subst (IsChoice network chain store db new) (sym c.keep.ensures.choice)
     (stays_by_number network chain store db new ready c.deref.result.now found c.in_ok-end.end.now (c.in_ok-end.ensures.best positive) within)
 
 pub returns-then-number-chain-clause-invalid : goal.returns-then-number-chain-clause-invalid
-returns-then-number-chain-clause-invalid g c genesis ready =
-    let network = network_of genesis g.S.SigScheme.verifies in
-    subst (AllByRecursion (IsFoundDead network c.args.chain.now (c.args.new.now ∷ blocks_of c.args.store.now))) (sym c.keep.ensures.invalid) (c.loop-invalid.invariant.dead genesis ready)
+returns-then-number-chain-clause-invalid g c genesis opened ready =
+    let network = network_on genesis g.S.SigScheme.verifies opened in
+    subst (AllByRecursion (IsFoundDead network c.args.chain.now (c.args.new.now ∷ blocks_of c.args.store.now))) (sym c.keep.ensures.invalid) (c.loop-invalid.invariant.dead genesis opened ready)
 
 pub returns-in_default-clause-choice : goal.returns-in_default-clause-choice
-returns-in_default-clause-choice g c genesis ready =
-    let network = network_of genesis g.S.SigScheme.verifies in
+returns-in_default-clause-choice g c genesis opened ready =
+    let network = network_on genesis g.S.SigScheme.verifies opened in
     let chain = c.args.chain.now in
     let store = c.args.store.now in
     let db = c.args.db.now in
     let new = c.args.new.now in
     let end = c.in_ok-end.end.now in
-    let found = subst (AllByRecursion (IsFoundDead network chain (new ∷ blocks_of store))) (sym c.deref-in-loop-invalid.ensures.value) (c.loop-invalid.invariant.dead genesis ready) in
+    let found = subst (AllByRecursion (IsFoundDead network chain (new ∷ blocks_of store))) (sym c.deref-in-loop-invalid.ensures.value) (c.loop-invalid.invariant.dead genesis opened ready) in
     let same = immutable_is network chain store db new ready c.saturating_sub-immutable.result c.depth.result c.saturating_sub-immutable.ensures c.depth.ensures.depth in
     let no_way = match_none _ _ c.in_ok-way.field-0 c.in_ok-way.ensures c.in_default.is in
     let descends : Descends store c.deref-in-loop-invalid.result.now new end =
@@ -58,13 +58,13 @@ returns-in_default-clause-choice g c genesis ready =
     (no_way (ready.alone, ready.settled.distinct) (chain_valid network chain store db new ready).linked (omega (arith, same))))
 
 pub returns-in_default-clause-invalid : goal.returns-in_default-clause-invalid
-returns-in_default-clause-invalid g c genesis ready =
-    let network = network_of genesis g.S.SigScheme.verifies in
-    subst (AllByRecursion (IsFoundDead network c.args.chain.now (c.args.new.now ∷ blocks_of c.args.store.now))) (sym c.keep-in_default.ensures.invalid) (c.loop-invalid.invariant.dead genesis ready)
+returns-in_default-clause-invalid g c genesis opened ready =
+    let network = network_on genesis g.S.SigScheme.verifies opened in
+    subst (AllByRecursion (IsFoundDead network c.args.chain.now (c.args.new.now ∷ blocks_of c.args.store.now))) (sym c.keep-in_default.ensures.invalid) (c.loop-invalid.invariant.dead genesis opened ready)
 
 pub returns-in-Ok-clause-choice : goal.returns-in-Ok-clause-choice
-returns-in-Ok-clause-choice g c genesis ready =
-    let network = network_of genesis g.S.SigScheme.verifies in
+returns-in-Ok-clause-choice g c genesis opened ready =
+    let network = network_on genesis g.S.SigScheme.verifies opened in
     let chain = c.args.chain.now in
     let store = c.args.store.now in
     let db = c.args.db.now in
@@ -73,20 +73,20 @@ returns-in-Ok-clause-choice g c genesis ready =
     let keep = c.in-Some.way.keep in
     let blocks = c.in-Some.way.blocks.items in
     let invalid = c.deref-in-loop-invalid.result.now in
-    let found = subst (AllByRecursion (IsFoundDead network chain (new ∷ blocks_of store))) (sym c.deref-in-loop-invalid.ensures.value) (c.loop-invalid.invariant.dead genesis ready) in
+    let found = subst (AllByRecursion (IsFoundDead network chain (new ∷ blocks_of store))) (sym c.deref-in-loop-invalid.ensures.value) (c.loop-invalid.invariant.dead genesis opened ready) in
     let same = immutable_is network chain store db new ready c.saturating_sub-immutable.result c.depth.result c.saturating_sub-immutable.ensures c.depth.ensures.depth in
     let positive : 0 < new.header.number = let past = ready.past in omega arith in
     let best : IsBest store invalid new end =
     subst (λ (hashes : List BlockHash). IsBest store hashes new end) (c.deref.ensures.value ∙ sym c.deref-in-loop-invalid.ensures.value) (c.in_ok-end.ensures.best positive) in
     let longer : length chain < end.header.number = let e = c.number.ensures in let not = c.if-number-chain.false in omega arith in
     let way = match_some _ _ c.in_ok-way.field-0 c.in-Some.way c.in_ok-way.ensures c.in-Some.is in
-    let prepared = subst (λ (bs : List Block). IsPreparedOf network (without_last (length chain - keep) chain) bs c.in-Ok.prepared) c.deref-in-loop-invalid-2.ensures.value (c.in-Ok.ensures.chain genesis chain ready.settled.database) in
+    let prepared = subst (λ (bs : List Block). IsPreparedOf network (without_last (length chain - keep) chain) bs c.in-Ok.prepared) c.deref-in-loop-invalid-2.ensures.value (c.in-Ok.ensures.chain genesis opened chain ready.settled.database) in
     switches network chain store db new ready invalid found end best longer c.saturating_sub-immutable.result keep same blocks way
     (record { back = length chain - keep; blocks = c.in-Some.way.blocks; prepared = c.in-Ok.prepared }) refl refl c.in-Ok.ensures.back prepared
 
 pub returns-then-eq-clause-choice : goal.returns-then-eq-clause-choice
-returns-then-eq-clause-choice g c genesis ready =
-    let network = network_of genesis g.S.SigScheme.verifies in
+returns-then-eq-clause-choice g c genesis opened ready =
+    let network = network_on genesis g.S.SigScheme.verifies opened in
     let chain = c.args.chain.now in
     let store = c.args.store.now in
     let db = c.args.db.now in
@@ -96,7 +96,7 @@ returns-then-eq-clause-choice g c genesis ready =
     let blocks = c.in-Some.way.blocks.items in
     let invalid = c.deref-in-loop-invalid.result.now in
     let index = c.in-Err-Refused.index in
-    let before = c.loop-invalid.invariant.dead genesis ready in
+    let before = c.loop-invalid.invariant.dead genesis opened ready in
     let found = subst (AllByRecursion (IsFoundDead network chain (new ∷ blocks_of store))) (sym c.deref-in-loop-invalid.ensures.value) before in
     let same = immutable_is network chain store db new ready c.saturating_sub-immutable.result c.depth.result c.saturating_sub-immutable.ensures c.depth.ensures.depth in
     let positive : 0 < new.header.number = let past = ready.past in omega arith in
@@ -105,7 +105,7 @@ returns-then-eq-clause-choice g c genesis ready =
     let longer : length chain < end.header.number = let e = c.number.ensures in let not = c.if-number-chain.false in omega arith in
     let way = match_some _ _ c.in_ok-way.field-0 c.in-Some.way c.in_ok-way.ensures c.in-Some.is in
     let stops = subst (IsFaultOnChain network (without_last (length chain - keep) chain) blocks) c.in-Err-Refused.field-0-is
-    (subst (λ (bs : List Block). IsFaultOnChain network (without_last (length chain - keep) chain) bs c.in-Err-Refused.field-0) c.deref-in-loop-invalid-2.ensures.value (c.in-Err-Refused.ensures.chain_refused genesis chain ready.settled.database)) in
+    (subst (λ (bs : List Block). IsFaultOnChain network (without_last (length chain - keep) chain) bs c.in-Err-Refused.field-0) c.deref-in-loop-invalid-2.ensures.value (c.in-Err-Refused.ensures.chain_refused genesis opened chain ready.settled.database)) in
     let dead = dies network chain store db new ready invalid found end best longer c.saturating_sub-immutable.result keep same blocks way index c.in-Err-Refused.field-0-1 c.index.result.now c.hash-dead.result stops
     (sym c.index.ensures) c.hash-dead.ensures in
     let all = subst (AllByRecursion (IsFoundDead network chain (new ∷ blocks_of store))) (sym c.in_ok-push-in-Err-Refused.ensures.items)
@@ -118,8 +118,8 @@ returns-then-eq-clause-choice g c genesis ready =
     (stays_by_death network chain store db new ready c.push.new.self.items all c.hash-dead.result among named)
 
 pub returns-then-eq-clause-invalid : goal.returns-then-eq-clause-invalid
-returns-then-eq-clause-invalid g c genesis ready =
-    let network = network_of genesis g.S.SigScheme.verifies in
+returns-then-eq-clause-invalid g c genesis opened ready =
+    let network = network_on genesis g.S.SigScheme.verifies opened in
     let chain = c.args.chain.now in
     let store = c.args.store.now in
     let db = c.args.db.now in
@@ -129,7 +129,7 @@ returns-then-eq-clause-invalid g c genesis ready =
     let blocks = c.in-Some.way.blocks.items in
     let invalid = c.deref-in-loop-invalid.result.now in
     let index = c.in-Err-Refused.index in
-    let before = c.loop-invalid.invariant.dead genesis ready in
+    let before = c.loop-invalid.invariant.dead genesis opened ready in
     let found = subst (AllByRecursion (IsFoundDead network chain (new ∷ blocks_of store))) (sym c.deref-in-loop-invalid.ensures.value) before in
     let same = immutable_is network chain store db new ready c.saturating_sub-immutable.result c.depth.result c.saturating_sub-immutable.ensures c.depth.ensures.depth in
     let positive : 0 < new.header.number = let past = ready.past in omega arith in
@@ -138,7 +138,7 @@ returns-then-eq-clause-invalid g c genesis ready =
     let longer : length chain < end.header.number = let e = c.number.ensures in let not = c.if-number-chain.false in omega arith in
     let way = match_some _ _ c.in_ok-way.field-0 c.in-Some.way c.in_ok-way.ensures c.in-Some.is in
     let stops = subst (IsFaultOnChain network (without_last (length chain - keep) chain) blocks) c.in-Err-Refused.field-0-is
-    (subst (λ (bs : List Block). IsFaultOnChain network (without_last (length chain - keep) chain) bs c.in-Err-Refused.field-0) c.deref-in-loop-invalid-2.ensures.value (c.in-Err-Refused.ensures.chain_refused genesis chain ready.settled.database)) in
+    (subst (λ (bs : List Block). IsFaultOnChain network (without_last (length chain - keep) chain) bs c.in-Err-Refused.field-0) c.deref-in-loop-invalid-2.ensures.value (c.in-Err-Refused.ensures.chain_refused genesis opened chain ready.settled.database)) in
     let dead = dies network chain store db new ready invalid found end best longer c.saturating_sub-immutable.result keep same blocks way index c.in-Err-Refused.field-0-1 c.index.result.now c.hash-dead.result stops
     (sym c.index.ensures) c.hash-dead.ensures in
     let all = subst (AllByRecursion (IsFoundDead network chain (new ∷ blocks_of store))) (sym c.in_ok-push-in-Err-Refused.ensures.items)
@@ -146,39 +146,39 @@ returns-then-eq-clause-invalid g c genesis ready =
     subst (AllByRecursion (IsFoundDead network chain (new ∷ blocks_of store))) (sym c.keep-then-eq.ensures.invalid) all
 
 pub returns-then-number-chain-clause-told : goal.returns-then-number-chain-clause-told
-returns-then-number-chain-clause-told g c genesis ready =
-    let network = network_of genesis g.S.SigScheme.verifies in
+returns-then-number-chain-clause-told g c genesis opened ready =
+    let network = network_on genesis g.S.SigScheme.verifies opened in
     let chain = c.args.chain.now in
     let store = c.args.store.now in
     let new = c.args.new.now in
     let positive : 0 < new.header.number = let past = ready.past in omega arith in
     let within : c.in_ok-end.end.now.header.number ≤ length chain = let e = c.number.ensures in let le = c.if-number-chain.true in omega arith in
-    when_kept genesis chain store new c.keep.result.invalid.items c.keep.result.choice c.keep.ensures.choice
-    (subst (AreShort genesis chain store new) (c.deref.ensures.value ∙ sym c.keep.ensures.invalid)
+    when_kept network chain store new c.keep.result.invalid.items c.keep.result.choice c.keep.ensures.choice
+    (subst (AreShort network chain store new) (c.deref.ensures.value ∙ sym c.keep.ensures.invalid)
     (short_by_number network chain store c.args.db.now new ready c.deref.result.now c.in_ok-end.end.now (c.in_ok-end.ensures.best positive) within))
 
 pub returns-in_default-clause-told : goal.returns-in_default-clause-told
-returns-in_default-clause-told g c genesis ready =
-    let network = network_of genesis g.S.SigScheme.verifies in
+returns-in_default-clause-told g c genesis opened ready =
+    let network = network_on genesis g.S.SigScheme.verifies opened in
     let chain = c.args.chain.now in
     let store = c.args.store.now in
     let db = c.args.db.now in
     let new = c.args.new.now in
     let end = c.in_ok-end.end.now in
     let invalid = c.deref-in-loop-invalid.result.now in
-    let found = subst (AllByRecursion (IsFoundDead network chain (new ∷ blocks_of store))) (sym c.deref-in-loop-invalid.ensures.value) (c.loop-invalid.invariant.dead genesis ready) in
+    let found = subst (AllByRecursion (IsFoundDead network chain (new ∷ blocks_of store))) (sym c.deref-in-loop-invalid.ensures.value) (c.loop-invalid.invariant.dead genesis opened ready) in
     let same = immutable_is network chain store db new ready c.saturating_sub-immutable.result c.depth.result c.saturating_sub-immutable.ensures c.depth.ensures.depth in
     let no_way = match_none _ _ c.in_ok-way.field-0 c.in_ok-way.ensures c.in_default.is in
     let descends : Descends store invalid new end =
     subst (λ (hashes : List BlockHash). Descends store hashes new end) (c.deref.ensures.value ∙ sym c.deref-in-loop-invalid.ensures.value) c.in_ok-end.ensures.descends in
-    when_kept genesis chain store new c.keep-in_default.result.invalid.items c.keep-in_default.result.choice c.keep-in_default.ensures.choice
-    (subst (AreShort genesis chain store new) (c.deref-in-loop-invalid.ensures.value ∙ sym c.keep-in_default.ensures.invalid)
+    when_kept network chain store new c.keep-in_default.result.invalid.items c.keep-in_default.result.choice c.keep-in_default.ensures.choice
+    (subst (AreShort network chain store new) (c.deref-in-loop-invalid.ensures.value ∙ sym c.keep-in_default.ensures.invalid)
     (short_by_way network chain store db new ready invalid found c.saturating_sub-immutable.result end same descends
     (no_way (ready.alone, ready.settled.distinct) (chain_valid network chain store db new ready).linked (omega (arith, same)))))
 
 pub returns-in-Ok-clause-told : goal.returns-in-Ok-clause-told
-returns-in-Ok-clause-told g c genesis ready =
-    let network = network_of genesis g.S.SigScheme.verifies in
+returns-in-Ok-clause-told g c genesis opened ready =
+    let network = network_on genesis g.S.SigScheme.verifies opened in
     let chain = c.args.chain.now in
     let store = c.args.store.now in
     let db = c.args.db.now in
@@ -192,12 +192,12 @@ returns-in-Ok-clause-told g c genesis ready =
     let longer : length chain < end.header.number = let e = c.number.ensures in let not = c.if-number-chain.false in omega arith in
     let way = subst (λ (hashes : List BlockHash). IsWay store hashes chain c.saturating_sub-immutable.result new end keep c.in-Some.way.blocks.items) c.deref-in-loop-invalid.ensures.value
     (match_some _ _ c.in_ok-way.field-0 c.in-Some.way c.in_ok-way.ensures c.in-Some.is) in
-    none_better network chain store db new ready invalid (c.loop-invalid.invariant.dead genesis ready) end best longer c.saturating_sub-immutable.result keep same c.in-Some.way.blocks.items way
+    none_better network chain store db new ready invalid (c.loop-invalid.invariant.dead genesis opened ready) end best longer c.saturating_sub-immutable.result keep same c.in-Some.way.blocks.items way
     (length chain - keep) c.in-Some.way.blocks.items refl refl
 
 pub returns-then-eq-clause-told : goal.returns-then-eq-clause-told
-returns-then-eq-clause-told g c genesis ready =
-    let network = network_of genesis g.S.SigScheme.verifies in
+returns-then-eq-clause-told g c genesis opened ready =
+    let network = network_on genesis g.S.SigScheme.verifies opened in
     let chain = c.args.chain.now in
     let store = c.args.store.now in
     let new = c.args.new.now in
@@ -206,8 +206,8 @@ returns-then-eq-clause-told g c genesis ready =
     subst (λ (hashes : List BlockHash). Contains hashes dead) (sym c.in_ok-push-in-Err-Refused.ensures.items)
     (Contains-append_right c.loop-invalid.invalid.items (dead ∷ []) dead (contains_first dead [])) in
     let named : dead.bytes ≡ block_hash_of new = (bytes_eq-Decides dead.bytes c.hash.result.bytes).0 (sym c.if-eq.ensures) ∙ c.hash.ensures in
-    when_kept genesis chain store new c.keep-then-eq.result.invalid.items c.keep-then-eq.result.choice c.keep-then-eq.ensures.choice
-    (subst (AreShort genesis chain store new) (sym c.keep-then-eq.ensures.invalid)
+    when_kept network chain store new c.keep-then-eq.result.invalid.items c.keep-then-eq.result.choice c.keep-then-eq.ensures.choice
+    (subst (AreShort network chain store new) (sym c.keep-then-eq.ensures.invalid)
     (short_by_death network chain store c.args.db.now new ready c.push.new.self.items dead among named))
 
 pub returns-then-number-chain-clause-switch : goal.returns-then-number-chain-clause-switch
@@ -251,10 +251,10 @@ found_now g c =
 pub loop-invalid-preserved : goal.loop-invalid-preserved
 loop-invalid-preserved g c = record { found = found_now g c; dead = dead }
   where
-    dead : (genesis : Genesis) → IsReady (network_of genesis g.S.SigScheme.verifies) c.args.chain.now c.args.store.now c.args.db.now c.args.new.now
-        → AllByRecursion (IsFoundDead (network_of genesis g.S.SigScheme.verifies) c.args.chain.now (c.args.new.now ∷ blocks_of c.args.store.now)) c.push.new.self.items
-    dead genesis ready =
-        let network = network_of genesis g.S.SigScheme.verifies in
+    dead : (genesis : Genesis) (opened : List Block) → IsReady (network_on genesis g.S.SigScheme.verifies opened) c.args.chain.now c.args.store.now c.args.db.now c.args.new.now
+        → AllByRecursion (IsFoundDead (network_on genesis g.S.SigScheme.verifies opened) c.args.chain.now (c.args.new.now ∷ blocks_of c.args.store.now)) c.push.new.self.items
+    dead genesis opened ready =
+        let network = network_on genesis g.S.SigScheme.verifies opened in
         let chain = c.args.chain.now in
         let store = c.args.store.now in
         let db = c.args.db.now in
@@ -264,7 +264,7 @@ loop-invalid-preserved g c = record { found = found_now g c; dead = dead }
         let blocks = c.in-Some.way.blocks.items in
         let invalid = c.deref-in-loop-invalid.result.now in
         let index = c.in-Err-Refused.index in
-        let before = c.loop-invalid.invariant.dead genesis ready in
+        let before = c.loop-invalid.invariant.dead genesis opened ready in
         let found = subst (AllByRecursion (IsFoundDead network chain (new ∷ blocks_of store))) (sym c.deref-in-loop-invalid.ensures.value) before in
         let same = immutable_is network chain store db new ready c.saturating_sub-immutable.result c.depth.result c.saturating_sub-immutable.ensures c.depth.ensures.depth in
         let positive : 0 < new.header.number = let past = ready.past in omega arith in
@@ -273,7 +273,7 @@ loop-invalid-preserved g c = record { found = found_now g c; dead = dead }
         let longer : length chain < end.header.number = let e = c.number.ensures in let not = c.if-number-chain.false in omega arith in
         let way = match_some _ _ c.in_ok-way.field-0 c.in-Some.way c.in_ok-way.ensures c.in-Some.is in
         let stops = subst (IsFaultOnChain network (without_last (length chain - keep) chain) blocks) c.in-Err-Refused.field-0-is
-        (subst (λ (bs : List Block). IsFaultOnChain network (without_last (length chain - keep) chain) bs c.in-Err-Refused.field-0) c.deref-in-loop-invalid-2.ensures.value (c.in-Err-Refused.ensures.chain_refused genesis chain ready.settled.database)) in
+        (subst (λ (bs : List Block). IsFaultOnChain network (without_last (length chain - keep) chain) bs c.in-Err-Refused.field-0) c.deref-in-loop-invalid-2.ensures.value (c.in-Err-Refused.ensures.chain_refused genesis opened chain ready.settled.database)) in
         let dead = dies network chain store db new ready invalid found end best longer c.saturating_sub-immutable.result keep same blocks way index c.in-Err-Refused.field-0-1 c.index.result.now c.hash-dead.result stops
         (sym c.index.ensures) c.hash-dead.ensures in
         let all = subst (AllByRecursion (IsFoundDead network chain (new ∷ blocks_of store))) (sym c.in_ok-push-in-Err-Refused.ensures.items)

@@ -7,5 +7,5 @@ pub returns-clause-valid : goal.returns-clause-valid
 returns-clause-valid c = forged_valid
 
 pub returns-clause-arrives : goal.returns-clause-arrives
-returns-clause-arrives c = λ network history s slot b bytes genesis legal forged spelled.
-    arrives_next network s s.mempool slot b bytes genesis (sound_is_ready network s (legal_sound network history s legal)) forged spelled
+returns-clause-arrives c = λ network history s slot b bytes genesis opens legal forged spelled.
+    arrives_next network s s.mempool slot b bytes genesis (sound_is_ready network s (legal_sound network history s opens legal)) forged spelled

@@ -9,7 +9,7 @@ returns-clause-begins c = λ network s later t run. (run_goes_on network s later
 pub returns-clause-grows : goal.returns-clause-grows
 returns-clause-grows c = λ network s later t run.
     let on = run_goes_on network s later t run in
-    begins_earlier network.genesis s.chain t.chain (immutable_part network.genesis t.chain) on.not_shorter on.begins (begins_with_whole (immutable_part network.genesis t.chain))
+    begins_earlier network s.chain t.chain (immutable_part network t.chain) on.not_shorter on.begins (begins_with_whole (immutable_part network t.chain))
 
 pub returns-clause-candidates : goal.returns-clause-candidates
 returns-clause-candidates c = λ network s later t kept candidate run through.

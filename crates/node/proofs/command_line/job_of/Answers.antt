@@ -1,17 +1,21 @@
-use Rattle.std.proofs.Common.{sym, ◌∙◌, codes}
+use Rattle.std.proofs.Common.{codes, inl, inr}
 use Rattle.std.specs.Box.{box_value}
-use Rattle.clap.specs.Words.{found_of, rows_of}
+use Rattle.clap.specs.Words.{found_of, rows_of, subcommand_rows_of}
 use Rattle.clap.specs.declared.parser.matches.ArgMatches.TheViews.{out-ArgMatches, out-SubCommand}
-use Rattle.clap.proofs.WalkLemmas.{first_value-rows}
-use Rattle.node.proofs.Found.{name_and_rows, same_text}
+use Rattle.node.specs.JobView.{IsJobOf, IsRunJob, IsReplayJob}
+use Rattle.node.proofs.Found.{name_and_rows, same_text, some_weaker}
 use Rattle.node.proofs.command_line.job_of.Goals as goal
 
-pub returns : goal.returns
-returns c = record {
-  rows = rows_of (found_of c.in_ok-name.found.now);
-  is_found = name_and_rows (λ b. (out-SubCommand (box_value b)).name.now) (λ b. rows_of (found_of (out-SubCommand (box_value b)).matches)) (out-ArgMatches c.args.matches.now).subcommand
-      c.in_ok-name.name.now (codes "run") (rows_of (found_of c.in_ok-name.found.now)) (same_text c.in_ok-name.name.now (codes "run") c.if-ne.ensures)
-      (rw c.in_ok-name.was at c.subcommand.ensures.name) (rw c.in_ok-name.was at c.subcommand.ensures.rows);
-  genesis_is = sym (first_value-rows (found_of c.in_ok-name.found.now) (codes "genesis")) ∙ sym c.in_ok-genesis.ensures;
-  script_is = sym (first_value-rows (found_of c.in_ok-name.found.now) (codes "script")) ∙ sym c.in_ok-script.ensures;
-}
+pub returns-then-eq : goal.returns-then-eq
+returns-then-eq c =
+    let rows = rows_of (found_of c.in_ok-name.found.now) in
+    let found = name_and_rows (λ b. (out-SubCommand (box_value b)).name.now) (λ b. rows_of (found_of (out-SubCommand (box_value b)).matches)) (out-ArgMatches c.args.matches.now).subcommand
+    c.in_ok-name.name.now (codes "run") rows (same_text c.in_ok-name.name.now (codes "run") c.if-eq.ensures) (rw c.in_ok-name.was at c.subcommand.ensures.name) (rw c.in_ok-name.was at c.subcommand.ensures.rows) in
+    some_weaker (IsRunJob rows) (IsJobOf (subcommand_rows_of c.args.matches.now)) c.run_job.result (λ job is. inl (rows, found, is)) c.run_job.ensures
+
+pub returns-then-eq-2 : goal.returns-then-eq-2
+returns-then-eq-2 c =
+    let rows = rows_of (found_of c.in_ok-name.found.now) in
+    let found = name_and_rows (λ b. (out-SubCommand (box_value b)).name.now) (λ b. rows_of (found_of (out-SubCommand (box_value b)).matches)) (out-ArgMatches c.args.matches.now).subcommand
+    c.in_ok-name.name.now (codes "replay") rows (same_text c.in_ok-name.name.now (codes "replay") c.if-eq-2.ensures) (rw c.in_ok-name.was at c.subcommand.ensures.name) (rw c.in_ok-name.was at c.subcommand.ensures.rows) in
+    some_weaker (IsReplayJob rows) (IsJobOf (subcommand_rows_of c.args.matches.now)) c.replay_job.result (λ job is. inr (rows, found, is)) c.replay_job.ensures

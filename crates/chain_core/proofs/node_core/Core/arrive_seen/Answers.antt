@@ -1,53 +1,66 @@
-use Rattle.std.proofs.Common.{◌≡◌, ◌-◌, ◌∙◌, None, length, ap, rules}
+use Rattle.std.proofs.Common.{subst, List, ◌≡◌, ◌-◌, ◌∙◌, None, length, ap, rules}
 use Rattle.block.specs.Read.{IsRead}
-use Rattle.model.specs.Ledger.{network_of}
+use Rattle.model.specs.Block.{Block}
+use Rattle.model.specs.Chain.{IsOpening}
+use Rattle.model.specs.Ledger.{network_on}
+use Rattle.blockstore.specs.Stored.{blocks_of}
+use Rattle.chain_core.specs.Steps.{IsReached}
 use Rattle.model.specs.History.{State, Arrive, Kept}
 use Rattle.followers.specs.Places.{moved_places}
-use Rattle.chain_core.specs.ChainDbs.{HasState}
+use Rattle.chain_core.specs.ChainDbs.{IsWhole, HasState}
 use Rattle.chain_core.specs.Views.{refusal_of}
+use Rattle.chain_core.specs.Held.{held_of, network_held}
 use Rattle.chain_core.proofs.Arrivals.{at_rest, rests, is_ready, IsJudgedAt, refused_arrival, none_applies, kept_arrival}
 use Rattle.chain_core.specs.Inside.{held}
 use Rattle.chain_core.proofs.Adding.{whole_same}
-use Rattle.chain_core.proofs.Reached.{reached_on, reached_still}
+use Rattle.chain_core.proofs.Reached.{opened_is, reached_on, reached_still, steps_on}
 use Rattle.chain_core.proofs.Results.{on_err}
 use Rattle.chain_core.proofs.node_core.Core.arrive_seen.Goals as goal
 
 pub returns-in-Some-clause-step : goal.returns-in-Some-clause-step
 returns-in-Some-clause-step g c =
-    refused_arrival (network_of c.self.inside.genesis g.S.SigScheme.verifies) c.self.inside.chain_db c.self.inside.followers c.args.self.now c.args.seen c.in-Ok.block (refusal_of c.in-Some.refusal) c.self.view_is c.in-Ok.ensures.block
-    (λ s has. c.in-Some.ensures (network_of c.self.inside.genesis g.S.SigScheme.verifies) s c.in-Ok.block c.self.invariant.whole has c.bytes.ensures (c.point.ensures.number, c.point.ensures.hash))
+    refused_arrival (network_held (held c.self.inside) g.S.SigScheme.verifies) c.self.inside.chain_db c.self.inside.followers c.args.self.now c.args.seen c.in-Ok.block (refusal_of c.in-Some.refusal) c.self.view_is c.in-Ok.ensures.block
+    (λ s has. c.in-Some.ensures (network_held (held c.self.inside) g.S.SigScheme.verifies) s c.in-Ok.block c.self.invariant.whole has c.bytes.ensures (c.point.ensures.number, c.point.ensures.hash))
 
 pub add-requires-clause-ready : goal.add-requires-clause-ready
 add-requires-clause-ready g c =
-    let judged : IsJudgedAt c.self.inside.genesis c.self.inside.chain_db c.in-Ok.block None = λ (s : State) (has : HasState c.self.inside.genesis c.self.inside.chain_db s). c.in_default.ensures (network_of c.self.inside.genesis g.S.SigScheme.verifies) s c.in-Ok.block c.self.invariant.whole has c.bytes.ensures (c.point.ensures.number, c.point.ensures.hash) in
+    let judged : IsJudgedAt (network_held (held c.self.inside) g.S.SigScheme.verifies) c.self.inside.chain_db c.in-Ok.block None = λ (s : State) (has : HasState (network_held (held c.self.inside) g.S.SigScheme.verifies) c.self.inside.chain_db s). c.in_default.ensures (network_held (held c.self.inside) g.S.SigScheme.verifies) s c.in-Ok.block c.self.invariant.whole has c.bytes.ensures (c.point.ensures.number, c.point.ensures.hash) in
     let read : IsRead c.in-Ok.block c.args.seen = c.in-Ok.ensures.block in
-    is_ready (network_of c.self.inside.genesis g.S.SigScheme.verifies) c.self.inside.chain_db c.in-Ok.block c.args.seen c.self.invariant.whole read (judged (at_rest c.self.inside.chain_db) (rests (network_of c.self.inside.genesis g.S.SigScheme.verifies) c.self.inside.chain_db c.self.invariant.whole))
+    is_ready (network_held (held c.self.inside) g.S.SigScheme.verifies) c.self.inside.chain_db c.in-Ok.block c.args.seen c.self.invariant.whole read (judged (at_rest c.self.inside.chain_db) (rests (network_held (held c.self.inside) g.S.SigScheme.verifies) c.self.inside.chain_db c.self.invariant.whole))
 
 pub invariant_of-self-2 : goal.invariant_of-self-2
 invariant_of-self-2 g c =
-    let judged : IsJudgedAt c.self.inside.genesis c.self.inside.chain_db c.in-Ok.block None = λ (s : State) (has : HasState c.self.inside.genesis c.self.inside.chain_db s). c.in_default.ensures (network_of c.self.inside.genesis g.S.SigScheme.verifies) s c.in-Ok.block c.self.invariant.whole has c.bytes.ensures (c.point.ensures.number, c.point.ensures.hash) in
+    let judged : IsJudgedAt (network_held (held c.self.inside) g.S.SigScheme.verifies) c.self.inside.chain_db c.in-Ok.block None = λ (s : State) (has : HasState (network_held (held c.self.inside) g.S.SigScheme.verifies) c.self.inside.chain_db s). c.in_default.ensures (network_held (held c.self.inside) g.S.SigScheme.verifies) s c.in-Ok.block c.self.invariant.whole has c.bytes.ensures (c.point.ensures.number, c.point.ensures.hash) in
     let read : IsRead c.in-Ok.block c.args.seen = c.in-Ok.ensures.block in
     record {
-      whole = c.in_ok-change.ensures.ok.whole;
-      reached = reached_on g.S.SigScheme.verifies (held c.self.inside) c.args.self.now _ (Arrive c.args.seen) (Kept c.in_ok-change.change.back c.in_ok-change.change.added) c.self.view_is c.self.invariant.reached
-          (kept_arrival (network_of c.self.inside.genesis g.S.SigScheme.verifies) c.self.inside.chain_db c.add.new.self c.self.inside.followers c.moved.new.self c.args.self.now c.args.seen c.in-Ok.block c.in_ok-change.change c.self.view_is read judged c.in_ok-change.ensures.ok
-          (c.moved.ensures ∙ ap (λ n. moved_places (n - c.in_ok-change.change.added) c.self.inside.followers) (let size : c.len.result ≡ length c.add.new.self.chain.items = search rules in size)));
+      opens = subst (λ (o : List Block). IsOpening (network_on c.self.inside.genesis g.S.SigScheme.verifies o)) (opened_is (network_held (held c.self.inside) g.S.SigScheme.verifies) c.add.new.self (c.in_ok-change.ensures.ok.whole)) c.self.invariant.opens;
+      whole = subst (λ (o : List Block). IsWhole (network_on c.self.inside.genesis g.S.SigScheme.verifies o) c.add.new.self) (opened_is (network_held (held c.self.inside) g.S.SigScheme.verifies) c.add.new.self (c.in_ok-change.ensures.ok.whole)) (c.in_ok-change.ensures.ok.whole);
+      reached = subst (λ (o : List Block). IsReached (network_on c.self.inside.genesis g.S.SigScheme.verifies o) (held_of c.self.inside.genesis o (blocks_of c.add.new.self.store) c.add.new.self.chain.items c.add.new.self.mempool.waiting.txs c.moved.new.self)) (opened_is (network_held (held c.self.inside) g.S.SigScheme.verifies) c.add.new.self (c.in_ok-change.ensures.ok.whole))
+          (reached_on g.S.SigScheme.verifies (held c.self.inside) c.args.self.now _ (Arrive c.args.seen) (Kept c.in_ok-change.change.back c.in_ok-change.change.added) c.self.view_is c.self.invariant.reached
+          (kept_arrival (network_held (held c.self.inside) g.S.SigScheme.verifies) c.self.inside.chain_db c.add.new.self c.self.inside.followers c.moved.new.self c.args.self.now c.args.seen c.in-Ok.block c.in_ok-change.change c.self.view_is read judged c.in_ok-change.ensures.ok
+          (c.moved.ensures ∙ ap (λ n. moved_places (n - c.in_ok-change.change.added) c.self.inside.followers) (let size : c.len.result ≡ length c.add.new.self.chain.items = search rules in size))));
     }
 
 pub returns-clause-step : goal.returns-clause-step
 returns-clause-step g c =
-    let judged : IsJudgedAt c.self.inside.genesis c.self.inside.chain_db c.in-Ok.block None = λ (s : State) (has : HasState c.self.inside.genesis c.self.inside.chain_db s). c.in_default.ensures (network_of c.self.inside.genesis g.S.SigScheme.verifies) s c.in-Ok.block c.self.invariant.whole has c.bytes.ensures (c.point.ensures.number, c.point.ensures.hash) in
+    let judged : IsJudgedAt (network_held (held c.self.inside) g.S.SigScheme.verifies) c.self.inside.chain_db c.in-Ok.block None = λ (s : State) (has : HasState (network_held (held c.self.inside) g.S.SigScheme.verifies) c.self.inside.chain_db s). c.in_default.ensures (network_held (held c.self.inside) g.S.SigScheme.verifies) s c.in-Ok.block c.self.invariant.whole has c.bytes.ensures (c.point.ensures.number, c.point.ensures.hash) in
     let read : IsRead c.in-Ok.block c.args.seen = c.in-Ok.ensures.block in
-    kept_arrival (network_of c.self.inside.genesis g.S.SigScheme.verifies) c.self.inside.chain_db c.add.new.self c.self.inside.followers c.moved.new.self c.args.self.now c.args.seen c.in-Ok.block c.in_ok-change.change c.self.view_is read judged c.in_ok-change.ensures.ok
-    (c.moved.ensures ∙ ap (λ n. moved_places (n - c.in_ok-change.change.added) c.self.inside.followers) (let size : c.len.result ≡ length c.add.new.self.chain.items = search rules in size))
+    steps_on g.S.SigScheme.verifies c.args.self.now (Arrive c.args.seen) (Kept c.in_ok-change.change.back c.in_ok-change.change.added) c.self.inside.genesis _ _ (blocks_of c.add.new.self.store) c.add.new.self.chain.items c.add.new.self.mempool.waiting.txs c.moved.new.self
+    (opened_is (network_held (held c.self.inside) g.S.SigScheme.verifies) c.add.new.self (c.in_ok-change.ensures.ok.whole))
+    (kept_arrival (network_held (held c.self.inside) g.S.SigScheme.verifies) c.self.inside.chain_db c.add.new.self c.self.inside.followers c.moved.new.self c.args.self.now c.args.seen c.in-Ok.block c.in_ok-change.change c.self.view_is read judged c.in_ok-change.ensures.ok
+    (c.moved.ensures ∙ ap (λ n. moved_places (n - c.in_ok-change.change.added) c.self.inside.followers) (let size : c.len.result ≡ length c.add.new.self.chain.items = search rules in size)))
 
 pub returns-in_err-change-clause-memory : goal.returns-in_err-change-clause-memory
 returns-in_err-change-clause-memory g c =
-    on_err c.from_residual.result _ (none_applies c.self.inside.genesis c.self.inside.chain_db c.self.inside.followers c.args.self.now c.args.seen c.in-Ok.block c.self.view_is c.in-Ok.ensures.block (λ s has. c.in_default.ensures (network_of c.self.inside.genesis g.S.SigScheme.verifies) s c.in-Ok.block c.self.invariant.whole has c.bytes.ensures (c.point.ensures.number, c.point.ensures.hash)))
+    on_err c.from_residual.result _ (none_applies (network_held (held c.self.inside) g.S.SigScheme.verifies) c.self.inside.chain_db c.self.inside.followers c.args.self.now c.args.seen c.in-Ok.block c.self.view_is c.in-Ok.ensures.block (λ s has. c.in_default.ensures (network_held (held c.self.inside) g.S.SigScheme.verifies) s c.in-Ok.block c.self.invariant.whole has c.bytes.ensures (c.point.ensures.number, c.point.ensures.hash)))
 
 pub invariant_of-self : goal.invariant_of-self
-invariant_of-self g c = record {
-  reached = reached_still (network_of c.self.inside.genesis g.S.SigScheme.verifies) c.self.inside.chain_db c.add.new.self c.self.inside.followers c.in_err-change.ensures.chain c.in_err-change.ensures.store c.in_err-change.ensures.mempool c.self.invariant.reached;
-  whole = whole_same (network_of c.self.inside.genesis g.S.SigScheme.verifies) c.self.inside.chain_db c.add.new.self c.in_err-change.ensures.chain c.in_err-change.ensures.store c.in_err-change.ensures.db c.in_err-change.ensures.mempool
-      c.add.ensures.past c.self.invariant.whole;
-}
+invariant_of-self g c =
+    let whole = whole_same (network_held (held c.self.inside) g.S.SigScheme.verifies) c.self.inside.chain_db c.add.new.self c.add.ensures.opened c.in_err-change.ensures.chain c.in_err-change.ensures.store c.in_err-change.ensures.db c.in_err-change.ensures.mempool
+    c.add.ensures.past c.self.invariant.whole in
+    record {
+      opens = subst (λ (o : List Block). IsOpening (network_on c.self.inside.genesis g.S.SigScheme.verifies o)) (opened_is (network_held (held c.self.inside) g.S.SigScheme.verifies) c.add.new.self (whole)) c.self.invariant.opens;
+      whole = subst (λ (o : List Block). IsWhole (network_on c.self.inside.genesis g.S.SigScheme.verifies o) c.add.new.self) (opened_is (network_held (held c.self.inside) g.S.SigScheme.verifies) c.add.new.self (whole)) (whole);
+      reached = subst (λ (o : List Block). IsReached (network_on c.self.inside.genesis g.S.SigScheme.verifies o) (held_of c.self.inside.genesis o (blocks_of c.add.new.self.store) c.add.new.self.chain.items c.add.new.self.mempool.waiting.txs c.self.inside.followers)) (opened_is (network_held (held c.self.inside) g.S.SigScheme.verifies) c.add.new.self (whole))
+          (reached_still (network_held (held c.self.inside) g.S.SigScheme.verifies) c.self.inside.chain_db c.add.new.self c.self.inside.followers c.in_err-change.ensures.chain c.in_err-change.ensures.store c.in_err-change.ensures.mempool c.self.invariant.reached);
+    }

@@ -1,6 +1,7 @@
 use Rattle.std.proofs.Common.{◌≡◌, ◌+◌, List, length, take, sym, ap, subst, ◌∙◌, arith}
 use Rattle.std.proofs.lemmas.List.{length_push, take_all}
-use Rattle.model.specs.Ledger.{network_of}
+use Rattle.model.specs.Chain.{IsOpening}
+use Rattle.chain_core.specs.Held.{Held, network_held}
 use Rattle.chain_core.specs.declared.event.RawEvent.{RawEvent}
 use Rattle.chain_core.specs.declared.event.Reply.{Reply}
 use Rattle.chain_core.specs.Calls.{IsCall, AreCalls}
@@ -17,6 +18,7 @@ loop-event-preserved g c =
       step = answered.step;
       want = answered.want;
       genesis = answered.genesis;
+      opened = answered.opened;
       left = answered.left;
     } in
     record {
@@ -25,6 +27,7 @@ loop-event-preserved g c =
       calls = subst (λ (rs : List (Reply _)). AreCalls g.S.SigScheme.verifies c.args.self.now (take (c.loop-event.event-index + 1) c.args.events.now) rs c.answer-reply.new.self) (sym pushed)
           (calls_with g.S.SigScheme.verifies c.args.self.now c.args.events.now c.loop-event.event-index c.event-item.result c.loop-event.replies.items c.answer-reply.result c.loop-event.self c.answer-reply.new.self c.loop-event-test.true c.event-item.is before.calls call);
       genesis = answered.genesis ∙ before.genesis;
+      opened = answered.opened ∙ before.opened;
     }
 
 pub returns-clause-calls : goal.returns-clause-calls
@@ -47,6 +50,6 @@ returns-clause-run g c =
 pub returns-clause-theorem : goal.returns-clause-theorem
 returns-clause-theorem g c =
     let all : take c.loop-event.event-index c.args.events.now ≡ c.args.events.now = take_all c.loop-event.event-index c.args.events.now c.loop-event-test.false in
-    λ opened. theorem_of (network_of c.args.self.now.genesis g.S.SigScheme.verifies) c.args.self.now c.args.events.now c.loop-event.replies.items c.loop-event.self opened
+    λ opened. theorem_of (network_held c.args.self.now g.S.SigScheme.verifies) c.args.self.now c.args.events.now c.loop-event.replies.items c.loop-event.self (subst (λ (h : Held). IsOpening (network_held h g.S.SigScheme.verifies)) c.self.view_is c.self.invariant.opens) opened
     (ran_of g.S.SigScheme.verifies c.args.self.now c.args.events.now c.loop-event.replies.items c.loop-event.self
     (subst (λ (es : List RawEvent). AreCalls g.S.SigScheme.verifies c.args.self.now es c.loop-event.replies.items c.loop-event.self) all c.loop-event.invariant.calls))

@@ -9,4 +9,5 @@ invariant-loop-event g l = record {
   room : length l.events ≤ vec_capacity l.replies;
   calls : AreCalls g.S.SigScheme.verifies l.fn.self (take l.event-index l.events) l.replies.items l.self;
   genesis : l.self.genesis ≡ l.fn.self.genesis;
+  opened : l.self.opened ≡ l.fn.self.opened;
 }

@@ -1,7 +1,7 @@
 use Rattle.std.proofs.Common.{List, subst, sym}
 use Rattle.model.specs.Block.{Block}
 use Rattle.model.specs.Genesis.{Genesis}
-use Rattle.model.specs.Ledger.{network_of}
+use Rattle.model.specs.Ledger.{network_on}
 use Rattle.model.specs.Applying.{IsStateOf}
 use Rattle.model.proofs.StatesAlong.{states_length}
 use Rattle.ledgerdb.specs.Values.{state_back}
@@ -15,8 +15,8 @@ use Rattle.ledgerdb.proofs.Forks.{fault_on_chain, passed_on}
 use Rattle.ledgerdb.proofs.ledger_db.LedgerDb.fork.Goals as goal
 
 pub returns-in-Err-clause-chain_refused : goal.returns-in-Err-clause-chain_refused
-returns-in-Err-clause-chain_refused g c = λ genesis chain is.
-    let network = network_of genesis g.S.SigScheme.verifies in
+returns-in-Err-clause-chain_refused g c = λ genesis opened chain is.
+    let network = network_on genesis g.S.SigScheme.verifies opened in
     let back = c.args.back in
     let now = c.args.self.now in
     fault_on_chain network (without_last back chain) (state_back now back) c.args.blocks.now c.without_memory.result (back_state network chain now back is c.requires) c.without_memory.ensures
@@ -28,18 +28,18 @@ returns-in_err-state-clause-chain_refused g c =
     let now = c.args.self.now in
     let fault = c.in_err-state.field-0.0 in
     passed_on c.from_residual.result fault
-    (λ (e : ForkFault). (genesis : Genesis) (chain : List Block) → IsDatabaseOf (network_of genesis verifies) chain now → IsFaultOnChain (network_of genesis verifies) (without_last back chain) c.args.blocks.now e)
+    (λ (e : ForkFault). (genesis : Genesis) (opened chain : List Block) → IsDatabaseOf (network_on genesis verifies opened) chain now → IsFaultOnChain (network_on genesis verifies opened) (without_last back chain) c.args.blocks.now e)
     c.from_residual.ensures.1
-    (λ genesis chain is.
-    let network = network_of genesis verifies in
+    (λ genesis opened chain is.
+    let network = network_on genesis verifies opened in
     fault_on_chain network (without_last back chain) c.in-Ok.root c.args.blocks.now fault (c.in-Ok.ensures.chain network chain is) c.in_err-state.ensures.refused)
 
 pub returns-clause-count : goal.returns-clause-count
 returns-clause-count g c = states_length g.S.SigScheme.verifies c.in-Ok.root c.args.blocks.now (states_along c.in_ok-state.diffs c.in_ok-state.state) c.in_ok-state.ensures.applied
 
 pub returns-clause-chain : goal.returns-clause-chain
-returns-clause-chain g c = λ genesis chain is.
-    let network = network_of genesis g.S.SigScheme.verifies in
+returns-clause-chain g c = λ genesis opened chain is.
+    let network = network_on genesis g.S.SigScheme.verifies opened in
     let back = c.args.back in
     let from = c.in-Ok.ensures.chain network chain is in
     record {

@@ -1,6 +1,6 @@
 use Rattle.script.specs.Meaning.{Arrives, SubmitsTx, ForgesBlock, PrintsTip, PrintsMempool, PrintsUtxo, Means, is_late_line, parse_within}
 use Rattle.script.proofs.ForCallers.{never_both}
-use Rattle.scenario.specs.Run.{script_network}
+use Rattle.scenario.specs.SessionView.{core_network}
 use Rattle.scenario.proofs.AskedLines.{defined, done_so}
 use Rattle.scenario.proofs.session.Session.obey.Goals as goal
 
@@ -8,14 +8,14 @@ pub returns-in-Ok-Nothing-clause-obeyed : goal.returns-in-Ok-Nothing-clause-obey
 returns-in-Ok-Nothing-clause-obeyed c = λ s holds.
     let asked = c.in-Ok-Nothing.ensures.asks s.names holds.names in
     let request = rw c.in-Ok-Nothing.field-0-is at asked.is_request in
-    defined (script_network c.args.self.now.core.genesis) s (Means c.args.at.number c.args.at.before s.names c.args.line.now) asked.meaning request.0 c.new.result.items
+    defined (core_network c.args.self.now.core) s (Means c.args.at.number c.args.at.before s.names c.args.line.now) asked.meaning request.0 c.new.result.items
     (record { alloc = c.args.self.now.alloc; core = c.args.self.now.core; names = c.obey.new.self }) asked.is_meant request.1 request.2 holds.stands c.new.ensures.items
 
 pub returns-in-Ok-Arrive-clause-obeyed : goal.returns-in-Ok-Arrive-clause-obeyed
 returns-in-Ok-Arrive-clause-obeyed c = λ s holds.
     let asked = c.in-Ok-Arrive.ensures.asks s.names holds.names in
     let request = rw c.in-Ok-Arrive.field-0-is at asked.is_request in
-    done_so (script_network c.args.self.now.core.genesis) s (Means c.args.at.number c.args.at.before s.names c.args.line.now) (is_late_line (parse_within c.args.at.before c.args.line.now)) asked.meaning
+    done_so (core_network c.args.self.now.core) s (Means c.args.at.number c.args.at.before s.names c.args.line.now) (is_late_line (parse_within c.args.at.before c.args.line.now)) asked.meaning
     (Arrives c.in-Ok-Arrive.form c.in-Ok-Arrive.name.text.now request.0.bytes) c.arrive.result c.arrive.new.self asked.is_meant request.2
     (λ fault. never_both c.args.at.number c.args.at.before s.names c.args.line.now asked.meaning fault asked.is_meant) (c.arrive.ensures.obeyed s (record { stands = holds.stands; names = request.3 }) request.0 request.1)
 
@@ -23,28 +23,28 @@ pub returns-in-Ok-Tip-clause-obeyed : goal.returns-in-Ok-Tip-clause-obeyed
 returns-in-Ok-Tip-clause-obeyed c = λ s holds.
     let asked = c.in-Ok-Tip.ensures.asks s.names holds.names in
     let request = rw c.in-Ok-Tip.field-0-is at asked.is_request in
-    done_so (script_network c.args.self.now.core.genesis) s (Means c.args.at.number c.args.at.before s.names c.args.line.now) (is_late_line (parse_within c.args.at.before c.args.line.now)) asked.meaning PrintsTip c.tip.result _ asked.is_meant request.0
+    done_so (core_network c.args.self.now.core) s (Means c.args.at.number c.args.at.before s.names c.args.line.now) (is_late_line (parse_within c.args.at.before c.args.line.now)) asked.meaning PrintsTip c.tip.result _ asked.is_meant request.0
     (λ fault. never_both c.args.at.number c.args.at.before s.names c.args.line.now asked.meaning fault asked.is_meant) (c.tip.ensures s (record { stands = holds.stands; names = request.1 }))
 
 pub returns-in-Ok-Utxo-clause-obeyed : goal.returns-in-Ok-Utxo-clause-obeyed
 returns-in-Ok-Utxo-clause-obeyed c = λ s holds.
     let asked = c.in-Ok-Utxo.ensures.asks s.names holds.names in
     let request = rw c.in-Ok-Utxo.field-0-is at asked.is_request in
-    done_so (script_network c.args.self.now.core.genesis) s (Means c.args.at.number c.args.at.before s.names c.args.line.now) (is_late_line (parse_within c.args.at.before c.args.line.now)) asked.meaning PrintsUtxo c.utxo.result _ asked.is_meant request.0
+    done_so (core_network c.args.self.now.core) s (Means c.args.at.number c.args.at.before s.names c.args.line.now) (is_late_line (parse_within c.args.at.before c.args.line.now)) asked.meaning PrintsUtxo c.utxo.result _ asked.is_meant request.0
     (λ fault. never_both c.args.at.number c.args.at.before s.names c.args.line.now asked.meaning fault asked.is_meant) (c.utxo.ensures s (record { stands = holds.stands; names = request.1 }))
 
 pub returns-in-Ok-Mempool-clause-obeyed : goal.returns-in-Ok-Mempool-clause-obeyed
 returns-in-Ok-Mempool-clause-obeyed c = λ s holds.
     let asked = c.in-Ok-Mempool.ensures.asks s.names holds.names in
     let request = rw c.in-Ok-Mempool.field-0-is at asked.is_request in
-    done_so (script_network c.args.self.now.core.genesis) s (Means c.args.at.number c.args.at.before s.names c.args.line.now) (is_late_line (parse_within c.args.at.before c.args.line.now)) asked.meaning PrintsMempool c.mempool.result _ asked.is_meant request.0
+    done_so (core_network c.args.self.now.core) s (Means c.args.at.number c.args.at.before s.names c.args.line.now) (is_late_line (parse_within c.args.at.before c.args.line.now)) asked.meaning PrintsMempool c.mempool.result _ asked.is_meant request.0
     (λ fault. never_both c.args.at.number c.args.at.before s.names c.args.line.now asked.meaning fault asked.is_meant) (c.mempool.ensures s (record { stands = holds.stands; names = request.1 }))
 
 pub returns-in-Ok-Submit-clause-obeyed : goal.returns-in-Ok-Submit-clause-obeyed
 returns-in-Ok-Submit-clause-obeyed c = λ s holds.
     let asked = c.in-Ok-Submit.ensures.asks s.names holds.names in
     let request = rw c.in-Ok-Submit.field-0-is at asked.is_request in
-    done_so (script_network c.args.self.now.core.genesis) s (Means c.args.at.number c.args.at.before s.names c.args.line.now) (is_late_line (parse_within c.args.at.before c.args.line.now)) asked.meaning
+    done_so (core_network c.args.self.now.core) s (Means c.args.at.number c.args.at.before s.names c.args.line.now) (is_late_line (parse_within c.args.at.before c.args.line.now)) asked.meaning
     (SubmitsTx c.in-Ok-Submit.name.text.now request.0) c.submit.result c.submit.new.self asked.is_meant request.2
     (λ fault. never_both c.args.at.number c.args.at.before s.names c.args.line.now asked.meaning fault asked.is_meant) (c.submit.ensures.obeyed s (record { stands = holds.stands; names = request.3 }) request.0 request.1)
 
@@ -52,6 +52,6 @@ pub returns-in-Ok-Forge-clause-obeyed : goal.returns-in-Ok-Forge-clause-obeyed
 returns-in-Ok-Forge-clause-obeyed c = λ s holds.
     let asked = c.in-Ok-Forge.ensures.asks s.names holds.names in
     let request = rw c.in-Ok-Forge.field-0-is at asked.is_request in
-    done_so (script_network c.args.self.now.core.genesis) s (Means c.args.at.number c.args.at.before s.names c.args.line.now) (is_late_line (parse_within c.args.at.before c.args.line.now)) asked.meaning
+    done_so (core_network c.args.self.now.core) s (Means c.args.at.number c.args.at.before s.names c.args.line.now) (is_late_line (parse_within c.args.at.before c.args.line.now)) asked.meaning
     (ForgesBlock c.in-Ok-Forge.name.text.now c.in-Ok-Forge.slot) c.forge.result c.forge.new.self asked.is_meant request.0
     (λ fault. never_both c.args.at.number c.args.at.before s.names c.args.line.now asked.meaning fault asked.is_meant) (c.forge.ensures.obeyed s (record { stands = holds.stands; names = request.2 }) request.1)

@@ -13,16 +13,21 @@ invariant_of-desk g c =
     let none = c.new.ensures.items in
     let is = c.self.view_is in
     record {
-      genesis_is = ap (λ o. o.genesis) is ∙ c.requires.genesis;
-      state = opening;
-      legal = subst (λ (j : Journal). IsLegal (network_of g.B.Room.genesis g.S.SigScheme.verifies) (history_of j) opening) (sym none) refl;
-      stands = opening_stands c.self.inside.core c.self.invariant.new;
-      name_is = i.0 ∙ (ap (λ o. o.table) is ∙ c.requires.table);
-      slots = i.1;
-      right = i.2;
-      next = c.loop-number.number;
-      role = i.3;
-      seen = i.4 ∙ sym none;
+      core = record {
+        genesis_is = ap (λ o. o.genesis) is ∙ c.requires.genesis;
+        opened_is = ap (λ h. h.opened) c.self.invariant.new;
+        state = opening (network_of g.B.Room.genesis g.S.SigScheme.verifies);
+        legal = subst (λ (j : Journal). IsLegal (network_of g.B.Room.genesis g.S.SigScheme.verifies) (history_of j) (opening (network_of g.B.Room.genesis g.S.SigScheme.verifies))) (sym none) refl;
+        stands = opening_stands g.S.SigScheme.verifies c.self.inside.core c.self.invariant.new;
+      };
+      writer = record {
+        name_is = i.0 ∙ (ap (λ o. o.table) is ∙ c.requires.table);
+        slots = i.1;
+        right = i.2;
+        next = c.loop-number.number;
+        role = i.3;
+        seen = i.4 ∙ sym none;
+      };
     }
 
 next_number : (n : ℕ) → suc n ≡ n + 1

@@ -1,0 +1,28 @@
+use Rattle.std.proofs.Common.{◌≡◌, ◌^◌, ◌-◌, ap, subst, ◌∙◌, arith}
+use Rattle.std.specs.Prelude.{min}
+use Rattle.std.specs.List.{AllByRecursion}
+use Rattle.model.specs.Ledger.{network_on}
+use Rattle.model.specs.Chain.{IsOpening, immutable_length}
+use Rattle.model.proofs.Lists.{all_take}
+use Rattle.model.proofs.Candidates.{valid_of_state}
+use Rattle.chainsel.proofs.ForCallers.{settled_at_start}
+use Rattle.chain_core.specs.PastHashes.{IsBlockNoted}
+use Rattle.chain_core.proofs.Pools.{pool_at_start}
+use Rattle.chain_core.proofs.chain_db.ChainDb.open.Goals as goal
+
+pub returns-clause-whole : goal.returns-clause-whole
+returns-clause-whole g c =
+    let chain = c.args.on.chain.items in
+    let network = network_on c.args.genesis.now g.S.SigScheme.verifies chain in
+    let is = c.requires.state chain in
+    let opens : IsOpening network = record { valid = valid_of_state network chain c.args.on.state is; spelled = c.requires.spelled } in
+    let range = c.k.ensures.range in
+    let least : min c.k.result (2 ^ 63 - 1) ≡ c.k.result = omega arith in
+    record {
+      opened = omega (arith, c.len-opened.ensures);
+      settled = settled_at_start network c.new-store.result c.new-db.result opens (ap (λ s. s.blocks) c.new-store.ensures.empty) (c.new-db.ensures.chain network chain is) c.new-db.ensures.depth;
+      k = c.new-db.ensures.k ∙ (least ∙ c.k.ensures.k);
+      capacity = ap (λ s. s.capacity) c.new-store.ensures.empty ∙ c.max_volatile.ensures;
+      pool = pool_at_start network chain c.args.on.state is c.in_ok-mempool.mempool _ _ c.max_mempool.ensures c.utxo.ensures c.in_ok-mempool.ensures;
+      past = all_take (IsBlockNoted c.note_all.new.past) (immutable_length network chain) chain (subst (AllByRecursion (IsBlockNoted c.note_all.new.past)) c.deref.ensures.value c.in_ok-note_all.ensures.noted);
+    }

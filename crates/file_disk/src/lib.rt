@@ -1,0 +1,13 @@
+//! A disk that is a file.
+//!
+//! ```text
+//! let file = OpenOptions::new().read(true).write(true).create(true).open(&rt, path)?;
+//! let log = Log::open(alloc, FileDisk::open(alloc, file)?)?;
+//! ```
+#![tactic(auto)]
+
+mod file_disk;
+mod overwriting;
+mod step;
+
+pub use file_disk::FileDisk;

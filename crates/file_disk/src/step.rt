@@ -1,0 +1,12 @@
+//! What was done to a file.
+
+/// One call that changed a file, or made sure what it holds.
+#[derive(Drop)]
+pub enum Step {
+    /// From this place on these bytes were written.
+    Written(usize, Vec<u8>),
+    /// It was cut to this length.
+    Cut(usize),
+    /// What it held was made sure.
+    Synced,
+}

@@ -1,0 +1,42 @@
+-- A core that was opened on blocks.
+use Rattle.std.proofs.Common.{◌≡◌, ℕ, List, [], ◌∷◌, ◌++◌, length, drop, refl, sym, ap, ap₂, ◌∙◌}
+use Rattle.std.proofs.lemmas.List.{map-append, take-append-drop}
+use Rattle.model.specs.Signature.{Verifies}
+use Rattle.model.specs.Block.{Block, block_text}
+use Rattle.model.specs.Genesis.{Genesis}
+use Rattle.model.specs.Ledger.{Network}
+use Rattle.model.specs.Chain.{BeginsWith, immutable_part}
+use Rattle.model.proofs.BlockTexts.{block_text_is}
+use Rattle.std.specs.Prelude.{Result, Ok, Err, IfOk}
+use Rattle.chain_core.specs.Held.{Held, network_held, opening_held}
+use Rattle.chain_core.specs.declared.reopening.ReopenFault.{ReopenFault}
+use Rattle.chain_core.specs.Reopening.{AreRead, IsChainOf}
+use Rattle.flushing.specs.Texts.{texts_of, immutable_texts, Begins}
+
+-- blocks that are read of texts have these
+pub texts_read : (chain : List Block) (texts : List (List ℕ)) → AreRead chain texts → texts_of chain ≡ texts
+texts_read [] [] are = refl
+texts_read [] (t ∷ ts) are = absurd are
+texts_read (x ∷ xs) [] are = absurd are
+texts_read (x ∷ xs) (t ∷ ts) are = ap₂ (λ (u : List ℕ) (us : List (List ℕ)). u ∷ us) (block_text_is x t are.0.read) (texts_read xs ts are.1)
+
+-- the texts that a core was opened on are the first of its immutable ones
+pub begins_on_opened : (verifies : Verifies) (core : Held) (first : List (List ℕ)) → texts_of core.opened ≡ first → BeginsWith (immutable_part (network_held core verifies) core.chain) core.opened → Begins first (immutable_texts verifies core)
+begins_on_opened verifies core first is begins =
+    let all = immutable_part (network_held core verifies) core.chain in
+    let n = length core.opened in
+    let parts : all ≡ core.opened ++ drop n all = sym (take-append-drop n all) ∙ ap (λ (bs : List Block). bs ++ drop n all) begins in
+    record {
+      later = texts_of (drop n all);
+      are = ap texts_of parts ∙ (map-append block_text core.opened (drop n all) ∙ ap (λ (t : List (List ℕ)). t ++ texts_of (drop n all)) is);
+    }
+
+-- a core that was opened on these texts was opened on blocks that have them
+pub opened_blocks : (network : Network) (genesis : Genesis) (r : Result Held ReopenFault) (texts blocks : List (List ℕ)) → IfOk r (λ core. (chain : List Block) × IsChainOf network texts chain × (core ≡ opening_held genesis chain)) → texts ≡ blocks
+    → IfOk r (λ core. texts_of core.opened ≡ blocks)
+opened_blocks network genesis (Ok core) texts blocks opened same = ap (λ (h : Held). texts_of h.opened) opened.2 ∙ (texts_read opened.0 texts opened.1.read ∙ same)
+opened_blocks network genesis (Err e) texts blocks opened same = tt
+
+-- nothing is the first of whatever blocks
+pub begins_with_none : (first all : List (List ℕ)) → first ≡ [] → Begins first all
+begins_with_none first all none = record { later = all; are = ap (λ (f : List (List ℕ)). f ++ all) (sym none) }

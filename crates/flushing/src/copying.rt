@@ -1,0 +1,100 @@
+//! Blocks that go onto the log.
+
+ghost use Rattle.std.specs.Prelude.{◌≡◌, ◌↔◌, ◌≤◌, List, length, drop, true, false, IfOk, IfErr, OnOk, IsErrOf};
+ghost use Rattle.std.specs.List.{AllByRecursion};
+ghost use Rattle.model.specs.Disk.{Leaves, LeavesSince, one_more};
+ghost use Rattle.model.specs.Log.{IsLogBlock, Opens, OpensToBeginning, IsLogOf};
+ghost use Rattle.immlog.specs.Views.{lists_of};
+ghost use Rattle.model.specs.Ledger.{network_of};
+ghost use Rattle.chain_core.specs.Held.{opening_held};
+ghost use Rattle.chain_core.specs.Reopening.{IsReopenFault};
+ghost use Rattle.flushing.specs.Texts.{texts_of, immutable_texts, Begins};
+
+use chain_core::{Core, ReopenFault};
+use genesis::Genesis;
+use immlog::{AppendFault, Disk, Log};
+use std::alloc::{AllocError, Global};
+use witness_pool::SigScheme;
+
+/// Opens a core on the log's blocks, as [`Core::reopen`] does.
+pub fn core_on<D: Disk, S: SigScheme>(
+    alloc: Global,
+    genesis: Genesis,
+    log: &Log<D>,
+) -> Result<Core<S>, ReopenFault>
+    ensures opened { IfOk result (λ core. core ≡ opening_held genesis core.opened) }
+    ensures blocks { IfOk result (λ core. texts_of core.opened ≡ log.now.blocks) }
+    ensures fault { IfErr result (IsReopenFault (network_of genesis S.verifies) log.now.blocks) }
+{
+    Core::reopen(alloc, genesis, log.blocks())
+}
+
+/// Copies of the texts of the core's blocks that are never rolled back, but for the first so many.
+fn texts_from<S: SigScheme>(
+    alloc: Global,
+    core: &Core<S>,
+    from: usize,
+) -> Result<Vec<Vec<u8>>, AllocError>
+    ensures texts { IfOk result (λ texts. lists_of texts.items ≡ drop from (immutable_texts S.verifies core.now)) }
+    ensures sizes { IfOk result (λ texts. AllByRecursion IsLogBlock (lists_of texts.items)) }
+{
+    let mut texts = Vec::new(alloc);
+    for number in from as u64..core.immutable() {
+        let Some(block) = core.block(number + 1) else {
+            unreachable!();
+        };
+        let copy = block.to_vec(alloc)?;
+        let Ok(()) = texts.push(copy) else {
+            return Err(AllocError);
+        };
+    }
+    Ok(texts)
+}
+
+/// Puts the core's blocks that are never rolled back onto the log, behind those that it has, which are the first of
+/// them. Err where the log is broken, else where memory ran out for copies, else where the disk failed.
+///
+/// Copies the new blocks twice, once of them for the log to keep, and writes them as [`Log::append`] does.
+pub fn flush<D: Disk, S: SigScheme>(
+    alloc: Global,
+    log: &mut Log<D>,
+    core: &Core<S>,
+) -> Result<(), AppendFault>
+    requires { Begins log.old.blocks (immutable_texts S.verifies core.now) }
+
+    ensures all { OnOk result (log.new.blocks ≡ immutable_texts S.verifies core.now) }
+    ensures sound { OnOk result (log.new.broken ≡ false) }
+    // A crash then leaves just these blocks.
+    ensures left { OnOk result (Leaves (λ bytes. Opens bytes log.new.blocks) (D.moment log.new.disk)) }
+
+    // Whatever it answers, what the log has are the first of these blocks,
+    ensures begins { Begins log.new.blocks (immutable_texts S.verifies core.now) }
+    // those that it had among them.
+    ensures stay { Begins log.old.blocks log.new.blocks }
+    // A crash at any moment since it was called leaves a log that isn't damaged, of a beginning of the core's blocks
+    // that are never rolled back, with all that were durable when it was called.
+    ensures crash { log.old.broken ≡ false → LeavesSince (D.past log.old.disk) (D.past log.new.disk)
+        (D.moment log.new.disk) (OpensToBeginning (length log.old.blocks) (immutable_texts S.verifies core.now)) }
+    // Now it leaves all that are durable now.
+    ensures crash_now { log.old.broken ≡ false → Leaves
+        (OpensToBeginning (length log.new.blocks) (immutable_texts S.verifies core.now)) (D.moment log.new.disk) }
+    // The same, as `Log::open` asks for it, where memory lasted.
+    ensures kept { log.old.broken ≡ false → (IsErrOf result AppendFault.OutOfMemory → ⊥) →
+        LeavesSince (D.past log.old.disk) (D.past log.new.disk) (D.moment log.new.disk)
+        (IsLogOf (length log.old.blocks) (immutable_texts S.verifies core.now)) }
+
+    ensures broken { IsErrOf result AppendFault.Broken ↔ (log.old.broken ≡ true) }
+    ensures untouched { IsErrOf result AppendFault.Broken → log.new ≡ log.old }
+    ensures memory { IsErrOf result AppendFault.OutOfMemory → log.new ≡ log.old }
+    ensures failed { IsErrOf result AppendFault.DiskFault →
+        D.failures log.new.disk ≡ one_more (D.failures log.old.disk) }
+    ensures breaks { IsErrOf result AppendFault.DiskFault → log.new.broken ≡ true }
+{
+    if log.is_broken() {
+        return Err(AppendFault::Broken);
+    }
+    match texts_from(alloc, core, log.durable()) {
+        Ok(texts) => log.append(&texts),
+        Err(AllocError) => Err(AppendFault::OutOfMemory),
+    }
+}

@@ -1,0 +1,11 @@
+use Rattle.std.proofs.Common.{subst}
+use Rattle.model.specs.Journal.{Knowledge}
+use Rattle.shared.specs.Heights.{knowledge_of}
+use Rattle.shared.specs.Meeting.{IsInformed}
+use Rattle.shared.proofs.Meetings.{informed_of}
+use Rattle.shared.proofs.journal.Journal.tell.Goals as goal
+
+pub returns-clause-informed : goal.returns-clause-informed
+returns-clause-informed g c =
+    subst (λ (k : Knowledge). IsInformed c.args.self.now.entries.items k (knowledge_of c.caller.inside.number c.tell.new.seat.me.0)) c.caller.view_is
+    (informed_of c.caller.inside.number c.args.self.now.writer.me.0 c.caller.inside.seat.me.0 c.tell.new.seat.me.0 c.args.self.now.entries.items c.tell.ensures.told c.requires.writer.seen)

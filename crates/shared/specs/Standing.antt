@@ -1,0 +1,36 @@
+-- What the lock keeps of the journal: the core is its state, and the seat with the right to write has seen all of it; and
+-- the word beside the lock.
+use Rattle.std.specs.Prelude.{◌≡◌, ℕ, [], true}
+use Rattle.std.specs.Global.{Global}
+use Rattle.atomic_table.specs.Seated.{TableId}
+use Rattle.atomic_table.specs.declared.shared.Seat.{Seat}
+use Rattle.atomic_table.specs.declared.owned.Table.{Table}
+use Rattle.model.specs.Signature.{Verifies}
+use Rattle.model.specs.Genesis.{Genesis}
+use Rattle.model.specs.Ledger.{network_of}
+use Rattle.model.specs.History.{State, IsLegal}
+use Rattle.model.specs.Journal.{Journal, history_of}
+use Rattle.chain_core.specs.Held.{Held, Stands}
+use Rattle.shared.specs.Heights.{Deals, SeatView}
+
+-- the word of this name, for this genesis
+abbrev pub IsHeightOf : {S P : Type 0} → TableId → Genesis → Table S SeatView Genesis P Global → Type 0
+IsHeightOf name genesis t =
+    (t.shared.table_id ≡ name) × (t.shared.table_id.words ≡ 1) × (t.shared.key ≡ genesis)
+
+-- the journal is legal, and the core is its state
+pub record IsCoreOf (verifies : Verifies) (genesis : Genesis) (journal : Journal) (held : Held) : Type 0 where
+  pub genesis_is : held.genesis ≡ genesis
+  pub opened_is : held.opened ≡ []
+  pub state : State
+  pub legal : IsLegal (network_of genesis verifies) (history_of journal) state
+  pub stands : Stands held state
+
+-- the seat is one of this word, has the right to write, and has seen just this journal
+pub record IsWriterOf {S : Type 0} (name : TableId) (seat : Seat S SeatView) (journal : Journal) : Type 0 where
+  pub name_is : seat.table_id ≡ name
+  pub slots : seat.me.1 ≡ []
+  pub right : seat.me.0.writes ≡ true
+  pub next : ℕ
+  pub role : seat.me.0.role ≡ Deals next
+  pub seen : seat.me.0.seen ≡ journal

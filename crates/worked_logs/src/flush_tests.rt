@@ -1,0 +1,92 @@
+//! The blocks of a core on a log, and a core on the blocks of a log.
+
+use crate::fake_file::FakeFile;
+use block::{Header, empty_body_hash, read, write_empty};
+use chain_core::Core;
+use file_disk::FileDisk;
+use flushing::flush;
+use genesis::Genesis;
+use ident::BlockHash;
+use immlog::{Disk, Log};
+use std::process::Abort;
+use witness_pool::TestScheme;
+
+/// What is said where memory runs out, or the disk fails.
+const MEMORY: &str = "memory";
+
+/// A network where 2 blocks may be rolled back.
+const NETWORK: &str = "network = 0
+k = 2
+min_fee_a = 1
+min_fee_b = 100
+min_utxo = 10
+max_tx_size = 4096
+max_body_size = 65536
+max_volatile = 100
+max_mempool = 100
+[[output]]
+key = \"0101010101010101010101010101010101010101010101010101010101010101\"
+coin = 1200
+";
+
+/// The genesis of that network.
+fn genesis(rt: &(impl Abort + AllocGlobal)) -> Genesis {
+    Genesis::from_toml(rt.alloc(), NETWORK).expect(rt, "a genesis")
+}
+
+/// The text of the block of this number and slot without transactions that comes after the one of this hash.
+fn text_of(rt: &(impl Abort + AllocGlobal), number: u64, previous: Option<BlockHash>) -> Vec<u8> {
+    let header = Header {
+        number,
+        slot: number,
+        previous,
+        body_hash: empty_body_hash(),
+    };
+    write_empty(rt.alloc(), &header).expect(rt, "a block")
+}
+
+/// A core to which so many blocks came, one after the other.
+fn core_after(rt: &(impl Abort + AllocGlobal), blocks: u64) -> Box<Core<TestScheme>> {
+    let core = Core::new(rt.alloc(), genesis(rt)).expect(rt, MEMORY);
+    let mut core = Box::new(rt.alloc(), core).expect(rt, MEMORY);
+    let mut previous = None;
+    for number in 1..blocks.saturating_add(1) {
+        let text = text_of(rt, number, previous);
+        let block = Box::new(rt.alloc(), read(rt.alloc(), &text).expect(rt, "a block"));
+        previous = Some(block.expect(rt, MEMORY).hash());
+        let reply = core.arrive(&text);
+        assert!(rt; reply.is_ok());
+    }
+    core
+}
+
+/// A log of the immutable blocks of a core to which so many came.
+fn log_after(rt: &(impl Abort + AllocGlobal), blocks: u64) -> Box<Log<FileDisk<FakeFile>>> {
+    let core = core_after(rt, blocks);
+    let disk = FileDisk::open(rt.alloc(), FakeFile::new(u64::MAX)).expect(rt, MEMORY);
+    let Ok(mut log) = Log::create(rt.alloc(), disk) else {
+        rt.abort();
+    };
+    let flushed = flush(rt.alloc(), &mut log, &core);
+    assert!(rt; flushed == Ok(()));
+    Box::new(rt.alloc(), log).expect(rt, MEMORY)
+}
+
+/// How many bytes are on the disk.
+fn size_of(rt: &impl Abort, disk: &mut FileDisk<FakeFile>) -> usize {
+    let mut room = [0u8; 512];
+    disk.read(0, &mut room).expect(rt, "a read")
+}
+
+// With one immutable block the log has 78 bytes, with two of them 188. A core that is opened on them has just these.
+#[test]
+fn log_after_a_run(rt: HostRuntime) {
+    for (arrived, height, size) in [(1, 0, 1), (2, 0, 1), (3, 1, 78), (4, 2, 188)] {
+        let log = Box::into_inner(log_after(&rt, arrived));
+        let again = Core::<TestScheme>::reopen(rt.alloc(), genesis(&rt), log.blocks());
+        let again = Box::new(rt.alloc(), again.expect(&rt, "a chain")).expect(&rt, MEMORY);
+        assert!(rt; again.height() == height);
+        let mut disk = log.into_disk();
+        assert!(rt; size_of(&rt, &mut disk) == size);
+    }
+}
