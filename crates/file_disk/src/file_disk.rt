@@ -17,7 +17,9 @@ const MOST_BYTES: usize = 0x7fff_ffff_ffff_ffff;
 
 /// A file as a disk. It keeps what the file holds and each change that was made, since no contract can say what a file
 /// of the system gives: a read gives what is kept, which is what the file gave when it was opened with what was written
-/// since. That the file holds the same, and that after a sync a crash leaves it, is trusted of the system.
+/// since. Once the system failed in a call it isn't known what the file holds: from then on each call fails, and
+/// [`FileDisk::into_file`] gives the file, on which a disk may be opened anew. That the file holds what was written, and
+/// that after a sync that succeeds a crash leaves it, is trusted of the system.
 #[derive(Drop)]
 pub struct FileDisk<F: Read + Write + Seek + OpenFile + Drop> {
     alloc: Global,
@@ -25,6 +27,7 @@ pub struct FileDisk<F: Read + Write + Seek + OpenFile + Drop> {
     bytes: Vec<u8>,
     steps: Vec<Step>,
     failures: u64,
+    has_failed: bool,
     ghost same: { bytes_after (reverse steps.items) ≡ bytes.items },
     ghost left: { MayLeave (moment_of (reverse steps.items)) bytes.items },
     ghost small: { length bytes.items < 2 ^ 63 },
@@ -68,7 +71,23 @@ impl<F: Read + Write + Seek + OpenFile + Drop> FileDisk<F> {
             bytes,
             steps,
             failures: 0,
+            has_failed: false,
         })
+    }
+
+    /// The file, on which a disk may be opened anew, also after a failure. Touches nothing.
+    pub fn into_file(self) -> F
+        ensures { result ≡ self.file }
+    {
+        let FileDisk {
+            alloc: _,
+            file,
+            bytes: _,
+            steps: _,
+            failures: _,
+            has_failed: _,
+        } = self;
+        file
     }
 
     /// Whether it holds no byte.
@@ -94,11 +113,15 @@ impl<F: Read + Write + Seek + OpenFile + Drop> Disk for FileDisk<F> {
     ghost fits = { λ d. d.small };
 
     fn read(&mut self, place: usize, into: &mut [u8]) -> Result<usize, DiskFailed> {
+        if self.has_failed {
+            self.failures = self.failures.wrapping_add(1);
+            return Err(DiskFailed);
+        }
         Ok(give(from_place(&self.bytes, place), into))
     }
 
     fn write_at(&mut self, place: usize, bytes: &[u8]) -> Result<(), DiskFailed> {
-        if bytes.len() > MOST_BYTES - place {
+        if self.has_failed || bytes.len() > MOST_BYTES - place {
             self.failures = self.failures.wrapping_add(1);
             return Err(DiskFailed);
         }
@@ -116,6 +139,7 @@ impl<F: Read + Write + Seek + OpenFile + Drop> Disk for FileDisk<F> {
         };
         self.steps.push_reserved(Step::Written(place, copy));
         if write_file(&mut self.file, place, bytes).is_err() {
+            self.has_failed = true;
             self.failures = self.failures.wrapping_add(1);
             return Err(DiskFailed);
         }
@@ -123,13 +147,14 @@ impl<F: Read + Write + Seek + OpenFile + Drop> Disk for FileDisk<F> {
     }
 
     fn cut(&mut self, len: usize) -> Result<(), DiskFailed> {
-        if self.steps.reserve(1).is_err() {
+        if self.has_failed || self.steps.reserve(1).is_err() {
             self.failures = self.failures.wrapping_add(1);
             return Err(DiskFailed);
         }
         self.bytes.truncate(len);
         self.steps.push_reserved(Step::Cut(len));
         if self.file.set_len(len as u64).is_err() {
+            self.has_failed = true;
             self.failures = self.failures.wrapping_add(1);
             return Err(DiskFailed);
         }
@@ -137,7 +162,12 @@ impl<F: Read + Write + Seek + OpenFile + Drop> Disk for FileDisk<F> {
     }
 
     fn sync(&mut self) -> Result<(), DiskFailed> {
-        if self.steps.reserve(1).is_err() || self.file.sync_all().is_err() {
+        if self.has_failed || self.steps.reserve(1).is_err() {
+            self.failures = self.failures.wrapping_add(1);
+            return Err(DiskFailed);
+        }
+        if self.file.sync_all().is_err() {
+            self.has_failed = true;
             self.failures = self.failures.wrapping_add(1);
             return Err(DiskFailed);
         }

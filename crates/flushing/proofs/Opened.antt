@@ -1,5 +1,5 @@
 -- A core that was opened on blocks.
-use Rattle.std.proofs.Common.{◌≡◌, ℕ, List, [], ◌∷◌, ◌++◌, length, drop, refl, sym, ap, ap₂, ◌∙◌}
+use Rattle.std.proofs.Common.{◌≡◌, ℕ, List, [], ◌∷◌, ◌++◌, length, drop, refl, sym, ap, ap₂, subst, ◌∙◌}
 use Rattle.std.proofs.lemmas.List.{map-append, take-append-drop}
 use Rattle.model.specs.Signature.{Verifies}
 use Rattle.model.specs.Block.{Block, block_text}
@@ -36,6 +36,13 @@ pub opened_blocks : (network : Network) (genesis : Genesis) (r : Result Held Reo
     → IfOk r (λ core. texts_of core.opened ≡ blocks)
 opened_blocks network genesis (Ok core) texts blocks opened same = ap (λ (h : Held). texts_of h.opened) opened.2 ∙ (texts_read opened.0 texts opened.1.read ∙ same)
 opened_blocks network genesis (Err e) texts blocks opened same = tt
+
+-- and it is a valid chain of them
+pub opened_chain : (network : Network) (genesis : Genesis) (r : Result Held ReopenFault) (texts blocks : List (List ℕ)) → IfOk r (λ core. (chain : List Block) × IsChainOf network texts chain × (core ≡ opening_held genesis chain)) → texts ≡ blocks
+    → IfOk r (λ core. IsChainOf network blocks core.opened)
+opened_chain network genesis (Ok core) texts blocks opened same =
+    subst (λ (chain : List Block). IsChainOf network blocks chain) (sym (ap (λ (h : Held). h.opened) opened.2)) (subst (λ (t : List (List ℕ)). IsChainOf network t opened.0) same opened.1)
+opened_chain network genesis (Err e) texts blocks opened same = tt
 
 -- nothing is the first of whatever blocks
 pub begins_with_none : (first all : List (List ℕ)) → first ≡ [] → Begins first all

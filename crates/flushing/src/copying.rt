@@ -7,7 +7,7 @@ ghost use Rattle.model.specs.Log.{IsLogBlock, Opens, OpensToBeginning, IsLogOf};
 ghost use Rattle.immlog.specs.Views.{lists_of};
 ghost use Rattle.model.specs.Ledger.{network_of};
 ghost use Rattle.chain_core.specs.Held.{opening_held};
-ghost use Rattle.chain_core.specs.Reopening.{IsReopenFault};
+ghost use Rattle.chain_core.specs.Reopening.{IsChainOf, IsReopenFault};
 ghost use Rattle.flushing.specs.Texts.{texts_of, immutable_texts, Begins};
 
 use chain_core::{Core, ReopenFault};
@@ -23,6 +23,8 @@ pub fn core_on<D: Disk, S: SigScheme>(
     log: &Log<D>,
 ) -> Result<Core<S>, ReopenFault>
     ensures opened { IfOk result (λ core. core ≡ opening_held genesis core.opened) }
+    // It was opened on a valid chain of these blocks.
+    ensures chain { IfOk result (λ core. IsChainOf (network_of genesis S.verifies) log.now.blocks core.opened) }
     ensures blocks { IfOk result (λ core. texts_of core.opened ≡ log.now.blocks) }
     ensures fault { IfErr result (IsReopenFault (network_of genesis S.verifies) log.now.blocks) }
 {
@@ -82,6 +84,8 @@ pub fn flush<D: Disk, S: SigScheme>(
     ensures kept { log.old.broken ≡ false → (IsErrOf result AppendFault.OutOfMemory → ⊥) →
         LeavesSince (D.past log.old.disk) (D.past log.new.disk) (D.moment log.new.disk)
         (IsLogOf (length log.old.blocks) (immutable_texts S.verifies core.now)) }
+    ensures kept_now { log.old.broken ≡ false → (IsErrOf result AppendFault.OutOfMemory → ⊥) →
+        Leaves (IsLogOf (length log.new.blocks) (immutable_texts S.verifies core.now)) (D.moment log.new.disk) }
 
     ensures broken { IsErrOf result AppendFault.Broken ↔ (log.old.broken ≡ true) }
     ensures untouched { IsErrOf result AppendFault.Broken → log.new ≡ log.old }

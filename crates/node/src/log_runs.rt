@@ -62,7 +62,7 @@ fn log_of_file<'a, R: Files + AllocGlobal>(
         Err(error) if error.kind() == ErrorKind::OutOfMemory => {
             Err(Failure::Scenario(ScenarioFault::OutOfMemory))
         }
-        Err(_) => Err(Failure::CannotRead(path)),
+        Err(_) => Err(Failure::DiskFault),
     }
 }
 
@@ -97,11 +97,11 @@ fn run_on_log<'a, D: Disk, R: Read, W: Write>(
     requires genesis { core.genesis ≡ genesis.now }
     requires blocks { texts_of core.opened ≡ log.old.blocks }
     requires sound { log.old.broken ≡ false }
-    // The log then has the immutable blocks of the core that the script led to.
+    // The log then has the immutable blocks of a core to which the definitions' steps led.
     ensures flushed { OnOk result ((after : Held) × HasRun core after
         × (log.new.blocks ≡ immutable_texts test_verifies after)) }
-    // Whatever it answers, a crash at any moment since it was called leaves a beginning of these, with all that the log
-    // had.
+    // Whatever it answers, a crash at any moment since it was called leaves a log that isn't damaged, of a beginning of
+    // these, with all that the log had.
     ensures crash { (after : Held) × HasRun core after × LeavesSince (D.past log.old.disk) (D.past log.new.disk)
         (D.moment log.new.disk) (OpensToBeginning (length log.old.blocks) (immutable_texts test_verifies after)) }
 {

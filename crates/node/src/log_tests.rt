@@ -176,7 +176,7 @@ fn damaged_logs(rt: HostRuntime) {
     remove(&rt, &folder);
 }
 
-// A log whose block isn't one of this genesis, a file that is empty or missing, and a script with a fault.
+// A file that is missing, and one that is empty.
 #[test]
 fn logs_that_are_none(rt: HostRuntime) {
     let folder = own_folder(&rt);
@@ -188,6 +188,24 @@ fn logs_that_are_none(rt: HostRuntime) {
     assert!(&rt; log_bytes(&rt, &paths).as_slice() == b"\x00".as_slice());
     runs_on_log(&rt, &paths, (0, "tip: 0 genesis\n", ""));
     assert!(&rt; log_bytes(&rt, &paths).as_slice() == b"\x00".as_slice());
+    remove(&rt, &folder);
+}
+
+/// A record of the one byte 80, with the SHA-256 of it, and a closed gate.
+const NO_BLOCK: &[u8] = b"\x01\x00\x00\x00\x01\
+\x76\xbe\x8b\x52\x8d\x00\x75\xf7\xaa\xe9\x8d\x6f\xa5\x7a\x6d\x3c\
+\x83\xae\x48\x0a\x84\x69\xe6\x68\xd7\xb0\xaf\x96\x89\x95\xac\x71\
+\x80\x00";
+
+// A log whose only block is none. It isn't written to.
+#[test]
+fn log_with_an_invalid_block(rt: HostRuntime) {
+    let folder = own_folder(&rt);
+    let paths = Paths::of(&rt, &folder, THREE);
+    write_log(&rt, &paths, NO_BLOCK);
+    replays(&rt, &paths, (1, "", "log: invalid block 1\n"));
+    runs_on_log(&rt, &paths, (1, "", "log: invalid block 1\n"));
+    assert!(&rt; log_bytes(&rt, &paths).as_slice() == NO_BLOCK);
     remove(&rt, &folder);
 }
 

@@ -1,20 +1,28 @@
 //! A file of no system.
 
+use std::alloc::Global;
 use std::cell::Cell;
 use std::fs::{Metadata, OpenFile};
 use std::io;
 use std::io::{Read, Seek, SeekFrom, Write};
 
-/// A file that is empty when it is opened and takes what is written to it, but for one call that is chosen: it fails.
+/// A file in memory. Of the calls on it one that is chosen fails.
 #[derive(Drop)]
 pub struct FakeFile {
+    bytes: Vec<u8>,
+    /// How many of the bytes it has.
+    len: Cell<usize>,
+    place: usize,
     calls_left: Cell<u64>,
 }
 
 impl FakeFile {
-    /// One that fails in the call after so many others.
-    pub fn new(calls: u64) -> FakeFile {
+    /// One without a byte, which fails in the call after so many others.
+    pub fn new(alloc: Global, calls: u64) -> FakeFile {
         FakeFile {
+            bytes: Vec::new(alloc),
+            len: Cell::new(0),
+            place: 0,
             calls_left: Cell::new(calls),
         }
     }
@@ -28,18 +36,39 @@ impl FakeFile {
         }
         Ok(())
     }
+
+    /// Puts a byte at the place, or behind the others.
+    fn put(&mut self, byte: u8) -> io::Result<()> {
+        if self.place < self.bytes.len() {
+            self.bytes[self.place] = byte;
+        } else {
+            self.bytes.push(byte)?;
+        }
+        self.place = self.place.saturating_add(1);
+        Ok(())
+    }
 }
 
 impl Read for FakeFile {
-    fn read(&mut self, _buf: &mut [u8]) -> io::Result<usize> {
+    fn read(&mut self, buf: &mut [u8]) -> io::Result<usize> {
         self.works()?;
-        Ok(0)
+        self.bytes.truncate(self.len.get());
+        let from = self.place.min(self.bytes.len());
+        let count = buf.len().min(self.bytes.len() - from);
+        buf[..count].copy_from_slice(&self.bytes[from..from + count]);
+        self.place = from + count;
+        Ok(count)
     }
 }
 
 impl Write for FakeFile {
     fn write(&mut self, buf: &[u8]) -> io::Result<usize> {
         self.works()?;
+        self.bytes.truncate(self.len.get());
+        for byte in buf {
+            self.put(*byte)?;
+        }
+        self.len.set(self.bytes.len());
         Ok(buf.len())
     }
 
@@ -49,19 +78,27 @@ impl Write for FakeFile {
 }
 
 impl Seek for FakeFile {
-    fn seek(&mut self, _to: SeekFrom) -> io::Result<u64> {
+    fn seek(&mut self, to: SeekFrom) -> io::Result<u64> {
         self.works()?;
-        Ok(0)
+        match to {
+            SeekFrom::Start(place) => {
+                self.place = place as usize;
+                Ok(place)
+            }
+            _ => Err(io::ErrorKind::Unsupported.into()),
+        }
     }
 }
 
 impl OpenFile for FakeFile {
     fn metadata(&self) -> io::Result<Metadata> {
-        Ok(Metadata::of_file(0))
+        Ok(Metadata::of_file(self.len.get() as u64))
     }
 
-    fn set_len(&self, _size: u64) -> io::Result<()> {
-        self.works()
+    fn set_len(&self, size: u64) -> io::Result<()> {
+        self.works()?;
+        self.len.set((size as usize).min(self.len.get()));
+        Ok(())
     }
 
     fn sync_all(&self) -> io::Result<()> {

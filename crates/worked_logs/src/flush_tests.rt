@@ -63,7 +63,7 @@ fn core_after(rt: &(impl Abort + AllocGlobal), blocks: u64) -> Box<Core<TestSche
 /// A log of the immutable blocks of a core to which so many came.
 fn log_after(rt: &(impl Abort + AllocGlobal), blocks: u64) -> Box<Log<FileDisk<FakeFile>>> {
     let core = core_after(rt, blocks);
-    let disk = FileDisk::open(rt.alloc(), FakeFile::new(u64::MAX)).expect(rt, MEMORY);
+    let disk = FileDisk::open(rt.alloc(), FakeFile::new(rt.alloc(), u64::MAX)).expect(rt, MEMORY);
     let Ok(mut log) = Log::create(rt.alloc(), disk) else {
         rt.abort();
     };
