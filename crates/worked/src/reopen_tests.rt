@@ -3,9 +3,8 @@
 use super::fixture::{
     MEMORY, Made, SMALL_NETWORK, answers, boxed, chain_of, core_on, kept, make, same,
 };
-use chain_core::{ArriveReply, Core, Instruction, Refusal, ReopenFault};
+use chain_core::{Core, Instruction, ReopenFault};
 use genesis::Genesis;
-use ident::Point;
 use std::process::Abort;
 use witness_pool::TestScheme;
 
@@ -90,41 +89,6 @@ fn restarts_on_immutable_blocks(rt: HostRuntime) {
     }
     assert!(rt; again.tip() == core.tip());
     tells_from_the_first_on(&rt, &mut again, &texts);
-}
-
-// What a core was opened on is never rolled back, though the chain is shorter than k.
-#[test]
-fn no_fork_behind_an_opened_chain(rt: HostRuntime) {
-    let a1 = make(&rt, None, 1);
-    let a2 = make(&rt, Some(&a1), 2);
-    let b1 = make(&rt, None, 4);
-    let b2 = make(&rt, Some(&b1), 5);
-    let b3 = make(&rt, Some(&b2), 6);
-    let b4 = make(&rt, Some(&b3), 7);
-    let mut texts = boxed(&rt, Vec::new(rt.alloc()));
-    put(&rt, &mut texts, &a1);
-    let mut core = opened_on(&rt, &texts);
-    assert!(rt;
-        core.tip()
-            == (Point {
-                number: 1,
-                hash: a1.hash
-            })
-    );
-    let too_old = ArriveReply::Refused(Refusal::TooOld);
-    answers(&rt, &mut core, &b1.text, too_old);
-    answers(&rt, &mut core, &a1.text, too_old);
-    answers(&rt, &mut core, &a2.text, kept(0, 1));
-    answers(&rt, &mut core, &b2.text, kept(0, 0));
-    answers(&rt, &mut core, &b3.text, kept(0, 0));
-    answers(&rt, &mut core, &b4.text, kept(0, 0));
-    assert!(rt;
-        core.tip()
-            == (Point {
-                number: 2,
-                hash: a2.hash
-            })
-    );
 }
 
 // The first block that is none, or can't come next, is told by its number.
