@@ -66,6 +66,7 @@ means_so written settings grants found all = record {
   max_body_size = found.max_body_size.same;
   max_volatile = found.max_volatile.same;
   max_mempool = found.max_mempool.same;
+  second_era = found.second_era.same;
   grants = subst (λ (z : ℤ). Paired (IsGrantOf z) written.outputs grants) (sym found.network.same)
       (paired_weaker _ (IsGrantOf (pos settings.params.network)) written.outputs grants (λ e g both. both.0) all.pairs);
 }

@@ -1,12 +1,14 @@
--- The nine numbers and their ranges.
-use Rattle.std.proofs.Common.{◌≡◌, ℕ, ℤ, pos, negsuc, ◌≤◌, Some, None, refl, sym, ap, ◌∙◌, arith}
+-- The numbers and their ranges.
+use Rattle.std.proofs.Common.{◌≡◌, ℕ, ℤ, pos, negsuc, ◌≤◌, Option, Some, None, refl, sym, ap, subst, ◌∙◌, arith}
+use Rattle.std.specs.Prelude.{IfSome, option_map}
 use Rattle.std.proofs.lemmas.Option.{same_Some, none-some}
 use Rattle.std.proofs.lemmas.Bool.Decides.{nat_tests}
 use Rattle.std.proofs.lemmas.Int.{ints}
-use Rattle.model.specs.Genesis.{IsWithin, IsParams}
-use Rattle.genesis.specs.Document.{Numbers}
-use Rattle.genesis.specs.Judgement.{within, Settings, settings_of}
-use Rattle.genesis.specs.Meaning.{IsInRange, AreInRange}
+use Rattle.model.specs.Rules.{SecondEra}
+use Rattle.model.specs.Genesis.{IsWithin, IsSecondEra, IsParams}
+use Rattle.genesis.specs.Document.{EraNumbers, Numbers}
+use Rattle.genesis.specs.Judgement.{within, era_of, era_if_written, Settings, settings_of}
+use Rattle.genesis.specs.Meaning.{IsInRange, AreOfSecondEra, AreInRange, numbers_of_era}
 use Rattle.genesis.proofs.Steps.{on_the_way}
 
 -- what a number in its range is
@@ -35,7 +37,51 @@ pub range_of : (least most : ℕ) (number : ℤ) (n : ℕ) → IsFound least mos
 range_of least most number n found =
     rw found.same (record { not_below = omega (arith, ints, found.within.not_below); not_above = omega (arith, ints, found.within.not_above) })
 
--- the nine numbers, each found in its range
+-- ---- a second era
+
+-- what was found of what is written
+pub record IsFoundEra (numbers : Option EraNumbers) (era : Option SecondEra) : Type 0 where
+  pub same : numbers ≡ option_map numbers_of_era era
+  pub within : IfSome era IsSecondEra
+  pub in_range : IfSome numbers AreOfSecondEra
+
+era_found : (numbers : EraNumbers) (era : SecondEra) → era_of numbers ≡ Some era → IsFoundEra (Some numbers) (Some era)
+unfolding era_of
+era_found numbers era is =
+    let slot = on_the_way (within 1 9223372036854775807 numbers.first_slot) _ era is in
+    let coin = on_the_way (within 0 1000000000000 numbers.per_asset) _ era slot.2 in
+    let s = found_within 1 9223372036854775807 _ _ slot.1 in
+    let c = found_within 0 1000000000000 _ _ coin.1 in
+    rw (← same_Some _ _ coin.2) (record {
+      same = λ i. Some (record { first_slot = s.same i; per_asset = c.same i });
+      within = record { first_slot = s.within; per_asset = c.within };
+      in_range = record { first_slot = range_of _ _ _ _ s; per_asset = range_of _ _ _ _ c };
+    })
+
+-- where something was found of an option's map
+mapped : (found : Option SecondEra) (era : Option SecondEra) → option_map (λ e. Some e) found ≡ Some era → (e : SecondEra) × (found ≡ Some e) × (Some e ≡ era)
+mapped None era is = absurd (none-some era is)
+mapped (Some e) era is = (e, refl, same_Some _ _ is)
+
+pub era_if_found : (numbers : Option EraNumbers) (era : Option SecondEra) → era_if_written numbers ≡ Some era → IsFoundEra numbers era
+unfolding era_if_written
+era_if_found None era is = subst (IsFoundEra None) (same_Some _ _ is) (record { same = refl; within = tt; in_range = tt })
+era_if_found (Some numbers) era is =
+    let (e, found, here) = mapped (era_of numbers) era is in
+    subst (IsFoundEra (Some numbers)) here (era_found numbers e found)
+
+-- numbers in their ranges are found
+pub era_there : (numbers : Option EraNumbers) → IfSome numbers AreOfSecondEra → (era : Option SecondEra) × (era_if_written numbers ≡ Some era)
+unfolding era_if_written era_of
+era_there None ranges = (None, refl)
+era_there (Some numbers) ranges =
+    let (slot, s) = in_range 1 9223372036854775807 numbers.first_slot ranges.first_slot in
+    let (coin, c) = in_range 0 1000000000000 numbers.per_asset ranges.per_asset in
+    (Some (record { first_slot = slot; per_asset = coin }), rw (s, c) refl)
+
+-- ---- all numbers
+
+-- each found in its range
 pub record AreFound (numbers : Numbers) (settings : Settings) : Type 0 where
   pub network : IsFound 0 15 numbers.network settings.params.network
   pub k : IsFound 1 10000 numbers.k settings.k
@@ -46,6 +92,7 @@ pub record AreFound (numbers : Numbers) (settings : Settings) : Type 0 where
   pub max_body_size : IsFound 1 1048000 numbers.max_body_size settings.params.max_body_size
   pub max_volatile : IsFound 1 100000 numbers.max_volatile settings.max_volatile
   pub max_mempool : IsFound 1 100000 numbers.max_mempool settings.max_mempool
+  pub second_era : IsFoundEra numbers.second_era settings.params.second_era
 
 pub settings_found : (numbers : Numbers) (settings : Settings) → settings_of numbers ≡ Some settings → AreFound numbers settings
 unfolding settings_of
@@ -59,7 +106,8 @@ settings_found numbers settings is =
     let body_size = on_the_way (within 1 1048000 numbers.max_body_size) _ settings tx_size.2 in
     let volatile = on_the_way (within 1 100000 numbers.max_volatile) _ settings body_size.2 in
     let mempool = on_the_way (within 1 100000 numbers.max_mempool) _ settings volatile.2 in
-    rw (← same_Some _ _ mempool.2) (record {
+    let era = on_the_way (era_if_written numbers.second_era) _ settings mempool.2 in
+    rw (← same_Some _ _ era.2) (record {
       network = found_within 0 15 _ _ network.1;
       k = found_within 1 10000 _ _ k.1;
       min_fee_a = found_within 0 1000000 _ _ fee_a.1;
@@ -69,6 +117,7 @@ settings_found numbers settings is =
       max_body_size = found_within 1 1048000 _ _ body_size.1;
       max_volatile = found_within 1 100000 _ _ volatile.1;
       max_mempool = found_within 1 100000 _ _ mempool.1;
+      second_era = era_if_found _ _ era.1;
     })
 
 pub found_in_range : (numbers : Numbers) (settings : Settings) → AreFound numbers settings → AreInRange numbers
@@ -82,6 +131,7 @@ found_in_range numbers settings found = record {
   max_body_size = range_of _ _ _ _ found.max_body_size;
   max_volatile = range_of _ _ _ _ found.max_volatile;
   max_mempool = range_of _ _ _ _ found.max_mempool;
+  second_era = found.second_era.in_range;
 }
 
 pub found_params : (numbers : Numbers) (settings : Settings) → AreFound numbers settings → IsParams settings.params
@@ -92,6 +142,7 @@ found_params numbers settings found = record {
   min_utxo = found.min_utxo.within;
   max_tx_size = found.max_tx_size.within;
   max_body_size = found.max_body_size.within;
+  second_era = found.second_era.within;
 }
 
 -- numbers in their ranges are found
@@ -107,11 +158,12 @@ settings_there numbers ranges none =
     let (body_size, g) = in_range 1 1048000 numbers.max_body_size ranges.max_body_size in
     let (volatile, h) = in_range 1 100000 numbers.max_volatile ranges.max_volatile in
     let (mempool, i) = in_range 1 100000 numbers.max_mempool ranges.max_mempool in
+    let (era, j) = era_there numbers.second_era ranges.second_era in
     let settings : Settings = record {
-      params = record { network = network; min_fee_a = fee_a; min_fee_b = fee_b; min_utxo = utxo; max_tx_size = tx_size; max_body_size = body_size };
+      params = record { network = network; min_fee_a = fee_a; min_fee_b = fee_b; min_utxo = utxo; max_tx_size = tx_size; max_body_size = body_size; second_era = era };
       k = k;
       max_volatile = volatile;
       max_mempool = mempool;
     } in
-    let some : settings_of numbers ≡ Some settings = rw (a, b, c, d, e, f, g, h, i) refl in
+    let some : settings_of numbers ≡ Some settings = rw (a, b, c, d, e, f, g, h, i, j) refl in
     none-some settings (sym none ∙ some)

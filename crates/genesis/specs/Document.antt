@@ -6,7 +6,12 @@ use Rattle.toml.specs.Data.{Data, Items, no_items, item, Members, no_members, me
 use Rattle.toml.specs.Data.{get_member, as_integer, as_str, as_array, as_table}
 use Rattle.genesis.specs.Steps.{◌>>=◌, guard, each}
 
--- the nine numbers
+-- the two numbers of a second era
+pub record EraNumbers : Type 0 where
+  pub first_slot : ℤ
+  pub per_asset : ℤ
+
+-- the nine numbers that each genesis has, and those of a second era
 pub record Numbers : Type 0 where
   pub network : ℤ
   pub k : ℤ
@@ -17,6 +22,7 @@ pub record Numbers : Type 0 where
   pub max_body_size : ℤ
   pub max_volatile : ℤ
   pub max_mempool : ℤ
+  pub second_era : Option EraNumbers
 
 -- what unlocks an output: an address, or a key, each as its hexadecimal text
 pub data Lock : Type 0 where
@@ -47,7 +53,8 @@ has_only known (member key value rest) = is_known known key && has_only known re
 abbrev pub genesis_keys : List (List ℕ)
 genesis_keys =
     codes "network" ∷ codes "k" ∷ codes "min_fee_a" ∷ codes "min_fee_b" ∷ codes "min_utxo" ∷ codes "max_tx_size"
-    ∷ codes "max_body_size" ∷ codes "max_volatile" ∷ codes "max_mempool" ∷ codes "output" ∷ []
+    ∷ codes "max_body_size" ∷ codes "max_volatile" ∷ codes "max_mempool" ∷ codes "era2_slot" ∷ codes "per_asset"
+    ∷ codes "output" ∷ []
 
 -- the keys of an output
 abbrev pub entry_keys : List (List ℕ)
@@ -57,7 +64,21 @@ entry_keys = codes "address" ∷ codes "key" ∷ codes "coin" ∷ []
 abbrev pub number_at : List ℕ → Members → Option ℤ
 number_at key document = get_member key document >>= as_integer
 
--- ---- the nine numbers
+-- ---- the numbers
+
+-- both numbers of a second era, or neither
+abbrev pub both_or_none : Option Data → Option Data → Option (Option EraNumbers)
+both_or_none None None = Some None
+both_or_none (Some slot) (Some coin) = do
+  first_slot ← as_integer slot
+  per_asset ← as_integer coin
+  Some (Some (record { first_slot = first_slot; per_asset = per_asset }))
+both_or_none (Some slot) None = None
+both_or_none None (Some coin) = None
+
+-- a second era, which begins at `era2_slot`, if there is one
+unfoldable pub era_in : Members → Option (Option EraNumbers)
+era_in document = both_or_none (get_member (codes "era2_slot") document) (get_member (codes "per_asset") document)
 
 unfoldable pub numbers_in : Members → Option Numbers
 numbers_in document = do
@@ -70,6 +91,7 @@ numbers_in document = do
   max_body_size ← number_at (codes "max_body_size") document
   max_volatile ← number_at (codes "max_volatile") document
   max_mempool ← number_at (codes "max_mempool") document
+  second_era ← era_in document
   Some (record {
     network = network;
     k = k;
@@ -80,6 +102,7 @@ numbers_in document = do
     max_body_size = max_body_size;
     max_volatile = max_volatile;
     max_mempool = max_mempool;
+    second_era = second_era;
   })
 
 -- ---- the outputs
@@ -120,7 +143,7 @@ outputs_in document = do
   each entry_of (values_of tables)
 
 -- WHAT A DOCUMENT WRITES
--- The nine numbers and the outputs, where it has their keys and no others, each with a value of its type.
+-- The numbers and the outputs, where it has their keys and no others, each with a value of its type.
 unfoldable pub written_in : Members → Option Written
 written_in document = do
   known ← guard (has_only genesis_keys document)

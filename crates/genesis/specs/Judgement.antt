@@ -1,29 +1,41 @@
 -- The genesis that a document writes, or the least fault of it, one stage after the other (the order is this project's
 -- own).
 use Rattle.std.specs.Prelude.{ℕ, ℤ, pos, negsuc, nat_le, nat_lt, ◌==◌, ◌&&◌, if◌then◌else◌, List, length}
-use Rattle.std.specs.Prelude.{Option, Some, None}
+use Rattle.std.specs.Prelude.{Option, Some, None, option_map}
 use Rattle.std.specs.Prelude.{Result, Ok, sum_by}
 use Rattle.std.specs.Result.{result_ok}
 use Rattle.hex.specs.Hex.{decode_sized}
 use Rattle.toml.specs.Parse.{parse_document}
 use Rattle.model.specs.Limits.{number_limit}
 use Rattle.model.specs.Transaction.{Address, KeyHash, key_hash_of}
-use Rattle.model.specs.Rules.{Params}
+use Rattle.model.specs.Rules.{SecondEra, Params}
 use Rattle.model.specs.Genesis.{Genesis, Grant}
 use Rattle.tx.specs.Reading.{address_of_bytes}
 use Rattle.genesis.specs.declared.genesis_fault.GenesisFault.{GenesisFault}
 use Rattle.genesis.specs.declared.genesis_fault.GenesisFault.TheVariants as faults
 use Rattle.genesis.specs.Steps.{◌>>=◌, each, or_fault}
-use Rattle.genesis.specs.Document.{Numbers, Lock, ByAddress, ByKey, Entry, Written, written_in}
+use Rattle.genesis.specs.Document.{EraNumbers, Numbers, Lock, ByAddress, ByKey, Entry, Written, written_in}
 
--- ---- the nine numbers
+-- ---- the numbers
 
 -- a number in its range
 abbrev pub within : (least most : ℕ) → ℤ → Option ℕ
 within least most (pos n) = if nat_le least n && nat_le n most then Some n else None
 within least most (negsuc n) = None
 
--- the nine numbers, in their ranges
+-- the numbers of a second era, in their ranges
+unfoldable pub era_of : EraNumbers → Option SecondEra
+era_of numbers = do
+  first_slot ← within 1 9223372036854775807 numbers.first_slot
+  per_asset ← within 0 1000000000000 numbers.per_asset
+  Some (record { first_slot = first_slot; per_asset = per_asset })
+
+-- where they are written
+unfoldable pub era_if_written : Option EraNumbers → Option (Option SecondEra)
+era_if_written None = Some None
+era_if_written (Some numbers) = option_map (λ era. Some era) (era_of numbers)
+
+-- the numbers, in their ranges
 pub record Settings : Type 0 where
   pub params : Params
   pub k : ℕ
@@ -41,6 +53,7 @@ settings_of numbers = do
   max_body_size ← within 1 1048000 numbers.max_body_size
   max_volatile ← within 1 100000 numbers.max_volatile
   max_mempool ← within 1 100000 numbers.max_mempool
+  second_era ← era_if_written numbers.second_era
   Some (record {
     params = record {
       network = network;
@@ -49,6 +62,7 @@ settings_of numbers = do
       min_utxo = min_utxo;
       max_tx_size = max_tx_size;
       max_body_size = max_body_size;
+      second_era = second_era;
     };
     k = k;
     max_volatile = max_volatile;

@@ -1,17 +1,18 @@
 -- What a text means as a genesis, in words that are not the reader's: which genesis it says, and which faults it has,
 -- each by itself (the faults and their numbers are this project's own).
 use Rattle.std.specs.Prelude.{◌≡◌, ℕ, ◌<◌, ℤ, pos, ◌+ℤ◌, ◌≤ℤ◌, List, [], ◌∷◌, length}
-use Rattle.std.specs.Prelude.{Option, Some, None, Result, Ok, Err}
+use Rattle.std.specs.Prelude.{Option, Some, None, IfSome, option_map, Result, Ok, Err}
 use Rattle.std.specs.List.{AllByRecursion}
 use Rattle.hex.specs.Hex.{decode_sized}
 use Rattle.toml.specs.Data.{Members}
 use Rattle.toml.specs.Parse.{parse_document}
 use Rattle.model.specs.Transaction.{Address, KeyHash, key_hash_of, address_bytes, IsAddress}
+use Rattle.model.specs.Rules.{SecondEra}
 use Rattle.model.specs.Genesis.{Genesis, Grant, IsWithin, IsGenesis}
 use Rattle.genesis.specs.declared.genesis_fault.GenesisFault.{GenesisFault}
 use Rattle.genesis.specs.declared.genesis_fault.GenesisFault.TheVariants as faults
 use Rattle.genesis.specs.Steps.{Paired}
-use Rattle.genesis.specs.Document.{Numbers, Lock, ByAddress, ByKey, Entry, Written, written_in}
+use Rattle.genesis.specs.Document.{EraNumbers, Numbers, Lock, ByAddress, ByKey, Entry, Written, written_in}
 
 -- the number of a fault, 1 to 6; want of memory is none of the text's faults
 abbrev pub number_of : GenesisFault → ℕ
@@ -41,6 +42,10 @@ pub record IsInRange (least most : ℕ) (number : ℤ) : Type 0 where
   pub not_below : pos least ≤ℤ number
   pub not_above : number ≤ℤ pos most
 
+pub record AreOfSecondEra (numbers : EraNumbers) : Type 0 where
+  pub first_slot : IsInRange 1 9223372036854775807 numbers.first_slot
+  pub per_asset : IsInRange 0 1000000000000 numbers.per_asset
+
 pub record AreInRange (numbers : Numbers) : Type 0 where
   pub network : IsInRange 0 15 numbers.network
   pub k : IsInRange 1 10000 numbers.k
@@ -51,6 +56,7 @@ pub record AreInRange (numbers : Numbers) : Type 0 where
   pub max_body_size : IsInRange 1 1048000 numbers.max_body_size
   pub max_volatile : IsInRange 1 100000 numbers.max_volatile
   pub max_mempool : IsInRange 1 100000 numbers.max_mempool
+  pub second_era : IfSome numbers.second_era AreOfSecondEra
 
 -- 66 digits are the address's 33 bytes
 pub record IsAddressText (text : List ℕ) (address : Address) : Type 0 where
@@ -93,6 +99,10 @@ pub record IsGrantOf (network : ℤ) (entry : Entry) (grant : Grant) : Type 0 wh
   pub address : IsAddressOf network entry.lock grant.address
   pub coin : entry.coin ≡ pos grant.coin
 
+-- the numbers that write a second era
+abbrev pub numbers_of_era : SecondEra → EraNumbers
+numbers_of_era era = record { first_slot = pos era.first_slot; per_asset = pos era.per_asset }
+
 -- the genesis has just what is written
 pub record IsGenesisOf (written : Written) (genesis : Genesis) : Type 0 where
   pub network : written.numbers.network ≡ pos genesis.params.network
@@ -104,6 +114,7 @@ pub record IsGenesisOf (written : Written) (genesis : Genesis) : Type 0 where
   pub max_body_size : written.numbers.max_body_size ≡ pos genesis.params.max_body_size
   pub max_volatile : written.numbers.max_volatile ≡ pos genesis.max_volatile
   pub max_mempool : written.numbers.max_mempool ≡ pos genesis.max_mempool
+  pub second_era : written.numbers.second_era ≡ option_map numbers_of_era genesis.params.second_era
   -- one grant for each output, in the same order
   pub grants : Paired (IsGrantOf written.numbers.network) written.outputs genesis.grants
 

@@ -1,16 +1,19 @@
 -- What the values of the code stand for.
-use Rattle.std.specs.Prelude.{ℕ, List, map, Vec}
+use Rattle.std.specs.Prelude.{ℕ, List, map, Vec, option_map}
 use Rattle.std.specs.declared.alloc.Global.{Global}
 use Rattle.std.specs.Borrow.{Bor}
+use Rattle.model.specs.Rules.{SecondEra}
 use Rattle.model.specs.Genesis.{Grant}
 use Rattle.tx.specs.View.{address_of}
-use Rattle.genesis.specs.Document.{Numbers, Lock, ByAddress, ByKey, Entry, Written}
+use Rattle.genesis.specs.Document.{EraNumbers, Numbers, Lock, ByAddress, ByKey, Entry, Written}
 use Rattle.genesis.specs.Judgement.{Settings, Placed}
+use Rattle.genesis.specs.declared.document.EraNumbers.{EraNumbers as CodeEraNumbers}
 use Rattle.genesis.specs.declared.document.Numbers.{Numbers as CodeNumbers}
 use Rattle.genesis.specs.declared.document.Lock.{Lock as CodeLock}
 use Rattle.genesis.specs.declared.document.Lock.TheVariants.{Address, Key}
 use Rattle.genesis.specs.declared.document.Entry.{Entry as CodeEntry}
 use Rattle.genesis.specs.declared.document.Written.{Written as CodeWritten}
+use Rattle.genesis.specs.declared.settings.SecondEra.{SecondEra as CodeSecondEra}
 use Rattle.genesis.specs.declared.settings.Settings.{Settings as CodeSettings}
 use Rattle.genesis.specs.declared.placing.Placed.{Placed as CodePlaced}
 use Rattle.genesis.specs.declared.grants.Grant.{Grant as CodeGrant}
@@ -20,6 +23,9 @@ abbrev pub texts_of : List (Bor (List ℕ)) → List (List ℕ)
 texts_of texts = map (λ text. text.now) texts
 
 -- ---- what is written
+
+abbrev pub era_numbers_view : CodeEraNumbers → EraNumbers
+era_numbers_view e = record { first_slot = e.first_slot; per_asset = e.per_asset }
 
 abbrev pub numbers_view : CodeNumbers → Numbers
 numbers_view n =
@@ -33,6 +39,7 @@ numbers_view n =
       max_body_size = n.max_body_size;
       max_volatile = n.max_volatile;
       max_mempool = n.max_mempool;
+      second_era = option_map era_numbers_view n.second_era;
     }
 
 abbrev pub lock_view : CodeLock → Lock
@@ -50,6 +57,9 @@ written_view w = record { numbers = numbers_view w.numbers; outputs = entries_vi
 
 -- ---- what is judged
 
+abbrev pub era_view : CodeSecondEra → SecondEra
+era_view e = record { first_slot = e.first_slot; per_asset = e.per_asset }
+
 abbrev pub settings_view : CodeSettings → Settings
 settings_view s =
     record {
@@ -60,6 +70,7 @@ settings_view s =
         min_utxo = s.min_utxo;
         max_tx_size = s.max_tx_size;
         max_body_size = s.max_body_size;
+        second_era = option_map era_view s.second_era;
       };
       k = s.k;
       max_volatile = s.max_volatile;

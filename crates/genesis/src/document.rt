@@ -4,8 +4,9 @@ ghost use Rattle.std.specs.Prelude.{◌≡◌, map, ok_or, option_map};
 ghost use Rattle.toml.specs.View.{array_view, table_view, view};
 ghost use Rattle.genesis.specs.declared.genesis_fault.GenesisFault.TheVariants.{BadShape};
 ghost use Rattle.genesis.specs.Steps.{each, Gives};
-ghost use Rattle.genesis.specs.Document.{numbers_in, lock_in, entry_in, entry_of, values_of, outputs_in, written_in};
-ghost use Rattle.genesis.specs.View.{numbers_view, lock_view, entry_view, entries_view, written_view};
+ghost use Rattle.genesis.specs.Document.{era_in, numbers_in, lock_in, entry_in, entry_of, values_of, outputs_in};
+ghost use Rattle.genesis.specs.Document.{written_in};
+ghost use Rattle.genesis.specs.View.{era_numbers_view, numbers_view, lock_view, entry_view, entries_view, written_view};
 
 use crate::genesis_fault::GenesisFault;
 use crate::table::{has_only, number_at, value_at};
@@ -14,7 +15,7 @@ use toml::value::Array;
 use toml::{Table, Value};
 
 /// The keys of a genesis.
-const GENESIS_KEYS: [&str; 10] = [
+const GENESIS_KEYS: [&str; 12] = [
     "network",
     "k",
     "min_fee_a",
@@ -24,13 +25,39 @@ const GENESIS_KEYS: [&str; 10] = [
     "max_body_size",
     "max_volatile",
     "max_mempool",
+    "era2_slot",
+    "per_asset",
     "output",
 ];
 
 /// The keys of an output.
 const ENTRY_KEYS: [&str; 3] = ["address", "key", "coin"];
 
-/// The nine numbers, as they are written.
+/// The two numbers of a second era, as they are written.
+#[derive(Clone, Copy)]
+pub struct EraNumbers {
+    pub first_slot: i64,
+    pub per_asset: i64,
+}
+
+impl EraNumbers {
+    /// The numbers of a document, if both stand there, and none of them if neither does.
+    #[tactic(auto, unfolding(crate::specs::Document::era_in))]
+    fn of_table(table: &Table) -> Option<Option<EraNumbers>>
+        ensures { option_map (option_map era_numbers_view) result ≡ era_in (table_view table.now) }
+    {
+        match (value_at(table, "era2_slot"), value_at(table, "per_asset")) {
+            (None, None) => Some(None),
+            (Some(slot), Some(coin)) => Some(Some(EraNumbers {
+                first_slot: slot.as_integer()?,
+                per_asset: coin.as_integer()?,
+            })),
+            _ => None,
+        }
+    }
+}
+
+/// The nine numbers that each genesis has, and those of a second era, as they are written.
 #[derive(Clone, Copy)]
 pub struct Numbers {
     pub network: i64,
@@ -42,10 +69,11 @@ pub struct Numbers {
     pub max_body_size: i64,
     pub max_volatile: i64,
     pub max_mempool: i64,
+    pub second_era: Option<EraNumbers>,
 }
 
 impl Numbers {
-    /// The nine numbers of a document, if each stands there.
+    /// The numbers of a document, if each of the nine stands there.
     #[tactic(auto, unfolding(crate::specs::Document::numbers_in))]
     fn of_table(table: &Table) -> Option<Numbers>
         ensures { option_map numbers_view result ≡ numbers_in (table_view table.now) }
@@ -60,6 +88,7 @@ impl Numbers {
             max_body_size: number_at(table, "max_body_size")?,
             max_volatile: number_at(table, "max_volatile")?,
             max_mempool: number_at(table, "max_mempool")?,
+            second_era: EraNumbers::of_table(table)?,
         })
     }
 }

@@ -1,21 +1,21 @@
 //! The genesis of a network.
 
-ghost use Rattle.std.specs.Prelude.{◌≡◌, map, IfOk, option_map, ok_or};
+ghost use Rattle.std.specs.Prelude.{◌≡◌, map, IfOk, IfSome, option_map, ok_or};
 ghost use Rattle.toml.specs.Parse.{parse_document};
 ghost use Rattle.toml.specs.View.{table_view};
 ghost use Rattle.model.specs.Genesis as model;
-ghost use Rattle.model.specs.Genesis.{supply_of, IsGenesis, IsWithin};
+ghost use Rattle.model.specs.Genesis.{supply_of, IsGenesis, IsSecondEra, IsWithin};
 ghost use Rattle.genesis.specs.declared.genesis_fault.GenesisFault.TheVariants.{NotToml};
 ghost use Rattle.genesis.specs.Steps.{Gives};
 ghost use Rattle.genesis.specs.Judgement.{judged, genesis_of};
 ghost use Rattle.genesis.specs.Meaning.{IsAnswer};
-ghost use Rattle.genesis.specs.View.{grant_view, written_view};
+ghost use Rattle.genesis.specs.View.{era_view, grant_view, written_view};
 
 use crate::document::Written;
 use crate::genesis_fault::GenesisFault;
 use crate::grants::{self, Grant};
 use crate::placing;
-use crate::settings::Settings;
+use crate::settings::{SecondEra, Settings};
 use std::alloc::{AllocError, Global};
 use std::marker::Model;
 use toml::Table;
@@ -81,9 +81,10 @@ impl Genesis {
 
     /// The genesis that a TOML document says: `network` (0 to 15), `k` (1 to 10,000), `min_fee_a` (at most
     /// 1,000,000), `min_fee_b` and `min_utxo` (at most 1,000,000,000,000), `max_tx_size` (1 to 65,536), `max_body_size`
-    /// (1 to 1,048,000), `max_volatile` and `max_mempool` (1 to 100,000), and `output`, an array of tables, each with
-    /// `coin` and just one of `address` (66 hexadecimal digits) and `key` (64 of them). Err is the first of the faults
-    /// that applies to the whole text, or OutOfMemory. Takes time and memory in proportion to the text.
+    /// (1 to 1,048,000), `max_volatile` and `max_mempool` (1 to 100,000), both or none of `era2_slot` (1 to 2^63 - 1)
+    /// and `per_asset` (at most 1,000,000,000,000), and `output`, an array of tables, each with `coin` and just one of
+    /// `address` (66 hexadecimal digits) and `key` (64 of them). Err is the first of the faults that applies to the
+    /// whole text, or OutOfMemory. Takes time and memory in proportion to the text.
     pub fn from_toml(alloc: Global, text: &str) -> Result<Genesis, GenesisFault>
         ensures exact { Gives (λ genesis. genesis) result (genesis_of text.now) }
         ensures least { IsAnswer text.now result }
@@ -123,7 +124,8 @@ impl Genesis {
         self.settings.min_fee_b
     }
 
-    /// How much lovelace an output holds at least, at most 1,000,000,000,000. Those of the genesis need not.
+    /// How much lovelace an output holds at least, whatever its assets, at most 1,000,000,000,000. Those of the genesis
+    /// need not.
     pub fn min_utxo(&self) -> u64
         ensures { result ≡ self.now.params.min_utxo }
     {
@@ -144,6 +146,14 @@ impl Genesis {
         ensures range { IsWithin 1 1048000 result }
     {
         self.settings.max_body_size
+    }
+
+    /// When outputs have to hold more for their assets, and how much: none where they never do.
+    pub fn second_era(&self) -> Option<SecondEra>
+        ensures is { option_map era_view result ≡ self.now.params.second_era }
+        ensures ranges { IfSome result (λ era. IsSecondEra (era_view era)) }
+    {
+        self.settings.second_era
     }
 
     /// How many live blocks are kept at most, 1 to 100,000.

@@ -13,10 +13,11 @@ pub enum GenesisFault {
     /// The text is no TOML document. A whole number outside 64 bits is none either.
     #[error("NotToml")]
     NotToml,
-    /// A key is missing, unknown or of another type, or an output has both an address and a key, or neither.
+    /// A key is missing, unknown or of another type, one key of a second era is there without the other, or an output
+    /// has both an address and a key, or neither.
     #[error("BadShape")]
     BadShape,
-    /// One of the nine numbers is out of its range.
+    /// One of the numbers is out of its range.
     #[error("OutOfRange")]
     OutOfRange,
     /// An address or a key has another length or other digits, or an address is of another kind or network.

@@ -17,3 +17,4 @@ mod table;
 pub use genesis::Genesis;
 pub use genesis_fault::GenesisFault;
 pub use grants::Grant;
+pub use settings::SecondEra;

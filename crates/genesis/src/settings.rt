@@ -1,12 +1,21 @@
-//! The nine numbers of a genesis, in their ranges.
+//! The numbers of a genesis, in their ranges.
 
 ghost use Rattle.std.specs.Prelude.{◌≡◌, ◌≤◌, ◌<◌, IfSome, option_map};
-ghost use Rattle.genesis.specs.Judgement.{within, settings_of};
-ghost use Rattle.genesis.specs.View.{numbers_view, settings_view};
+ghost use Rattle.genesis.specs.Judgement.{within, era_of, era_if_written, settings_of};
+ghost use Rattle.genesis.specs.View.{era_numbers_view, era_view, numbers_view, settings_view};
 
-use crate::document::Numbers;
+use crate::document::{EraNumbers, Numbers};
 
-/// The nine numbers, in their ranges.
+/// A second era: from a slot on, an output holds more lovelace for each of its assets.
+#[derive(Clone, Copy, Debug, PartialEq, Eq)]
+pub struct SecondEra {
+    /// The first slot that is judged by it, 1 to 2^63 - 1.
+    pub first_slot: u64,
+    /// How much more lovelace an output holds at least for each of its assets, at most 1,000,000,000,000.
+    pub per_asset: u64,
+}
+
+/// The numbers of a genesis, in their ranges.
 #[derive(Clone, Copy, Debug)]
 pub struct Settings {
     pub network: u8,
@@ -18,6 +27,7 @@ pub struct Settings {
     pub max_body_size: u64,
     pub max_volatile: u64,
     pub max_mempool: u64,
+    pub second_era: Option<SecondEra>,
 }
 
 /// The number, where it is at least the first and at most the second.
@@ -30,6 +40,31 @@ pub fn within(least: u64, most: u64, number: i64) -> Option<u64>
         return None;
     }
     Some(number)
+}
+
+impl SecondEra {
+    /// The era of these numbers, where each is in its range.
+    #[tactic(auto, unfolding(crate::specs::Judgement::era_of))]
+    fn of_numbers(numbers: &EraNumbers) -> Option<SecondEra>
+        ensures { option_map era_view result ≡ era_of (era_numbers_view numbers.now) }
+    {
+        Some(SecondEra {
+            first_slot: within(1, 9_223_372_036_854_775_807, numbers.first_slot)?,
+            per_asset: within(0, 1_000_000_000_000, numbers.per_asset)?,
+        })
+    }
+
+    /// The same, where numbers are written.
+    #[tactic(auto, unfolding(crate::specs::Judgement::era_if_written))]
+    fn if_written(numbers: &Option<EraNumbers>) -> Option<Option<SecondEra>>
+        ensures { option_map (option_map era_view) result ≡
+            era_if_written (option_map era_numbers_view numbers.now) }
+    {
+        match numbers {
+            None => Some(None),
+            Some(numbers) => Some(Some(SecondEra::of_numbers(numbers)?)),
+        }
+    }
 }
 
 impl Settings {
@@ -48,6 +83,7 @@ impl Settings {
             max_body_size: within(1, 1_048_000, numbers.max_body_size)?,
             max_volatile: within(1, 100_000, numbers.max_volatile)?,
             max_mempool: within(1, 100_000, numbers.max_mempool)?,
+            second_era: SecondEra::if_written(&numbers.second_era)?,
         })
     }
 }

@@ -11,7 +11,7 @@ use Rattle.model.specs.Transaction.{Input, Output, KeyWitness, Transaction, inpu
 use Rattle.model.specs.Signature.{Verifies}
 use Rattle.model.specs.Utxo.{Utxo, output_at, is_one_of, spent_outputs, place, IsNewPlace, utxo_after, sum_of}
 use Rattle.model.specs.Balance.{amount_of_fee, is_balanced}
-use Rattle.model.specs.Rules.{Reason, OutsideInterval, NoInputs, TooBig, FeeTooSmall, MissingInput, OutputTooSmall, WrongNetwork, NotBalanced, OutputExists, reason_number, passes, finds_inputs, outputs_reach_minimum, outputs_are_on_network, has_free_places, key_hashes_in, script_hashes_in, keys_needed, has_needed_keys}
+use Rattle.model.specs.Rules.{Reason, OutsideInterval, NoInputs, TooBig, FeeTooSmall, MissingInput, OutputTooSmall, WrongNetwork, NotBalanced, OutputExists, reason_number, passes, finds_inputs, era_at, outputs_reach_minimum, outputs_are_on_network, has_free_places, key_hashes_in, script_hashes_in, keys_needed, has_needed_keys}
 use Rattle.model.specs.TransactionExamples.{small_params, coin_alone, output_to, first_place, first_utxo, spending, IsFresh}
 use Rattle.model.proofs.Balances.{preserves_balanced}
 use Rattle.model.proofs.Unspent.{same_to, apart_from, after_elsewhere}
@@ -85,7 +85,7 @@ module _ (verifies : Verifies) (utxo : Utxo) (input : Input) (outputs : List Out
     pub small : nat_le size 4096 ≡ true
     pub paid : nat_le (1 * size + 100) fee ≡ true
     pub found : finds_inputs utxo this ≡ true
-    pub coins : outputs_reach_minimum small_params this ≡ true
+    pub coins : outputs_reach_minimum (era_at small_params 1) this ≡ true
     pub network : outputs_are_on_network small_params this ≡ true
     pub balanced : is_balanced utxo this ≡ true
     pub free : output_at utxo (place (transaction_id_of this) 0) ≡ None

@@ -39,3 +39,6 @@ pub mod ForgedBlocks
 pub mod ForgedArrivals
 pub mod Heights
 pub mod LogTexts
+pub mod EraLaws
+pub mod RisingKeys
+pub mod AssetsApart

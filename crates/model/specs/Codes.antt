@@ -15,7 +15,7 @@ use Rattle.model.specs.Script.{RequireTimeStart, RequireTimeExpire, NoScripts, N
 use Rattle.model.specs.Transaction.{Credential, KeyHash, ScriptHash, Address, Input, Output, KeyWitness, Transaction}
 use Rattle.model.specs.Block.{Header, Block}
 use Rattle.model.specs.Utxo.{Utxo}
-use Rattle.model.specs.Rules.{Params}
+use Rattle.model.specs.Rules.{SecondEra, Params}
 use Rattle.model.specs.Genesis.{Grant, Genesis}
 use Rattle.model.specs.Chain.{Tip}
 use Rattle.model.specs.Applying.{LedgerState}
@@ -294,22 +294,31 @@ coded_block =
 
 -- ---- the genesis
 
+-- a second era
+abbrev pub coded_second_era : Coded SecondEra
+coded_second_era =
+    code_by (ℕ × ℕ) (coded× coded_ℕ coded_ℕ) (λ e. (e.first_slot, e.per_asset))
+    (λ p. record { first_slot = p.0; per_asset = p.1 }) (λ _. refl)
+
 -- the fields of what is asked of transactions, as pairs
 abbrev pub ParamsFields : Type 0
-ParamsFields = ℕ × (ℕ × (ℕ × (ℕ × (ℕ × ℕ))))
+ParamsFields = ℕ × (ℕ × (ℕ × (ℕ × (ℕ × (ℕ × Option SecondEra)))))
 
 -- what is asked of transactions
 abbrev pub coded_params : Coded Params
 coded_params =
-    code_by ParamsFields (coded× coded_ℕ (coded× coded_ℕ (coded× coded_ℕ (coded× coded_ℕ (coded× coded_ℕ coded_ℕ)))))
-    (λ p. (p.network, (p.min_fee_a, (p.min_fee_b, (p.min_utxo, (p.max_tx_size, p.max_body_size))))))
+    code_by ParamsFields
+    (coded× coded_ℕ (coded× coded_ℕ (coded× coded_ℕ (coded× coded_ℕ (coded× coded_ℕ (coded× coded_ℕ
+    (coded_option coded_second_era)))))))
+    (λ p. (p.network, (p.min_fee_a, (p.min_fee_b, (p.min_utxo, (p.max_tx_size, (p.max_body_size, p.second_era)))))))
     (λ p. record {
       network = p.0;
       min_fee_a = p.1.0;
       min_fee_b = p.1.1.0;
       min_utxo = p.1.1.1.0;
       max_tx_size = p.1.1.1.1.0;
-      max_body_size = p.1.1.1.1.1;
+      max_body_size = p.1.1.1.1.1.0;
+      second_era = p.1.1.1.1.1.1;
     })
     (λ _. refl)
 

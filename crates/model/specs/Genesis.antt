@@ -1,12 +1,12 @@
 -- What a network agrees on before its first block, and the unspent outputs that its chain opens with. The limits are
 -- this project's own.
-use Rattle.std.specs.Prelude.{◌≡◌, ℕ, ◌≤◌, ◌<◌, List, [], length, map, replicate, sum_by}
+use Rattle.std.specs.Prelude.{◌≡◌, ℕ, ◌≤◌, ◌<◌, List, [], length, map, replicate, sum_by, IfSome}
 use Rattle.std.specs.List.{AllByRecursion}
 use Rattle.std.specs.FinMap as finite
 use Rattle.model.specs.Limits.{hash_size, number_limit}
 use Rattle.model.specs.Transaction.{Address, Input, Output, IsAddress}
 use Rattle.model.specs.Utxo.{Utxo, pairs_from, with_pairs}
-use Rattle.model.specs.Rules.{Params}
+use Rattle.model.specs.Rules.{Params, SecondEra}
 
 -- so much lovelace, which stands at an address from the start
 pub record Grant : Type 0 where
@@ -31,6 +31,11 @@ pub record IsWithin (least most number : ℕ) : Type 0 where
   pub not_below : least ≤ number
   pub not_above : number ≤ most
 
+-- it does not begin with the genesis, whose slot is 0, and it begins at a slot that a block may have
+pub record IsSecondEra (era : SecondEra) : Type 0 where
+  pub first_slot : IsWithin 1 9223372036854775807 era.first_slot
+  pub per_asset : IsWithin 0 1000000000000 era.per_asset
+
 pub record IsParams (params : Params) : Type 0 where
   pub network : IsWithin 0 15 params.network
   pub min_fee_a : IsWithin 0 1000000 params.min_fee_a
@@ -38,6 +43,7 @@ pub record IsParams (params : Params) : Type 0 where
   pub min_utxo : IsWithin 0 1000000000000 params.min_utxo
   pub max_tx_size : IsWithin 1 65536 params.max_tx_size
   pub max_body_size : IsWithin 1 1048000 params.max_body_size
+  pub second_era : IfSome params.second_era IsSecondEra
 
 -- it grants something, at an address of this network
 pub record IsGrant (network : ℕ) (grant : Grant) : Type 0 where

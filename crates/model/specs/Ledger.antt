@@ -5,7 +5,7 @@ use Rattle.std.specs.Prelude.{ℕ, suc, ◌+◌, List, [], ◌∷◌, Option, So
 use Rattle.model.specs.Transaction.{Transaction}
 use Rattle.model.specs.Signature.{Verifies}
 use Rattle.model.specs.Utxo.{Utxo, utxo_after}
-use Rattle.model.specs.Rules.{Params, Reason, reason_against}
+use Rattle.model.specs.Rules.{Params, Reason, reason_against, in_one_era}
 use Rattle.model.specs.Genesis.{Genesis, opening_utxo}
 use Rattle.model.specs.Block.{Block}
 
@@ -23,6 +23,12 @@ network_on genesis verifies opened = record { genesis = genesis; verifies = veri
 -- a new one
 abbrev pub network_of : Genesis → Verifies → Network
 network_of genesis verifies = network_on genesis verifies []
+
+-- the same network if it had one era for ever
+abbrev pub network_in_one_era : Network → Network
+network_in_one_era network =
+    let genesis = record network.genesis { params = in_one_era network.genesis.params } in
+    record network { genesis = genesis }
 
 -- the unspent outputs, and the fees so far
 pub record Ledger : Type 0 where

@@ -5,11 +5,16 @@ use Rattle.std.specs.Prelude.{ℕ, ◌+◌, ◌*◌, nat_le, nat_lt, ◌==◌, B
 use Rattle.std.specs.Prelude.{List, [], ◌∷◌, ◌++◌, length, map, flat_map, Option, Some, None, bytes_eq}
 use Rattle.std.specs.List.{list_any, list_all}
 use Rattle.model.specs.Script.{Interval, script_hash_of, holds}
-use Rattle.model.specs.Transaction.{Credential, KeyHash, ScriptHash, Transaction, interval_of_transaction}
+use Rattle.model.specs.Transaction.{Credential, KeyHash, ScriptHash, Output, Transaction, interval_of_transaction}
 use Rattle.model.specs.Transaction.{size_of, transaction_id_of, key_hash_of}
 use Rattle.model.specs.Signature.{Verifies}
 use Rattle.model.specs.Utxo.{Utxo, output_at, spent_outputs, new_pairs}
-use Rattle.model.specs.Balance.{is_balanced}
+use Rattle.model.specs.Balance.{assets_under, is_balanced}
+
+-- when a second era begins, and what is new in it
+pub record SecondEra : Type 0 where
+  pub first_slot : ℕ  -- the first slot that is judged by it
+  pub per_asset : ℕ  -- how much more lovelace an output holds at least for each of its assets
 
 -- what a network asks of each transaction, and of each block's body (Shelley, protocol parameters)
 pub record Params : Type 0 where
@@ -19,6 +24,39 @@ pub record Params : Type 0 where
   pub min_utxo : ℕ  -- how much lovelace an output holds at least
   pub max_tx_size : ℕ  -- how many bytes a transaction has at most
   pub max_body_size : ℕ  -- how many bytes a block's body has at most
+  pub second_era : Option SecondEra  -- none where the network has one era for ever
+
+-- ---- eras: what is asked changes with the slot at which a transaction is judged
+
+-- what one era asks of an output
+pub record Era : Type 0 where
+  pub min_utxo : ℕ  -- how much lovelace it holds at least, whatever else it holds
+  pub per_asset : ℕ  -- how much more for each of its assets
+
+-- the same of every output
+abbrev pub flat_era : Params → Era
+flat_era params = record { min_utxo = params.min_utxo; per_asset = 0 }
+
+-- more of an output with assets
+abbrev pub scaled_era : Params → (per_asset : ℕ) → Era
+scaled_era params per_asset = record { min_utxo = params.min_utxo; per_asset = per_asset }
+
+-- the era of a slot, where a second one may be given
+abbrev pub era_among : Params → Option SecondEra → (slot : ℕ) → Era
+era_among params None slot = flat_era params
+era_among params (Some second) slot =
+    if nat_le second.first_slot slot then scaled_era params second.per_asset else flat_era params
+
+-- ERA OF A SLOT (this project's own)
+-- What is asked of a transaction that is judged at this slot: a third era would be one more case here.
+abbrev pub era_at : Params → (slot : ℕ) → Era
+era_at params slot = era_among params params.second_era slot
+
+-- the same network if it had one era for ever
+abbrev pub in_one_era : Params → Params
+in_one_era params = record params { second_era = None }
+
+-- ---- reasons
 
 -- what may be said against a transaction, in the order in which it is looked for; each reason has its condition below
 pub data Reason : Type 0 where
@@ -85,10 +123,18 @@ pays_fee params t = nat_le (min_fee params t) t.fee
 abbrev pub finds_inputs : Utxo → Transaction → Bool
 finds_inputs utxo t = list_all (λ input. is_some (output_at utxo input)) t.inputs
 
--- 6: each of its outputs holds the least coin (Shelley: minUTxOValue; that it is flat, also for outputs of several
--- assets, is this project's own)
-abbrev pub outputs_reach_minimum : Params → Transaction → Bool
-outputs_reach_minimum params t = list_all (λ o. nat_le params.min_utxo o.value.coin) t.outputs
+-- how many assets an output holds beside ada: pairs of a policy and a name, each of which stands once in a value's text
+abbrev pub asset_count : Output → ℕ
+asset_count o = length (assets_under o.value.assets)
+
+-- the least coin of an output, by its assets (Shelley: minUTxOValue, which is flat; Shelley-MA scales it by the size of
+-- the value, and that it is scaled by the number of assets is this project's own)
+abbrev pub least_coin : Era → Output → ℕ
+least_coin era o = era.min_utxo + era.per_asset * asset_count o
+
+-- 6: each of its outputs holds that
+abbrev pub outputs_reach_minimum : Era → Transaction → Bool
+outputs_reach_minimum era t = list_all (λ o. nat_le (least_coin era o) o.value.coin) t.outputs
 
 -- 7: each of its outputs is of this network (Shelley: the network of each output's address)
 abbrev pub outputs_are_on_network : Params → Transaction → Bool
@@ -170,7 +216,7 @@ passes verifies params utxo slot t NoInputs = has_inputs t
 passes verifies params utxo slot t TooBig = is_small_enough params t
 passes verifies params utxo slot t FeeTooSmall = pays_fee params t
 passes verifies params utxo slot t MissingInput = finds_inputs utxo t
-passes verifies params utxo slot t OutputTooSmall = outputs_reach_minimum params t
+passes verifies params utxo slot t OutputTooSmall = outputs_reach_minimum (era_at params slot) t
 passes verifies params utxo slot t WrongNetwork = outputs_are_on_network params t
 passes verifies params utxo slot t NotBalanced = is_balanced utxo t
 passes verifies params utxo slot t OutputExists = has_free_places utxo t

@@ -9,7 +9,7 @@ use Rattle.model.specs.Signature.{Verifies}
 use Rattle.model.specs.Utxo.{Utxo, place}
 use Rattle.model.specs.Rules.{Params}
 
--- a fee of 100 lovelace and 1 for each byte, at least 10 lovelace in an output, at most 4,096 bytes
+-- a fee of 100 lovelace and 1 for each byte, at least 10 lovelace in an output, at most 4,096 bytes, in one era
 abbrev pub small_params : Params
 small_params = record {
   network = 0;
@@ -18,6 +18,7 @@ small_params = record {
   min_utxo = 10;
   max_tx_size = 4096;
   max_body_size = 65536;
+  second_era = None;
 }
 
 -- lovelace alone

@@ -151,6 +151,7 @@ no_genesis =
         min_utxo = 0;
         max_tx_size = 0;
         max_body_size = 0;
+        second_era = None;
       };
       k = 0;
       max_volatile = 0;

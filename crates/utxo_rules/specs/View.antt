@@ -1,10 +1,20 @@
 -- What parameters and reasons of the code stand for.
-use Rattle.model.specs.Rules.{Params, Reason, OutsideInterval, NoInputs, TooBig, FeeTooSmall, MissingInput}
+use Rattle.std.specs.Prelude.{option_map}
+use Rattle.model.specs.Rules.{SecondEra, Params, Era}
+use Rattle.model.specs.Rules.{Reason, OutsideInterval, NoInputs, TooBig, FeeTooSmall, MissingInput}
 use Rattle.model.specs.Rules.{OutputTooSmall, WrongNetwork, NotBalanced, OutputExists, BadSignature}
 use Rattle.model.specs.Rules.{MissingKeyWitness, MissingScript, ExtraScript, ScriptFails}
+use Rattle.utxo_rules.specs.declared.era.SecondEra.{SecondEra as CodeSecondEra}
+use Rattle.utxo_rules.specs.declared.era.Era.{Era as CodeEra}
 use Rattle.utxo_rules.specs.declared.params.Params.{Params as CodeParams}
 use Rattle.utxo_rules.specs.declared.reason.Reason.{Reason as CodeReason}
 use Rattle.utxo_rules.specs.declared.reason.Reason.TheVariants as told
+
+abbrev pub second_era_of : CodeSecondEra → SecondEra
+second_era_of e = record { first_slot = e.first_slot; per_asset = e.per_asset }
+
+abbrev pub era_of : CodeEra → Era
+era_of e = record { min_utxo = e.min_utxo; per_asset = e.per_asset }
 
 abbrev pub params_of : CodeParams → Params
 params_of p = record {
@@ -14,6 +24,7 @@ params_of p = record {
   min_utxo = p.min_utxo;
   max_tx_size = p.max_tx_size;
   max_body_size = p.max_body_size;
+  second_era = option_map second_era_of p.second_era;
 }
 
 abbrev pub reason_of : CodeReason → Reason

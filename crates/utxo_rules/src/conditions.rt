@@ -1,18 +1,22 @@
 //! What the rules ask of a transaction before its signatures, one condition after the other.
 
-ghost use Rattle.std.specs.Prelude.{◌≡◌, ◌≤◌, map, is_some, not, nat_le, ◌==◌};
+ghost use Rattle.std.specs.Prelude.{◌≡◌, ◌≤◌, ◌+◌, ◌*◌, length, map, is_some, not, nat_le, ◌==◌};
 ghost use Rattle.std.specs.List.{list_all};
 ghost use Rattle.model.specs.Utxo.{output_at, place};
-ghost use Rattle.model.specs.Rules.{is_in_interval, pays_fee, has_free_places};
+ghost use Rattle.model.specs.Balance.{assets_under};
+ghost use Rattle.model.specs.Rules.{is_in_interval, pays_fee, least_coin, has_free_places};
 ghost use Rattle.timelock.specs.View.{interval_of};
 ghost use Rattle.tx.specs.View.{input_of, output_of};
-ghost use Rattle.utxo_rules.specs.View.{params_of};
+ghost use Rattle.value.specs.View.{policy_of};
+ghost use Rattle.utxo_rules.specs.View.{params_of, era_of};
 
+use crate::era::Era;
 use crate::params::Params;
 use crate::utxo::Utxo;
 use ident::TxId;
 use timelock::Interval;
 use tx::{Input, Output, Tx};
+use value::Policy;
 
 /// Whether the slot lies in the interval: at its start or later, and before its end.
 pub fn is_in_interval(slot: u64, interval: Interval) -> bool
@@ -49,12 +53,29 @@ pub fn are_unspent(utxo: &Utxo, inputs: &[Input]) -> bool
     true
 }
 
-/// Whether each of the outputs holds at least so much lovelace.
-pub fn hold_at_least(min_utxo: u64, outputs: &[Output]) -> bool
-    ensures { result ≡ list_all (λ o. nat_le min_utxo o.value.coin) (map output_of outputs.now) }
+/// Whether so much lovelace is at least `min_utxo`, and `per_asset` more for each of the policies' assets. The sum
+/// stays within 128 bits, since no more is added to it once it is too much.
+fn is_enough(coin: u64, min_utxo: u64, per_asset: u64, policies: &[Policy<u64>]) -> bool
+    ensures { result ≡ nat_le (min_utxo + per_asset * length (assets_under (map policy_of policies.now))) coin }
+{
+    let mut least = u128::from(min_utxo);
+    for policy in policies {
+        if least > u128::from(coin) {
+            return false;
+        }
+        let count = policy.tokens.len() as u128;
+        least += u128::from(per_asset) * count;
+    }
+    least <= u128::from(coin)
+}
+
+/// Whether each of the outputs holds at least what the era asks of it.
+pub fn hold_at_least(era: Era, outputs: &[Output]) -> bool
+    ensures { result ≡ list_all (λ o. nat_le (least_coin (era_of era) o) o.value.coin) (map output_of outputs.now) }
 {
     for output in outputs {
-        if output.value.coin() < min_utxo {
+        let value = &output.value;
+        if !is_enough(value.coin(), era.min_utxo, era.per_asset, value.assets()) {
             return false;
         }
     }

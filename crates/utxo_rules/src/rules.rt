@@ -43,7 +43,7 @@ fn check_parts(params: &Params, utxo: &Utxo, slot: u64, tx: &Tx) -> Result<(), R
     if !are_unspent(utxo, tx.inputs()) {
         return Err(Reason::MissingInput);
     }
-    if !hold_at_least(params.min_utxo, tx.outputs()) {
+    if !hold_at_least(params.era_at(slot), tx.outputs()) {
         return Err(Reason::OutputTooSmall);
     }
     if !are_on_network(params.network, tx.outputs()) {

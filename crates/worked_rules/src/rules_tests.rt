@@ -19,6 +19,7 @@ const PARAMS: Params = Params {
     min_utxo: 10,
     max_tx_size: 4096,
     max_body_size: 65_536,
+    second_era: None,
 };
 
 /// The number of the first reason against a transaction at slot 7, 0 for none, and 15 for want of memory.

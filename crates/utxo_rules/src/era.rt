@@ -1,0 +1,19 @@
+//! What is asked of transactions in one era and not in another.
+
+/// When a second era begins, and what is new in it (this project's own).
+#[derive(Clone, Copy, Debug, PartialEq, Eq)]
+pub struct SecondEra {
+    /// The first slot that is judged by it.
+    pub first_slot: u64,
+    /// How much more lovelace an output holds at least for each of its assets.
+    pub per_asset: u64,
+}
+
+/// What one era asks of an output.
+#[derive(Clone, Copy, Debug, PartialEq, Eq)]
+pub struct Era {
+    /// How much lovelace it holds at least, whatever else it holds.
+    pub min_utxo: u64,
+    /// How much more for each of its assets.
+    pub per_asset: u64,
+}
