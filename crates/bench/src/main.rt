@@ -1,16 +1,16 @@
 //! The program `bench`: measures what no proof says, how long the calls of a crate take. Without an argument it runs
-//! each measurement of blocks, pools and heights once, and prints their names alone.
+//! each measurement of blocks, pools and peers once, and prints their names alone.
 #![tactic(auto)]
 
 mod arrivals;
 mod blocks;
 mod cores;
 mod following;
-mod heights;
 mod keys;
 mod ledger_states;
 mod maps;
 mod networks;
+mod peers;
 mod pools;
 mod reopening;
 mod scripts;
@@ -33,7 +33,7 @@ enum Asked {
     Mempool,
     Reopening,
     Pools,
-    Heights,
+    Peers,
     /// What is measured once, to see that it can be.
     Names,
 }
@@ -50,7 +50,7 @@ fn asked_by(word: &str) -> Option<Asked> {
         "mempool" => Some(Asked::Mempool),
         "reopen" => Some(Asked::Reopening),
         "pools" => Some(Asked::Pools),
-        "heights" => Some(Asked::Heights),
+        "peers" => Some(Asked::Peers),
         _ => None,
     }
 }
@@ -82,14 +82,14 @@ fn main(rt: HostRuntime) -> io::Result<()> {
         Asked::Mempool => waiting::measure(&rt),
         Asked::Reopening => reopening::measure(&rt),
         Asked::Pools => pools::measure(&rt, rt.alloc(), Telling::Times),
-        Asked::Heights => heights::measure(&rt, rt.alloc(), Telling::Times),
+        Asked::Peers => peers::measure(&rt, rt.alloc(), Telling::Times),
         Asked::Names => {
             blocks::measure(&rt, Telling::Names)?;
             pools::measure(&rt, rt.alloc(), Telling::Names)?;
-            heights::measure(&rt, rt.alloc(), Telling::Names)?;
+            peers::measure(&rt, rt.alloc(), Telling::Names)?;
             println!(rt;
                 "to measure: bench persistent_map, bench blocks, bench ledger, bench scripts, bench pools, \
-bench heights, bench arrivals, bench followers, bench mempool, bench reopen"
+bench peers, bench arrivals, bench followers, bench mempool, bench reopen"
             )
         }
     }

@@ -13,14 +13,14 @@ use witness_pool::TestScheme;
 const PAYMENTS: usize = 100;
 
 /// The texts of so many blocks without transactions.
-fn empty_blocks(alloc: Global, blocks: u64) -> Vec<Vec<u8>> {
+pub fn empty_blocks(alloc: Global, blocks: u64) -> Vec<Vec<u8>> {
     let mut texts = Vec::new(alloc);
     End::genesis().put_chain(alloc, &mut texts, blocks);
     texts
 }
 
 /// The texts of blocks that make outputs, a thousand each, and then of ten times as many that spend a hundred each.
-fn paying_blocks(alloc: Global, making: u64) -> Vec<Vec<u8>> {
+pub fn paying_blocks(alloc: Global, making: u64) -> Vec<Vec<u8>> {
     let mut texts = Vec::new(alloc);
     let mut payments: Vec<Vec<u8>> = Vec::new(alloc);
     let mut growing = Growing::genesis();

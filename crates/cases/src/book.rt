@@ -9,6 +9,10 @@ pub enum Kind {
     Rules,
     /// Lines that are refused.
     Faults,
+    /// Scripts in which peers send bytes, and what they send.
+    Sends,
+    /// Lines that are refused in such scripts.
+    SendFaults,
     /// Documents that are a genesis or none.
     Genesis,
     /// Hexadecimal texts.
@@ -29,6 +33,8 @@ fn kind_named(name: &str) -> Option<Kind> {
         "runs" => Some(Kind::Runs),
         "rules" => Some(Kind::Rules),
         "faults" => Some(Kind::Faults),
+        "sends" => Some(Kind::Sends),
+        "send-faults" => Some(Kind::SendFaults),
         "genesis" => Some(Kind::Genesis),
         "texts" => Some(Kind::Texts),
         _ => None,

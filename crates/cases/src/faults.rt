@@ -3,14 +3,15 @@
 use crate::bars::put_bytes;
 use crate::book::{Titled, USUAL, says_nothing};
 use crate::report::{Report, put_bytes_of_line, put_line};
-use crate::runs::run_script;
+use crate::runs::{Way, run_script};
 use std::alloc::{AllocError, Global};
 use std::rt::Files;
 
 /// What stands before lines that are refused: the lines of a script, how many there are, what they print, and the fault
-/// that the lines behind them have, once it is said.
+/// that the lines behind them have, once it is said; and what such a script is run by.
 #[derive(Drop)]
 struct Place<'a> {
+    way: Way,
     before: Vec<u8>,
     lines: u64,
     printed: String,
@@ -19,8 +20,9 @@ struct Place<'a> {
 
 impl<'a> Place<'a> {
     /// The beginning of a script.
-    fn new(alloc: Global) -> Place<'a> {
+    fn new(alloc: Global, way: Way) -> Place<'a> {
         Place {
+            way,
             before: Vec::new(alloc),
             lines: 0,
             printed: String::new(alloc),
@@ -70,7 +72,7 @@ fn judge_line<R: Files + AllocGlobal>(
 ) -> Result<(), AllocError> {
     place.put_script(&mut report.script, line)?;
     place.put_wanted(&mut report.wanted)?;
-    run_script(rt, USUAL, false, report)?;
+    run_script(rt, USUAL, place.way, report)?;
     report.compare(title, line)
 }
 
@@ -99,13 +101,14 @@ fn take<'a, R: Files + AllocGlobal>(
     place.put(line)
 }
 
-/// What comes of the lines of a titled case.
+/// What comes of the lines of a titled case, in scripts that are run in this way.
 pub fn judge<R: Files + AllocGlobal>(
     rt: &R,
     case: Titled<'_>,
+    way: Way,
     report: &mut Report<'_>,
 ) -> Result<(), AllocError> {
-    let mut place = Place::new(rt.alloc());
+    let mut place = Place::new(rt.alloc(), way);
     judge_lines(rt, case, &mut place, report)
 }
 

@@ -12,6 +12,7 @@ mod network;
 mod report;
 mod rules;
 mod runs;
+mod sends;
 mod spelled;
 mod spelled_items;
 mod spelled_txs;
@@ -20,6 +21,7 @@ mod texts;
 use crate::book::{Kind, TITLE, Titled, kind_of};
 use crate::hex_words::NamedBytes;
 use crate::report::Report;
+use crate::runs::Way;
 use std::alloc::AllocError;
 use std::process::ExitCode;
 use std::rt::Files;
@@ -34,9 +36,11 @@ fn judge_case<'a, R: Files + AllocGlobal>(
     report: &mut Report<'_>,
 ) -> Result<(), AllocError> {
     match kind {
-        Kind::Runs => runs::judge(rt, case, false, report),
-        Kind::Rules => runs::judge(rt, case, true, report),
-        Kind::Faults => faults::judge(rt, case, report),
+        Kind::Runs => runs::judge(rt, case, Way::Node, report),
+        Kind::Rules => runs::judge(rt, case, Way::Ledger, report),
+        Kind::Sends => runs::judge(rt, case, Way::Peers, report),
+        Kind::Faults => faults::judge(rt, case, Way::Node, report),
+        Kind::SendFaults => faults::judge(rt, case, Way::Peers, report),
         Kind::Genesis => documents::judge(rt.alloc(), case, report),
         Kind::Texts => texts::judge(rt.alloc(), case, named, report),
     }

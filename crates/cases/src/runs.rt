@@ -3,12 +3,23 @@
 use crate::book::{Scripted, Titled};
 use crate::network::genesis_named;
 use crate::report::Report;
-use crate::rules;
+use crate::{rules, sends};
 use genesis::Genesis;
 use scenario::{ScenarioFault, run};
 use std::alloc::{AllocError, Global};
 use std::rt::Files;
 use std::str;
+
+/// What a script is run by.
+#[derive(Clone, Copy)]
+pub enum Way {
+    /// The whole node.
+    Node,
+    /// The ledger alone.
+    Ledger,
+    /// Nothing: it says what peers send.
+    Peers,
+}
 
 /// What comes where the network of a case isn't there.
 const NO_NETWORK: &str = "no such genesis\n";
@@ -39,20 +50,20 @@ fn put_run(
     put_end(came, &out, ended)
 }
 
-/// Runs the report's script on the network of this name: through the whole node, or by the ledger alone.
+/// Runs the report's script in this way on the network of this name.
 pub fn run_script<R: Files + AllocGlobal>(
     rt: &R,
     network: &str,
-    by_ledger: bool,
+    way: Way,
     report: &mut Report<'_>,
 ) -> Result<(), AllocError> {
     let Some(genesis) = genesis_named(rt, report.file(), network)? else {
         return report.came.push_str(NO_NETWORK);
     };
-    if by_ledger {
-        rules::put_run(rt.alloc(), genesis, &report.script, &mut report.came)
-    } else {
-        put_run(rt.alloc(), genesis, &report.script, &mut report.came)
+    match way {
+        Way::Node => put_run(rt.alloc(), genesis, &report.script, &mut report.came),
+        Way::Ledger => rules::put_run(rt.alloc(), genesis, &report.script, &mut report.came),
+        Way::Peers => sends::put_run(rt.alloc(), &genesis, &report.script, &mut report.came),
     }
 }
 
@@ -60,11 +71,11 @@ pub fn run_script<R: Files + AllocGlobal>(
 pub fn judge<R: Files + AllocGlobal>(
     rt: &R,
     case: Titled<'_>,
-    by_ledger: bool,
+    way: Way,
     report: &mut Report<'_>,
 ) -> Result<(), AllocError> {
     let scripted = Scripted::of(case.body);
     report.take_script(scripted)?;
-    run_script(rt, scripted.network, by_ledger, report)?;
+    run_script(rt, scripted.network, way, report)?;
     report.compare(case.title, "")
 }

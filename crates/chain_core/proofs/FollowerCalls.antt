@@ -15,8 +15,8 @@ use Rattle.model.proofs.Chains.{tip_number}
 use Rattle.ident.specs.PointView.{point_of}
 use Rattle.ident.specs.declared.point.Point.{Point}
 use Rattle.followers.specs.declared.follower_id.FollowerId.{FollowerId}
-use Rattle.followers.specs.declared.fault.OpenFault.{OpenFault}
-use Rattle.followers.specs.declared.fault.OpenFault.TheVariants as open'
+use Rattle.followers.specs.declared.fault.OpenFollowerFault.{OpenFollowerFault}
+use Rattle.followers.specs.declared.fault.OpenFollowerFault.TheVariants as open'
 use Rattle.followers.specs.declared.fault.UnknownFollower.{UnknownFollower}
 use Rattle.followers.specs.declared.place.Place.{Place}
 use Rattle.followers.specs.declared.place.Step as code
@@ -73,10 +73,10 @@ module _ (verifies : Verifies) (genesis : Genesis) (opened_on live chain : List 
 
   -- ---- a follower is opened
 
-  abbrev pub OpenSteps : Places → Held → Result FollowerId OpenFault → Type 0
+  abbrev pub OpenSteps : Places → Held → Result FollowerId OpenFollowerFault → Type 0
   OpenSteps new now result = (s : State) → Stands now s → (t : State) × Step (network_held now verifies) s Open (open_reply_of result) t × Stands (held_of genesis opened_on live chain txs new) t
 
-  pub opened : (old new : Places) (now : Held) (result : Result FollowerId OpenFault) → held_of genesis opened_on live chain txs old ≡ now → IfOk result (λ id. IsOpened old id.number new) → IfErr result (IsOpenFault old) → OnErr result (new ≡ old) → OpenSteps new now result
+  pub opened : (old new : Places) (now : Held) (result : Result FollowerId OpenFollowerFault) → held_of genesis opened_on live chain txs old ≡ now → IfOk result (λ id. IsOpened old id.number new) → IfErr result (IsOpenFault old) → OnErr result (new ≡ old) → OpenSteps new now result
   opened old new now (Ok id) view ok fault err = subst (λ (h : Held). OpenSteps new h (Ok id)) view (λ s stands.
       let are = beside old s stands in (
         record s { followers = with_opened s.followers },
@@ -87,7 +87,7 @@ module _ (verifies : Verifies) (genesis : Genesis) (opened_on live chain : List 
       (λ s stands. (s, (subst (λ n. follower_limit ≤ n) (sym (the_lengths.free s.chain old s.followers (beside old s stands))) fault, refl), still old new s err stands))
   opened old new now (Err open'.OutOfMemory) view ok fault err = subst (λ (h : Held). OpenSteps new h (Err open'.OutOfMemory)) view (λ s stands. (s, refl, still old new s err stands))
 
-  pub want_at_opening : (old : Places) (now : Held) (result : Result FollowerId OpenFault) → held_of genesis opened_on live chain txs old ≡ now → IfErr result (IsOpenFault old) → IfErr result (IsWantAtOpening now)
+  pub want_at_opening : (old : Places) (now : Held) (result : Result FollowerId OpenFollowerFault) → held_of genesis opened_on live chain txs old ≡ now → IfErr result (IsOpenFault old) → IfErr result (IsWantAtOpening now)
   want_at_opening old now (Ok id) view fault = tt
   want_at_opening old now (Err open'.TooManyFollowers) view fault = λ is. absurd cc
   want_at_opening old now (Err open'.OutOfMemory) view fault = λ is. subst (λ (h : Held). free_id h.followers < follower_limit) view fault

@@ -5,8 +5,8 @@ use Rattle.model.specs.Limits.{follower_limit}
 use Rattle.model.specs.Signature.{Verifies}
 use Rattle.model.specs.History as history
 use Rattle.model.specs.History.{State, Next, Reply, HasDue}
-use Rattle.followers.specs.declared.fault.OpenFault.{OpenFault}
-use Rattle.followers.specs.declared.fault.OpenFault.TheVariants as open'
+use Rattle.followers.specs.declared.fault.OpenFollowerFault.{OpenFollowerFault}
+use Rattle.followers.specs.declared.fault.OpenFollowerFault.TheVariants as open'
 use Rattle.followers.specs.declared.place.Step.{Step}
 use Rattle.followers.specs.declared.place.Step.TheVariants.{Add}
 use Rattle.chain_core.specs.declared.follower.NextFault.{NextFault}
@@ -14,7 +14,7 @@ use Rattle.chain_core.specs.declared.follower.NextFault.TheVariants as next
 use Rattle.chain_core.specs.Held.{Held, Stands, network_held}
 
 -- memory is asked for only where a number is free
-abbrev pub IsWantAtOpening : Held → OpenFault → Type 0
+abbrev pub IsWantAtOpening : Held → OpenFollowerFault → Type 0
 IsWantAtOpening held fault = fault ≡ open'.OutOfMemory → free_id held.followers < follower_limit
 
 -- memory is asked for only where a block comes next for the follower of this number

@@ -8,7 +8,7 @@ use Rattle.mempool.specs.View.{reply_of as answer_of}
 use Rattle.mempool.specs.Texts.{submit_reply_text}
 use Rattle.chain_core.specs.declared.follower.Instruction.{Instruction}
 use Rattle.chain_core.specs.declared.follower.Instruction.TheVariants as instruction
-use Rattle.followers.specs.declared.fault.OpenFault.TheVariants as open'
+use Rattle.followers.specs.declared.fault.OpenFollowerFault.TheVariants as open'
 use Rattle.ident.specs.declared.point.Point.{Point}
 use Rattle.chain_core.specs.declared.follower.NextFault.TheVariants as next
 use Rattle.chain_core.specs.declared.event.Reply.{Reply}

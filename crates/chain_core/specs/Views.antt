@@ -14,8 +14,8 @@ use Rattle.chain_core.specs.declared.arrival.Refusal.TheVariants.{Clash, Volatil
 use Rattle.chain_core.specs.declared.arrival.ArriveReply.{ArriveReply}
 use Rattle.chain_core.specs.declared.arrival.ArriveReply.TheVariants.{Kept, Refused}
 use Rattle.followers.specs.declared.follower_id.FollowerId.{FollowerId}
-use Rattle.followers.specs.declared.fault.OpenFault.{OpenFault}
-use Rattle.followers.specs.declared.fault.OpenFault.TheVariants as open'
+use Rattle.followers.specs.declared.fault.OpenFollowerFault.{OpenFollowerFault}
+use Rattle.followers.specs.declared.fault.OpenFollowerFault.TheVariants as open'
 use Rattle.followers.specs.declared.fault.UnknownFollower.{UnknownFollower}
 use Rattle.chain_core.specs.declared.follower.Instruction.{Instruction}
 use Rattle.chain_core.specs.declared.follower.Instruction.TheVariants as instruction
@@ -56,7 +56,7 @@ instruction_of None = follower.Stay
 instruction_of (Some (instruction.AddBlock block)) = follower.AddBlock (block_text block)
 instruction_of (Some (instruction.RollBack point)) = follower.RollBack (point_of point)
 
-abbrev pub open_reply_of : Result FollowerId OpenFault → history.Reply
+abbrev pub open_reply_of : Result FollowerId OpenFollowerFault → history.Reply
 open_reply_of (Ok id) = history.Opened id.number
 open_reply_of (Err open'.TooManyFollowers) = history.TooManyFollowers
 open_reply_of (Err open'.OutOfMemory) = history.OutOfMemory

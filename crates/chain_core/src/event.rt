@@ -2,7 +2,7 @@
 
 use crate::arrival::ArriveReply;
 use crate::follower::{Instruction, NextFault};
-use followers::{FollowerId, OpenFault, UnknownFollower};
+use followers::{FollowerId, OpenFollowerFault, UnknownFollower};
 use ident::Point;
 use mempool::SubmitReply;
 use std::alloc::AllocError;
@@ -34,7 +34,7 @@ pub enum Reply<S: SigScheme> {
     /// To bytes of a transaction.
     Submit(Result<SubmitReply, AllocError>),
     /// To the opening of a follower.
-    Open(Result<FollowerId, OpenFault>),
+    Open(Result<FollowerId, OpenFollowerFault>),
     /// To a follower that asks what comes next.
     Next(Result<Option<Instruction<S>>, NextFault>),
     /// To a follower that is to be set to a point.
@@ -59,7 +59,7 @@ impl<S: SigScheme> fmt::Display for Reply<S> {
             Reply::Open(Ok(id)) => write!(f, "opened {id}"),
             Reply::Next(Ok(Some(instruction))) => write!(f, "{instruction}"),
             Reply::Next(Ok(None)) => f.write_str("none"),
-            Reply::Open(Err(OpenFault::TooManyFollowers)) => f.write_str(
+            Reply::Open(Err(OpenFollowerFault::TooManyFollowers)) => f.write_str(
                 "refused TooManyFollowers",
             ),
             Reply::Forward(Ok(Some(point))) => write!(f, "{point}"),
@@ -70,7 +70,7 @@ impl<S: SigScheme> fmt::Display for Reply<S> {
             | Reply::Close(Err(_)) => f.write_str("refused UnknownFollower"),
             Reply::Arrive(Err(_))
             | Reply::Submit(Err(_))
-            | Reply::Open(Err(OpenFault::OutOfMemory))
+            | Reply::Open(Err(OpenFollowerFault::OutOfMemory))
             | Reply::Next(Err(NextFault::OutOfMemory)) => f.write_str("out of memory"),
         }
     }

@@ -16,7 +16,7 @@ mod reopening;
 pub use arrival::{ArriveReply, Refusal};
 pub use event::{RawEvent, Reply};
 pub use follower::{Instruction, NextFault};
-pub use followers::{FollowerId, OpenFault, UnknownFollower};
+pub use followers::{FollowerId, OpenFollowerFault, UnknownFollower};
 pub use forging::{ForgeFault, Forged};
 pub use node_core::Core;
 pub use reopening::ReopenFault;

@@ -9,7 +9,7 @@ use crate::place::{block_at, end_of, first_on};
 use crate::refusal::first_refusal;
 use crate::reopening::{OpenedChain, ReopenFault, read_chain};
 use block::{BadBytes, CheckedBlock, NoBlock, Seen};
-use followers::{FollowerId, Followers, OpenFault, UnknownFollower};
+use followers::{FollowerId, Followers, OpenFollowerFault, UnknownFollower};
 use genesis::Genesis;
 use ident::Point;
 use ledger::LedgerState;
@@ -286,7 +286,7 @@ impl<S: SigScheme> Core<S> {
     /// Opens a follower of the least number that is free, 0 to 1,023. It was told nothing, and stands at genesis. Where
     /// there are 1,024, or memory runs out, nothing changes. Takes time that grows with the logarithm of
     /// how many lower numbers are free.
-    pub fn open(&mut self) -> Result<FollowerId, OpenFault>
+    pub fn open(&mut self) -> Result<FollowerId, OpenFollowerFault>
         ensures step { Steps S.verifies self.old Open (open_reply_of result) self.new }
         // Memory is asked for only where a number is free.
         ensures memory { IfErr result (IsWantAtOpening self.old) }

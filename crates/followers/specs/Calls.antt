@@ -2,8 +2,8 @@
 use Rattle.std.specs.Prelude.{◌≡◌, ◌≤◌, ◌<◌, ℕ, Option, Some, None, slice_set}
 use Rattle.model.specs.Follower.{follower_of, free_id, with_first_free}
 use Rattle.model.specs.Limits.{follower_limit}
-use Rattle.followers.specs.declared.fault.OpenFault.{OpenFault}
-use Rattle.followers.specs.declared.fault.OpenFault.TheVariants.{TooManyFollowers, OutOfMemory}
+use Rattle.followers.specs.declared.fault.OpenFollowerFault.{OpenFollowerFault}
+use Rattle.followers.specs.declared.fault.OpenFollowerFault.TheVariants.{TooManyFollowers, OutOfMemory}
 use Rattle.followers.specs.declared.place.Place.{Place}
 use Rattle.followers.specs.declared.place.Step.{Step}
 use Rattle.followers.specs.Places.{Places, standing, step_of, stepped_place}
@@ -15,7 +15,7 @@ pub record IsOpened (old : Places) (id : ℕ) (new : Places) : Type 0 where
   pub after : new ≡ with_first_free (standing 0) old
 
 -- why none is: where memory ran out there was a free number
-abbrev pub IsOpenFault : Places → OpenFault → Type 0
+abbrev pub IsOpenFault : Places → OpenFollowerFault → Type 0
 IsOpenFault places TooManyFollowers = follower_limit ≤ free_id places
 IsOpenFault places OutOfMemory = free_id places < follower_limit
 

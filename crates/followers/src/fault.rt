@@ -5,7 +5,7 @@ use thiserror::Error;
 
 /// Why no follower is opened.
 #[derive(Clone, Copy, Debug, Drop, PartialEq, Eq, Error)]
-pub enum OpenFault {
+pub enum OpenFollowerFault {
     /// There are 1,024 open followers.
     #[error("too many followers")]
     TooManyFollowers,
@@ -14,25 +14,25 @@ pub enum OpenFault {
     OutOfMemory,
 }
 
-impl From<AllocError> for OpenFault {
+impl From<AllocError> for OpenFollowerFault {
     ghost use Rattle.std.specs.Prelude.{◌≡◌};
-    ghost use Rattle.followers.specs.declared.fault.OpenFault.TheVariants.{OutOfMemory};
+    ghost use Rattle.followers.specs.declared.fault.OpenFollowerFault.TheVariants.{OutOfMemory};
 
     ghost from_gives = { λ _ e. e ≡ OutOfMemory };
 
-    fn from(_error: AllocError) -> OpenFault {
-        OpenFault::OutOfMemory
+    fn from(_error: AllocError) -> OpenFollowerFault {
+        OpenFollowerFault::OutOfMemory
     }
 }
 
-impl<T: Drop> From<AllocFailed<T>> for OpenFault {
+impl<T: Drop> From<AllocFailed<T>> for OpenFollowerFault {
     ghost use Rattle.std.specs.Prelude.{◌≡◌};
-    ghost use Rattle.followers.specs.declared.fault.OpenFault.TheVariants.{OutOfMemory};
+    ghost use Rattle.followers.specs.declared.fault.OpenFollowerFault.TheVariants.{OutOfMemory};
 
     ghost from_gives = { λ _ e. e ≡ OutOfMemory };
 
-    fn from(_error: AllocFailed<T>) -> OpenFault {
-        OpenFault::OutOfMemory
+    fn from(_error: AllocFailed<T>) -> OpenFollowerFault {
+        OpenFollowerFault::OutOfMemory
     }
 }
 

@@ -3,7 +3,7 @@
 ghost use Rattle.std.specs.Prelude.{◌≡◌, option_map};
 ghost use Rattle.followers.specs.Places.{moved_place};
 
-use crate::fault::{OpenFault, UnknownFollower};
+use crate::fault::{OpenFollowerFault, UnknownFollower};
 use crate::follower_id::{FollowerId, MAX_FOLLOWERS};
 use crate::place::{Place, Step};
 use std::alloc::Global;
@@ -64,7 +64,7 @@ impl Followers {
 
     /// Opens a follower of the least number that is free. It stands at genesis. Where there are 1,024, or memory runs
     /// out, nothing changes. Takes time that grows with the logarithm of how many numbers are free.
-    pub fn open(&mut self) -> Result<FollowerId, OpenFault>
+    pub fn open(&mut self) -> Result<FollowerId, OpenFollowerFault>
         ensures ok { IfOk result (λ id. IsOpened self.old id.number self.new) }
         ensures fault { IfErr result (IsOpenFault self.old) }
         ensures err { OnErr result (self.new ≡ self.old) }
@@ -76,7 +76,7 @@ impl Followers {
         }
         let number = self.places.len();
         if number >= MAX_FOLLOWERS {
-            return Err(OpenFault::TooManyFollowers);
+            return Err(OpenFollowerFault::TooManyFollowers);
         }
         self.free.reserve(number + 1)?;
         self.places.push(place)?;

@@ -18,7 +18,7 @@ mod followers;
 mod laws;
 mod place;
 
-pub use fault::{OpenFault, UnknownFollower};
+pub use fault::{OpenFollowerFault, UnknownFollower};
 pub use follower_id::{FollowerId, MAX_FOLLOWERS};
 pub use followers::Followers;
 pub use laws::lengths_stand_for_followers;

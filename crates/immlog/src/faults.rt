@@ -12,7 +12,7 @@ pub enum CreateFault {
 
 /// Why a disk isn't opened as a log.
 #[derive(Clone, Copy, Debug, PartialEq, Eq, Error)]
-pub enum OpenFault {
+pub enum OpenLogFault {
     /// The first open gate with no record behind it stands at this place, counted in bytes from 0: the record runs past
     /// the end, or its length isn't that of a block, or its digest is another.
     #[error("damaged at {0}")]

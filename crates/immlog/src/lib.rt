@@ -17,5 +17,5 @@ mod records;
 mod recover;
 
 pub use disk::{Disk, DiskFailed};
-pub use faults::{AppendFault, CreateFault, OpenFault};
+pub use faults::{AppendFault, CreateFault, OpenLogFault};
 pub use log::Log;

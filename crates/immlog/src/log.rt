@@ -11,7 +11,7 @@ ghost use Rattle.immlog.specs.Steps.{KeepsLogs, IsBeginningOf};
 
 use crate::copies::copy_all;
 use crate::disk::Disk;
-use crate::faults::{AppendFault, CreateFault, OpenFault};
+use crate::faults::{AppendFault, CreateFault, OpenLogFault};
 use crate::put::{put_all, wipe};
 use crate::recover::recover;
 use std::alloc::Global;
@@ -71,14 +71,14 @@ impl<D: Disk> Log<D> {
     /// sure, and nothing else. Err, with the disk beside it, where the disk failed, where an open gate has no record
     /// behind it, or where memory ran out. Takes memory for the bytes of the disk and for a copy of the blocks, and the
     /// time to compute their digests.
-    pub fn open(alloc: Global, disk: D) -> Result<Log<D>, (OpenFault, D)>
+    pub fn open(alloc: Global, disk: D) -> Result<Log<D>, (OpenLogFault, D)>
         // The blocks are those of what the reads gave,
         ensures opened { IfOk result (λ log. Opens (D.reads disk) log.blocks) }
         // which is damaged at the place that is told.
         ensures damaged { IfErr result (λ refused. (place : ℕ) →
-            refused.0 ≡ OpenFault.Damaged place → IsDamaged (D.reads disk) place) }
+            refused.0 ≡ OpenLogFault.Damaged place → IsDamaged (D.reads disk) place) }
         ensures failed { IfErr result (λ refused.
-            refused.0 ≡ OpenFault.DiskFault → D.failures refused.1 ≡ one_more (D.failures disk)) }
+            refused.0 ≡ OpenLogFault.DiskFault → D.failures refused.1 ≡ one_more (D.failures disk)) }
         ensures sound { IfOk result (λ log. log.broken ≡ false) }
         // A crash then leaves just the durable blocks.
         ensures left { IfOk result (λ log. Leaves (λ bytes. Opens bytes log.blocks) (D.moment log.disk)) }
@@ -95,7 +95,7 @@ impl<D: Disk> Log<D> {
             Leaves (IsLogOf least blocks) (D.moment disk) → IsBeginningOf least blocks log.blocks) }
         // and it isn't damaged.
         ensures undamaged { IfErr result (λ refused. (least : ℕ) (blocks : List (List ℕ)) →
-            Leaves (IsLogOf least blocks) (D.moment disk) → (place : ℕ) → refused.0 ≡ OpenFault.Damaged place → ⊥) }
+            Leaves (IsLogOf least blocks) (D.moment disk) → (place : ℕ) → refused.0 ≡ OpenLogFault.Damaged place → ⊥) }
     {
         let mut disk = disk;
         match recover(alloc, &mut disk) {

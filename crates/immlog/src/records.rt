@@ -9,7 +9,7 @@ ghost use Rattle.immlog.specs.Steps.{IsFound, BeginsWithRecord};
 ghost use Rattle.immlog.specs.Views.{lists_of};
 
 use crate::copies::push_copy;
-use crate::faults::OpenFault;
+use crate::faults::OpenLogFault;
 use sha2::{Digest, Sha256};
 use std::alloc::Global;
 
@@ -67,20 +67,20 @@ pub fn byte_at(bytes: &[u8], place: usize) -> Option<u8>
 
 /// The blocks of all records, and the place of the gate behind the last one. Err where an open gate has no record
 /// behind it, or where memory ran out for the blocks.
-pub fn read_blocks(alloc: Global, bytes: &[u8]) -> Result<(Vec<Vec<u8>>, usize), OpenFault>
+pub fn read_blocks(alloc: Global, bytes: &[u8]) -> Result<(Vec<Vec<u8>>, usize), OpenLogFault>
     ensures found { IfOk result (λ found. IsFound bytes.now found.1 (lists_of found.0.items)) }
     ensures damaged { IfErr result (λ fault. (place : ℕ) →
-        fault ≡ OpenFault.Damaged place → IsDamaged bytes.now place) }
-    ensures disk { IsErrOf result OpenFault.DiskFault → ⊥ }
+        fault ≡ OpenLogFault.Damaged place → IsDamaged bytes.now place) }
+    ensures disk { IsErrOf result OpenLogFault.DiskFault → ⊥ }
 {
     let mut blocks = Vec::new(alloc);
     let mut gate = 0;
     while let Some(behind) = behind_open_gate(&bytes[gate..]) {
         let Some(block) = first_block(behind) else {
-            return Err(OpenFault::Damaged(gate));
+            return Err(OpenLogFault::Damaged(gate));
         };
         if push_copy(alloc, &mut blocks, block).is_err() {
-            return Err(OpenFault::OutOfMemory);
+            return Err(OpenLogFault::OutOfMemory);
         }
         gate += BEFORE_BLOCK + block.len();
     }

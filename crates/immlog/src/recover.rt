@@ -8,7 +8,7 @@ ghost use Rattle.immlog.specs.Steps.{IsFixed, IsFound, KeepsLogs, IsBeginningOf}
 ghost use Rattle.immlog.specs.Views.{lists_of};
 
 use crate::disk::{Disk, DiskFailed};
-use crate::faults::OpenFault;
+use crate::faults::OpenLogFault;
 use crate::put::write_gate;
 use crate::records::{byte_at, read_blocks};
 use std::alloc::{AllocError, Global};
@@ -30,7 +30,11 @@ fn room_for(alloc: Global, len: usize) -> Result<Vec<u8>, AllocError>
 
 /// Reads more bytes of the disk behind those that are there, as many as there is room for, and answers whether there
 /// may be more.
-fn read_more<D: Disk>(disk: &mut D, bytes: &mut Vec<u8>, room: &mut [u8]) -> Result<bool, OpenFault>
+fn read_more<D: Disk>(
+    disk: &mut D,
+    bytes: &mut Vec<u8>,
+    room: &mut [u8],
+) -> Result<bool, OpenLogFault>
     requires front { bytes.old.items ≡ take (length bytes.old.items) (D.reads disk.old) }
     requires within { length bytes.old.items ≤ length (D.reads disk.old) }
     requires some { 0 < length room.old }
@@ -42,30 +46,30 @@ fn read_more<D: Disk>(disk: &mut D, bytes: &mut Vec<u8>, room: &mut [u8]) -> Res
     ensures still { D.moment disk.new ≡ D.moment disk.old }
     ensures clock { D.past disk.new ≡ D.past disk.old }
     ensures worked { OnOk result (D.failures disk.new ≡ D.failures disk.old) }
-    ensures failed { IsErrOf result OpenFault.DiskFault → D.failures disk.new ≡ one_more (D.failures disk.old) }
-    ensures sound { (place : ℕ) → IsErrOf result (OpenFault.Damaged place) → ⊥ }
+    ensures failed { IsErrOf result OpenLogFault.DiskFault → D.failures disk.new ≡ one_more (D.failures disk.old) }
+    ensures sound { (place : ℕ) → IsErrOf result (OpenLogFault.Damaged place) → ⊥ }
 {
     let Ok(count) = disk.read(bytes.len(), room) else {
-        return Err(OpenFault::DiskFault);
+        return Err(OpenLogFault::DiskFault);
     };
     if bytes.extend_from_slice(&room[..count]).is_err() {
-        return Err(OpenFault::OutOfMemory);
+        return Err(OpenLogFault::OutOfMemory);
     }
     Ok(count == room.len())
 }
 
 /// Reads all bytes of the disk.
-fn read_all<D: Disk>(alloc: Global, disk: &mut D) -> Result<Vec<u8>, OpenFault>
+fn read_all<D: Disk>(alloc: Global, disk: &mut D) -> Result<Vec<u8>, OpenLogFault>
     ensures all { IfOk result (λ bytes. bytes.items ≡ D.reads disk.old) }
     ensures same { D.reads disk.new ≡ D.reads disk.old }
     ensures still { D.moment disk.new ≡ D.moment disk.old }
     ensures clock { D.past disk.new ≡ D.past disk.old }
     ensures worked { OnOk result (D.failures disk.new ≡ D.failures disk.old) }
-    ensures failed { IsErrOf result OpenFault.DiskFault → D.failures disk.new ≡ one_more (D.failures disk.old) }
-    ensures sound { (place : ℕ) → IsErrOf result (OpenFault.Damaged place) → ⊥ }
+    ensures failed { IsErrOf result OpenLogFault.DiskFault → D.failures disk.new ≡ one_more (D.failures disk.old) }
+    ensures sound { (place : ℕ) → IsErrOf result (OpenLogFault.Damaged place) → ⊥ }
 {
     let Ok(mut room) = room_for(alloc, CHUNK) else {
-        return Err(OpenFault::OutOfMemory);
+        return Err(OpenLogFault::OutOfMemory);
     };
     let mut bytes = Vec::new(alloc);
     let mut more = true;
@@ -128,7 +132,7 @@ fn tidy<D: Disk>(disk: &mut D, place: usize, gate: Option<u8>) -> Result<(), Dis
 
 /// The blocks of the log on this disk, and the place of the closed gate behind them, which is made sure and has nothing
 /// behind it. Err where the disk failed, where the log is damaged, or where memory ran out for the bytes or the blocks.
-pub fn recover<D: Disk>(alloc: Global, disk: &mut D) -> Result<(Vec<Vec<u8>>, usize), OpenFault>
+pub fn recover<D: Disk>(alloc: Global, disk: &mut D) -> Result<(Vec<Vec<u8>>, usize), OpenLogFault>
     ensures opened { IfOk result (λ found. Opens (D.reads disk.old) (lists_of found.0.items)) }
     ensures rest { IfOk result (λ found. D.reads disk.new ≡ at_rest (lists_of found.0.items)) }
     ensures place { IfOk result (λ found. found.1 + 1 ≡ length (D.reads disk.new)) }
@@ -136,17 +140,17 @@ pub fn recover<D: Disk>(alloc: Global, disk: &mut D) -> Result<(Vec<Vec<u8>>, us
     ensures keeps { KeepsLogs (D.moment disk.old) (D.past disk.old) (D.moment disk.new) (D.past disk.new) }
     ensures begins { IfOk result (λ found. (least : ℕ) (blocks : List (List ℕ)) →
         Leaves (IsLogOf least blocks) (D.moment disk.old) → IsBeginningOf least blocks (lists_of found.0.items)) }
-    ensures damaged { (place : ℕ) → IsErrOf result (OpenFault.Damaged place) → IsDamaged (D.reads disk.old) place }
-    ensures failed { IsErrOf result OpenFault.DiskFault → D.failures disk.new ≡ one_more (D.failures disk.old) }
+    ensures damaged { (place : ℕ) → IsErrOf result (OpenLogFault.Damaged place) → IsDamaged (D.reads disk.old) place }
+    ensures failed { IsErrOf result OpenLogFault.DiskFault → D.failures disk.new ≡ one_more (D.failures disk.old) }
 {
     // A gate whose write or sync failed is settled before anything is decided by what is read.
     let Ok(()) = disk.sync() else {
-        return Err(OpenFault::DiskFault);
+        return Err(OpenLogFault::DiskFault);
     };
     let bytes = read_all(alloc, disk)?;
     let (blocks, gate) = read_blocks(alloc, &bytes)?;
     let Ok(()) = tidy(disk, gate, byte_at(&bytes, gate)) else {
-        return Err(OpenFault::DiskFault);
+        return Err(OpenLogFault::DiskFault);
     };
     Ok((blocks, gate))
 }

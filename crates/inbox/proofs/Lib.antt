@@ -2,3 +2,4 @@ pub mod Lists
 pub mod Views
 pub mod Moves
 pub mod Counting
+pub mod ForCallers

@@ -1,6 +1,7 @@
 //! Where what peers sent is taken in.
 
-ghost use Rattle.std.specs.Prelude.{◌≡◌, ◌+◌, ◌-◌, ◌++◌, [], ◌∷◌, length, slice_index, slice_set, IfSome, IfNone};
+ghost use Rattle.std.specs.Prelude.{◌≡◌, ℕ, suc, ◌+◌, ◌-◌, ◌<◌, ◌++◌, [], ◌∷◌, length, slice_index, slice_set};
+ghost use Rattle.std.specs.Prelude.{IfSome, IfNone};
 ghost use Rattle.std.specs.List.{AllByRecursion};
 ghost use Rattle.inbox.specs.Arrivals.{IsPeer, IsCountOf, peers, came_of, one_more, with_arrival, with_told, IsToldOf};
 ghost use Rattle.inbox.specs.Telling.{BeginsWhatWasSent, IsAllThatWasSent};
@@ -55,6 +56,16 @@ impl<B: Mailroom> AdderEnd<B> {
         ensures { IsCountOf result (length (came_of peer self.now.taken)) }
     {
         self.counts[(peer - 1) as usize]
+    }
+
+    /// How many were taken of each peer, in the order of their numbers. A count stands still at the largest number of
+    /// 64 bits. Takes no memory.
+    pub fn counts(&self) -> [u64; PEERS]
+        ensures many { length result ≡ peers }
+        ensures counts { (place : ℕ) → place < peers
+            → IsCountOf (slice_index result place) (length (came_of (suc place) self.now.taken)) }
+    {
+        self.counts
     }
 
     /// The end is told what these peers, which are lent, have sent so far.

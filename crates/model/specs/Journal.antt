@@ -1,11 +1,11 @@
 -- THE JOURNAL (this project's own): which caller brought which event, and what was answered, in the order in which the
 -- calls of all threads took effect. Without the callers it is a history.
-use Rattle.std.specs.Prelude.{◌≡◌, ℕ, ◌+◌, ◌==◌, List, [], ◌∷◌, ◌++◌, Option, map, filter, length}
+use Rattle.std.specs.Prelude.{◌≡◌, ℕ, ◌+◌, ◌==◌, List, [], ◌∷◌, ◌++◌, Option, Some, None, map, filter, length}
+use Rattle.std.specs.List.{AllByRecursion}
 use Rattle.model.specs.Ledger.{Network}
-use Rattle.model.specs.History.{State, Entry, IsLegal}
+use Rattle.model.specs.History.{State, Event, Arrive, Entry, IsLegal, length_after}
 
--- an event with its reply; the number of the caller who brought it; and of an arrival the peer that it came from, where
--- it came from one
+-- an event with its reply; the number of the caller who brought it; and of an arrival the peer that it came from
 pub record JournalEntry : Type 0 where
   pub caller : ℕ
   pub peer : Option ℕ
@@ -22,9 +22,27 @@ history_of journal = map (λ e. e.entry) journal
 abbrev pub calls_of : ℕ → Journal → Journal
 calls_of caller journal = filter (λ e. e.caller == caller) journal
 
--- its history is legal
-abbrev pub IsLegalJournal : Network → Journal → Type 0
-IsLegalJournal network journal = (s : State) × IsLegal network (history_of journal) s
+-- an arrival came from a peer, and nothing else did
+abbrev pub IsFrom : Event → Option ℕ → Type 0
+IsFrom (Arrive bytes) (Some peer) = Unit {0}
+IsFrom (Arrive bytes) None = ⊥
+IsFrom event (Some peer) = ⊥
+IsFrom event None = Unit {0}
+
+-- an entry names a peer just where it is an arrival
+abbrev pub NamesItsPeer : JournalEntry → Type 0
+NamesItsPeer e = IsFrom e.entry.event e.peer
+
+-- LEGAL JOURNALS
+-- The history is legal, and each arrival, and nothing else, names the peer that it came from.
+pub record IsLegalJournal (network : Network) (journal : Journal) : Type 0 where
+  pub state : State
+  pub legal : IsLegal network (history_of journal) state
+  pub named : AllByRecursion NamesItsPeer journal
+
+-- how many blocks the chain has that is selected after the journal
+abbrev pub height_of : Network → Journal → ℕ
+height_of network journal = length_after network (history_of journal)
 
 -- the journal begins with what was seen of it
 abbrev pub BeginsWithSeen : Journal → Journal → Type 0
@@ -42,7 +60,8 @@ pub record Knowledge : Type 0 where
 
 -- RULE OF A LOCKED CALL
 -- After it the caller has seen a legal journal that begins with all that it had seen, ends with this call and its
--- reply, and has of the caller's calls just those that it made, each once, in their order.
+-- reply, and has of the caller's calls just those that it made, each once, in their order. It has read the height once
+-- more: what it was before the call.
 pub record IsCalled (network : Network) (before : Knowledge) (call : JournalEntry) (after : Knowledge) : Type 0 where
   pub own : call.caller ≡ before.caller
   pub between : Journal
@@ -51,17 +70,16 @@ pub record IsCalled (network : Network) (before : Knowledge) (call : JournalEntr
   pub calls : after.calls ≡ before.calls ++ call ∷ []
   pub each_once : calls_of before.caller after.seen ≡ after.calls
   pub caller : after.caller ≡ before.caller
-  pub loads : after.loads ≡ before.loads
-  pub last : after.last ≡ before.last
+  pub loads : after.loads ≡ before.loads + 1
+  pub last : after.last ≡ height_of network (before.seen ++ between)
 
 -- RULE OF A LOOK AT THE HEIGHT
 -- The height is the length of the chain that is selected after a legal journal, which begins with all that the caller
 -- had seen, and which it has then seen. It has read the height once more, and this is what it read last.
 pub record IsLook (network : Network) (before : Knowledge) (height : ℕ) (after : Knowledge) : Type 0 where
   pub seen : BeginsWithSeen after.seen before.seen
-  pub state : State
-  pub legal : IsLegal network (history_of after.seen) state
-  pub height_of : height ≡ length state.chain
+  pub legal : IsLegalJournal network after.seen
+  pub height_is : height ≡ length legal.state.chain
   pub loads : after.loads ≡ before.loads + 1
   pub last : after.last ≡ height
   pub caller : after.caller ≡ before.caller
@@ -69,10 +87,9 @@ pub record IsLook (network : Network) (before : Knowledge) (height : ℕ) (after
   pub each_once : calls_of before.caller after.seen ≡ after.calls
 
 -- RULE OF A MEETING
--- Both have then seen the same journal, which begins with what each had seen; nothing else changes.
-pub record IsMeeting (a b a' b' : Knowledge) : Type 0 where
+-- Each looks at the height, and both have then seen the same journal. Nothing else changes.
+pub record IsMeeting (network : Network) (a b a' b' : Knowledge) : Type 0 where
+  pub height : ℕ
+  pub one : IsLook network a height a'
+  pub other : IsLook network b height b'
   pub same : a'.seen ≡ b'.seen
-  pub one : BeginsWithSeen a'.seen a.seen
-  pub other : BeginsWithSeen b'.seen b.seen
-  pub one_same : a' ≡ record { caller = a.caller; seen = a'.seen; calls = a.calls; loads = a.loads; last = a.last }
-  pub other_same : b' ≡ record { caller = b.caller; seen = b'.seen; calls = b.calls; loads = b.loads; last = b.last }

@@ -17,6 +17,11 @@ run_app =
     with_rule (with_rule (with_rule (new_app (codes "run")) (required_rule (codes "genesis")))
     (required_rule (codes "script"))) (option_rule (codes "log"))
 
+-- the command `sim` with its two
+abbrev pub sim_app : App
+sim_app =
+    with_rule (with_rule (new_app (codes "sim")) (required_rule (codes "genesis"))) (required_rule (codes "script"))
+
 -- the command `replay` with its two
 abbrev pub replay_app : App
 replay_app =
@@ -26,5 +31,12 @@ replay_app =
 abbrev pub node_shape : Shape
 node_shape = record (new_app (codes "node")).top { has_version = true; subcommand_required = true }
 
+abbrev pub bare_app : App
+bare_app = record { top = node_shape; subs = [] }
+
+-- those that run scripts first
+abbrev pub script_app : App
+script_app = with_subcommand (with_subcommand bare_app run_app.top) sim_app.top
+
 abbrev pub node_app : App
-node_app = with_subcommand (with_subcommand (record { top = node_shape; subs = [] }) run_app.top) replay_app.top
+node_app = with_subcommand script_app replay_app.top

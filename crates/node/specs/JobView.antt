@@ -2,13 +2,18 @@
 use Rattle.std.specs.Prelude.{◌≡◌, ◌⊎◌, List, Option, Some, option_map, codes}
 use Rattle.clap.specs.Words.{Text, Row, first_of}
 use Rattle.node.specs.declared.jobs.Job.{Job}
-use Rattle.node.specs.declared.jobs.Job.TheVariants.{Run, Replay}
+use Rattle.node.specs.declared.jobs.Job.TheVariants.{Run, Sim, Replay}
 
 -- the values of the options of `run`
 pub record IsRun (rows : List Row) (genesis script : Text) (log : Option Text) : Type 0 where
   pub genesis_is : first_of (codes "genesis") rows ≡ Some genesis
   pub script_is : first_of (codes "script") rows ≡ Some script
   pub log_is : first_of (codes "log") rows ≡ log
+
+-- those of `sim`
+pub record IsSim (rows : List Row) (genesis script : Text) : Type 0 where
+  pub genesis_is : first_of (codes "genesis") rows ≡ Some genesis
+  pub script_is : first_of (codes "script") rows ≡ Some script
 
 -- those of `replay`
 pub record IsReplay (rows : List Row) (genesis log : Text) : Type 0 where
@@ -17,14 +22,22 @@ pub record IsReplay (rows : List Row) (genesis log : Text) : Type 0 where
 
 abbrev pub IsRunJob : List Row → Job → Type 0
 IsRunJob rows (Run genesis script log) = IsRun rows genesis.now script.now (option_map (λ path. path.now) log)
+IsRunJob rows (Sim genesis script) = ⊥
 IsRunJob rows (Replay genesis log) = ⊥
+
+abbrev pub IsSimJob : List Row → Job → Type 0
+IsSimJob rows (Run genesis script log) = ⊥
+IsSimJob rows (Sim genesis script) = IsSim rows genesis.now script.now
+IsSimJob rows (Replay genesis log) = ⊥
 
 abbrev pub IsReplayJob : List Row → Job → Type 0
 IsReplayJob rows (Run genesis script log) = ⊥
+IsReplayJob rows (Sim genesis script) = ⊥
 IsReplayJob rows (Replay genesis log) = IsReplay rows genesis.now log.now
 
 -- the job is the subcommand that was found, with its paths
 abbrev pub IsJobOf : Option (Text × List Row) → Job → Type 0
 IsJobOf found job =
     ((rows : List Row) × (found ≡ Some (codes "run", rows)) × IsRunJob rows job)
-    ⊎ ((rows : List Row) × (found ≡ Some (codes "replay", rows)) × IsReplayJob rows job)
+    ⊎ (((rows : List Row) × (found ≡ Some (codes "sim", rows)) × IsSimJob rows job)
+    ⊎ ((rows : List Row) × (found ≡ Some (codes "replay", rows)) × IsReplayJob rows job))

@@ -3,8 +3,9 @@
 ghost use Rattle.std.specs.Prelude.{◌≡◌, map, IfOk, IfSome, false, string_bytes};
 ghost use Rattle.clap.specs.Words.{app_of, rule_of, rows_of, found_of, subcommand_of, subcommand_rows_of};
 ghost use Rattle.clap.specs.declared.builder.command.Command.TheViews.{out-Command};
-ghost use Rattle.node.specs.CommandLine.{option_rule, required_rule, run_app, replay_app, node_app};
-ghost use Rattle.node.specs.JobView.{IsJobOf, IsRunJob, IsReplayJob};
+ghost use Rattle.node.specs.CommandLine.{option_rule, required_rule, run_app, sim_app, replay_app};
+ghost use Rattle.node.specs.CommandLine.{bare_app, script_app, node_app};
+ghost use Rattle.node.specs.JobView.{IsJobOf, IsRunJob, IsSimJob, IsReplayJob};
 
 use crate::jobs::Job;
 use clap::error::ErrorKind;
@@ -50,6 +51,19 @@ fn run_command<'a>(alloc: Global) -> Result<Command<'a>, AllocError>
         .arg(log)
 }
 
+/// The command `sim`.
+fn sim_command<'a>(alloc: Global) -> Result<Command<'a>, AllocError>
+    ensures app { IfOk result (λ c. app_of c ≡ sim_app) }
+    ensures local { IfOk result (λ c. (out-Command c).has_globals ≡ false) }
+{
+    let genesis = required_path(alloc, "genesis", "What the network agrees on");
+    let script = required_path(alloc, "script", "What the peers send");
+    Command::new(alloc, "sim")
+        .about("Have peers send blocks at once, and print what came of it")
+        .arg(genesis)?
+        .arg(script)
+}
+
 /// The command `replay`.
 fn replay_command<'a>(alloc: Global) -> Result<Command<'a>, AllocError>
     ensures app { IfOk result (λ c. app_of c ≡ replay_app) }
@@ -63,18 +77,31 @@ fn replay_command<'a>(alloc: Global) -> Result<Command<'a>, AllocError>
         .arg(log)
 }
 
-/// The command that the program is.
-fn node_command<'a>(alloc: Global) -> Result<Command<'a>, AllocError>
-    ensures { IfOk result (λ c. app_of c ≡ node_app) }
+/// The command that the program is, with no subcommand yet.
+fn bare_command<'a>(alloc: Global) -> Command<'a>
+    ensures { app_of result ≡ bare_app }
 {
-    let run = run_command(alloc)?;
-    let replay = replay_command(alloc)?;
     Command::new(alloc, "node")
         .version("0.1.0")
         .about("The chain database of a node")
         .subcommand_required(true)
-        .subcommand(run)?
-        .subcommand(replay)
+}
+
+/// The same with the subcommands that run scripts.
+fn script_command<'a>(alloc: Global) -> Result<Command<'a>, AllocError>
+    ensures { IfOk result (λ c. app_of c ≡ script_app) }
+{
+    let run = run_command(alloc)?;
+    let sim = sim_command(alloc)?;
+    bare_command(alloc).subcommand(run)?.subcommand(sim)
+}
+
+/// The command that the program is.
+fn node_command<'a>(alloc: Global) -> Result<Command<'a>, AllocError>
+    ensures { IfOk result (λ c. app_of c ≡ node_app) }
+{
+    let replay = replay_command(alloc)?;
+    script_command(alloc)?.subcommand(replay)
 }
 
 /// The run that these options name, if they name one.
@@ -89,6 +116,15 @@ fn run_job<'a>(found: &ArgMatches<'a>) -> Option<Job<'a>>
         script,
         log,
     })
+}
+
+/// The simulation that these options name, if they name one.
+fn sim_job<'a>(found: &ArgMatches<'a>) -> Option<Job<'a>>
+    ensures { IfSome result (IsSimJob (rows_of (found_of found.now))) }
+{
+    let genesis = found.get_str("genesis")?;
+    let script = found.get_str("script")?;
+    Some(Job::Sim { genesis, script })
 }
 
 /// The replay that these options name, if they name one.
@@ -107,6 +143,9 @@ fn job_of<'a>(matches: &ArgMatches<'a>) -> Option<Job<'a>>
     let (name, found) = matches.subcommand()?;
     if name == "run" {
         return run_job(found);
+    }
+    if name == "sim" {
+        return sim_job(found);
     }
     if name == "replay" {
         return replay_job(found);

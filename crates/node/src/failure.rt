@@ -2,7 +2,7 @@
 
 use chain_core::ReopenFault;
 use genesis::GenesisFault;
-use immlog::{AppendFault, OpenFault};
+use immlog::{AppendFault, OpenLogFault};
 use scenario::ScenarioFault;
 use thiserror::Error as Fault;
 
@@ -29,12 +29,12 @@ pub enum Failure<'a> {
     Scenario(ScenarioFault),
 }
 
-impl<'a> From<OpenFault> for Failure<'a> {
-    fn from(fault: OpenFault) -> Failure<'a> {
+impl<'a> From<OpenLogFault> for Failure<'a> {
+    fn from(fault: OpenLogFault) -> Failure<'a> {
         match fault {
-            OpenFault::Damaged(place) => Failure::Damaged(place),
-            OpenFault::DiskFault => Failure::DiskFault,
-            OpenFault::OutOfMemory => Failure::Scenario(ScenarioFault::OutOfMemory),
+            OpenLogFault::Damaged(place) => Failure::Damaged(place),
+            OpenLogFault::DiskFault => Failure::DiskFault,
+            OpenLogFault::OutOfMemory => Failure::Scenario(ScenarioFault::OutOfMemory),
         }
     }
 }

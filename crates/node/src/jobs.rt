@@ -9,6 +9,11 @@ pub enum Job<'a> {
         script: &'a str,
         log: Option<&'a str>,
     },
+    /// Have the peers of this file's script send blocks under the genesis of this one, each in a thread of its own.
+    Sim {
+        genesis: &'a str,
+        script: &'a str,
+    },
     /// Open the log of this file under the genesis of this one, and tell how many blocks it has.
     Replay {
         genesis: &'a str,

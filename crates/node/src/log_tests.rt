@@ -4,6 +4,8 @@ use crate::tests::{GENESIS, MEMORY, ends, own_folder, remove, write_file};
 use std::fs;
 use std::process::Abort;
 use std::rt::Files;
+use std::sync::Wait;
+use std::thread::Threads;
 
 /// Three blocks of a chain, of which the first one is then never rolled back.
 const THREE: &str = "block A1 genesis 1
@@ -82,7 +84,7 @@ impl Paths {
 
 /// The script is run on the log, with this status, and this is printed and told.
 fn runs_on_log(
-    rt: &(impl Abort + Files + AllocGlobal),
+    rt: &(impl Abort + Files + AllocGlobal + Threads + Wait + Sync),
     paths: &Paths,
     (status, printed, told): (u8, &str, &str),
 ) {
@@ -101,7 +103,7 @@ fn runs_on_log(
 
 /// The log is opened, with this status, and this is printed and told.
 fn replays(
-    rt: &(impl Abort + Files + AllocGlobal),
+    rt: &(impl Abort + Files + AllocGlobal + Threads + Wait + Sync),
     paths: &Paths,
     (status, printed, told): (u8, &str, &str),
 ) {

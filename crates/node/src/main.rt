@@ -6,6 +6,10 @@ mod failure;
 mod genesis_file;
 mod jobs;
 mod log_runs;
+mod sim;
+mod sim_course;
+mod sim_summary;
+mod sim_threads;
 mod start;
 
 use std::process::ExitCode;
@@ -19,5 +23,7 @@ fn main(rt: HostRuntime) -> io::Result<ExitCode> {
 
 #[cfg(test)]
 mod log_tests;
+#[cfg(test)]
+mod sim_tests;
 #[cfg(test)]
 mod tests;

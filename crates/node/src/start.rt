@@ -10,6 +10,7 @@ use crate::failure::Failure;
 use crate::genesis_file::{MAX_GENESIS_SIZE, NoGenesis, read_genesis};
 use crate::jobs::Job;
 use crate::log_runs::{replay, run_logged};
+use crate::sim::sim;
 use clap::Error;
 use clap::error::ErrorKind;
 use genesis::Genesis;
@@ -18,6 +19,9 @@ use std::alloc::{AllocError, Global};
 use std::fs::File;
 use std::io::{BufReader, Read, Write};
 use std::rt::Files;
+use std::sync::Wait;
+use std::thread::Threads;
+use witness_pool::OpenGate;
 
 /// Why a genesis file of this path says no genesis.
 fn genesis_failure<'a>(path: &'a str, why: NoGenesis) -> Failure<'a> {
@@ -94,6 +98,38 @@ fn run_files<'a, R: Files + AllocGlobal, W: Write>(
     run_file(rt, genesis, script, out)
 }
 
+/// Runs the simulation that the script of a file says, on a network of this genesis.
+fn sim_file<'a, R: Files + AllocGlobal + Threads + Wait + Sync, W: Write>(
+    rt: &R,
+    genesis: Genesis,
+    path: &'a str,
+    out: &mut W,
+) -> Result<(), Failure<'a>> {
+    let Ok(file) = File::open(rt, path) else {
+        return Err(Failure::CannotRead(path));
+    };
+    // One byte more than a script may have makes its line a bad one, so a line without end takes no more memory.
+    let script = file.take(scenario::MAX_SCRIPT_SIZE + 1);
+    let Ok(mut reader) = BufReader::new(rt.alloc(), script) else {
+        return Err(Failure::Scenario(ScenarioFault::OutOfMemory));
+    };
+    match sim(rt, genesis, &mut reader, out, &OpenGate) {
+        Ok(()) => Ok(()),
+        Err(fault) => Err(Failure::Scenario(fault)),
+    }
+}
+
+/// Runs the simulation that the script of a file says, under the genesis of another.
+fn sim_files<'a, R: Files + AllocGlobal + Threads + Wait + Sync, W: Write>(
+    rt: &R,
+    genesis: &'a str,
+    script: &'a str,
+    out: &mut W,
+) -> Result<(), Failure<'a>> {
+    let genesis = genesis_of_file(rt, genesis)?;
+    sim_file(rt, genesis, script, out)
+}
+
 /// Tells why a command line is no job, and answers the status.
 fn refuse<O: Write, E: Write>(error: &Error, out: &mut O, err: &mut E) -> u8
     ensures memory { kind_of error.now ≡ ErrorKind.OutOfMemory → result ≡ 1 }
@@ -119,7 +155,7 @@ fn refuse<O: Write, E: Write>(error: &Error, out: &mut O, err: &mut E) -> u8
 }
 
 /// Does a job, and answers the status: 0 where it was done, and else 1 with one line on standard error.
-fn do_job<R: Files + AllocGlobal, O: Write, E: Write>(
+fn do_job<R: Files + AllocGlobal + Threads + Wait + Sync, O: Write, E: Write>(
     rt: &R,
     job: &Job<'_>,
     out: &mut O,
@@ -139,6 +175,7 @@ fn do_job<R: Files + AllocGlobal, O: Write, E: Write>(
             script,
             log: Some(log),
         } => tell(run_logged(rt, *genesis, *script, *log, out), err),
+        Job::Sim { genesis, script } => tell(sim_files(rt, *genesis, *script, out), err),
         Job::Replay { genesis, log } => tell(replay(rt, *genesis, *log, out), err),
     }
 }
@@ -159,7 +196,7 @@ fn tell<E: Write>(end: Result<(), Failure<'_>>, err: &mut E) -> u8
 
 /// Does what the words of the command line ask for. Answers 0 where that was done, 2 for a refused command line
 /// and else 1 with one line on standard error.
-pub fn start<R: Files + AllocGlobal, O: Write, E: Write>(
+pub fn start<R: Files + AllocGlobal + Threads + Wait + Sync, O: Write, E: Write>(
     rt: &R,
     words: &[String],
     out: &mut O,

@@ -4,6 +4,8 @@ use crate::start::start;
 use std::io::Write;
 use std::process::Abort;
 use std::rt::Files;
+use std::sync::Wait;
+use std::thread::Threads;
 use std::{fs, io};
 
 // Each way out of a function drops all that it owns, which makes its proof longer. So want of memory and what can't be
@@ -25,7 +27,7 @@ fn words_of(rt: &(impl Abort + AllocGlobal), words: &[&str]) -> Vec<String> {
 /// The program ends with this status. On standard output it has printed this text, or one that begins so where two
 /// points stand at its end; on standard error it has told this, or where it is `?` something.
 pub fn ends(
-    rt: &(impl Abort + Files + AllocGlobal),
+    rt: &(impl Abort + Files + AllocGlobal + Threads + Wait + Sync),
     words: &[&str],
     status: u8,
     printed: &str,
@@ -52,6 +54,19 @@ const REFUSED: &[&[&str]] = &[
     &["node"],
     &["node", "walk"],
     &["node", "run"],
+    &["node", "sim"],
+    &["node", "sim", "--genesis", "g"],
+    &["node", "sim", "--script", "s"],
+    &[
+        "node",
+        "sim",
+        "--genesis",
+        "g",
+        "--script",
+        "s",
+        "--log",
+        "l",
+    ],
     &["node", "replay", "--log", "l"],
     &["node", "replay", "--genesis", "g", "--script", "s"],
     &["node", "run", "--genesis", "g"],
@@ -80,6 +95,7 @@ fn refused_command_lines(rt: HostRuntime) {
 const ANSWERED: &[(&[&str], &str)] = &[
     (&["node", "--help"], "The chain database of a node\n.."),
     (&["node", "run", "--help"], "Run a script.."),
+    (&["node", "sim", "--help"], "Have peers send blocks.."),
     (&["node", "replay", "--help"], "Open a log.."),
     (&["node", "--version"], "node 0.1.0\n"),
 ];
@@ -139,7 +155,7 @@ pub fn write_file(
 
 /// The script of a file is run under the genesis of another, with this status, and this is printed and told.
 fn runs(
-    rt: &(impl Abort + Files + AllocGlobal),
+    rt: &(impl Abort + Files + AllocGlobal + Threads + Wait + Sync),
     genesis: &str,
     script: &str,
     (status, printed, told): (u8, &str, &str),
@@ -276,7 +292,7 @@ fn scripts_of_files(rt: HostRuntime) {
 }
 
 /// These words end with status 1 where standard output takes nothing, and that is told.
-fn fails_to_write(rt: &(impl Abort + Files + AllocGlobal), words: &[&str]) {
+fn fails_to_write(rt: &(impl Abort + Files + AllocGlobal + Threads + Wait + Sync), words: &[&str]) {
     let words = words_of(rt, words);
     let mut err = Vec::new(rt.alloc());
     let status = start(rt, words.as_slice(), &mut Closed {}, &mut err);

@@ -6,8 +6,8 @@ use Rattle.model.specs.Follower.{free_id}
 use Rattle.model.specs.Ledger.{Network}
 use Rattle.model.specs.History.{State, Open, OutOfMemory, Step}
 use Rattle.followers.specs.declared.follower_id.FollowerId.{FollowerId}
-use Rattle.followers.specs.declared.fault.OpenFault.{OpenFault}
-use Rattle.followers.specs.declared.fault.OpenFault.TheVariants as open'
+use Rattle.followers.specs.declared.fault.OpenFollowerFault.{OpenFollowerFault}
+use Rattle.followers.specs.declared.fault.OpenFollowerFault.TheVariants as open'
 use Rattle.chain_core.specs.Views.{open_reply_of}
 use Rattle.followers.proofs.ForCallers.{the_lengths}
 use Rattle.chain_core.specs.FollowerCalls.{IsWantAtOpening}
@@ -21,22 +21,22 @@ use Rattle.scenario.specs.Run.{Scene, names_opened, entry}
 use Rattle.scenario.specs.SessionView.{Done}
 
 -- where no follower was opened no name is bound
-pub none_opened : (names : List (Named ℕ)) (name : List ℕ) (fault : OpenFault) → names ≡ names_opened names name (open_reply_of (Err fault))
+pub none_opened : (names : List (Named ℕ)) (name : List ℕ) (fault : OpenFollowerFault) → names ≡ names_opened names name (open_reply_of (Err fault))
 none_opened names name open'.TooManyFollowers = refl
 none_opened names name open'.OutOfMemory = refl
 
 -- what was put behind nothing
-pub opening_printed : (out old name : List ℕ) (printed result : Result FollowerId OpenFault) → out ≡ old ++ opening_text name (open_reply_of printed) → old ≡ [] → printed ≡ result → out ≡ opening_text name (open_reply_of result)
+pub opening_printed : (out old name : List ℕ) (printed result : Result FollowerId OpenFollowerFault) → out ≡ old ++ opening_text name (open_reply_of printed) → old ≡ [] → printed ≡ result → out ≡ opening_text name (open_reply_of result)
 opening_printed out old name printed result is empty same =
-    is ∙ ap (λ (l : List ℕ). l ++ opening_text name (open_reply_of printed)) empty ∙ ap (λ (r : Result FollowerId OpenFault). opening_text name (open_reply_of r)) same
+    is ∙ ap (λ (l : List ℕ). l ++ opening_text name (open_reply_of printed)) empty ∙ ap (λ (r : Result FollowerId OpenFollowerFault). opening_text name (open_reply_of r)) same
 
 -- memory runs out only where a number is free
-room_at : (held : Held) (s : State) (result : Result FollowerId OpenFault) → Stands held s → IfErr result (IsWantAtOpening held) → open_reply_of result ≡ OutOfMemory → free_id s.followers < follower_limit
+room_at : (held : Held) (s : State) (result : Result FollowerId OpenFollowerFault) → Stands held s → IfErr result (IsWantAtOpening held) → open_reply_of result ≡ OutOfMemory → free_id s.followers < follower_limit
 room_at held s (Ok id) stands memory is = cc
 room_at held s (Err open'.TooManyFollowers) stands memory is = cc
 room_at held s (Err open'.OutOfMemory) stands memory is = subst (λ n. n < follower_limit) (sym (the_lengths.free held.chain held.followers s.followers stands.followers)) (memory refl)
 
-pub opening_acted : (network : Network) (s : Scene) (name : List ℕ) (result : Result FollowerId OpenFault) (out : List ℕ) (held : Held) (new : Session) → out ≡ opening_text name (open_reply_of result)
+pub opening_acted : (network : Network) (s : Scene) (name : List ℕ) (result : Result FollowerId OpenFollowerFault) (out : List ℕ) (held : Held) (new : Session) → out ≡ opening_text name (open_reply_of result)
     → Stands held s.state → IfErr result (IsWantAtOpening held)
     → AreNamed new.names (record s.names { of_followers = names_opened s.names.of_followers name (open_reply_of result) })
     → (t : State) × Step network s.state Open (open_reply_of result) t × Stands new.core t

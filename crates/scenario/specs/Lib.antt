@@ -3,3 +3,4 @@ pub mod ForgeView
 pub mod Run
 pub mod SessionView
 pub mod Handed
+pub mod Sending

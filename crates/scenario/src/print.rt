@@ -16,7 +16,7 @@ ghost use Rattle.scenario.specs.ForgeView.{code_answer_text};
 
 use block::CheckedBlock;
 use chain_core::{
-    ArriveReply, FollowerId, ForgeFault, Instruction, NextFault, OpenFault, UnknownFollower,
+    ArriveReply, FollowerId, ForgeFault, Instruction, NextFault, OpenFollowerFault, UnknownFollower,
 };
 use ident::Point;
 use mempool::{Mempool, SubmitReply};
@@ -147,13 +147,13 @@ pub fn print_mempool(
 }
 
 /// What the opening of a follower is answered.
-fn opening_reply(reply: Result<FollowerId, OpenFault>) -> &'static [u8]
+fn opening_reply(reply: Result<FollowerId, OpenFollowerFault>) -> &'static [u8]
     ensures { result.now ≡ opening_reply_text (open_reply_of reply) }
 {
     match reply {
         Ok(_) => b"ok".as_slice(),
-        Err(OpenFault::TooManyFollowers) => b"refused TooManyFollowers".as_slice(),
-        Err(OpenFault::OutOfMemory) => b"out of memory".as_slice(),
+        Err(OpenFollowerFault::TooManyFollowers) => b"refused TooManyFollowers".as_slice(),
+        Err(OpenFollowerFault::OutOfMemory) => b"out of memory".as_slice(),
     }
 }
 
@@ -161,7 +161,7 @@ fn opening_reply(reply: Result<FollowerId, OpenFault>) -> &'static [u8]
 pub fn print_opening(
     line: &mut Vec<u8>,
     name: &[u8],
-    reply: Result<FollowerId, OpenFault>,
+    reply: Result<FollowerId, OpenFollowerFault>,
 ) -> Result<(), AllocError>
     ensures { OnOk result (line.new.items ≡ line.old.items ++ opening_text name.now (open_reply_of reply)) }
 {

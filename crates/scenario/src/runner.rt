@@ -19,7 +19,7 @@ use std::io::{BufRead, Error, ErrorKind, Write};
 use witness_pool::TestScheme;
 
 /// Why no line was read, of which these bytes were. That memory ran out is said only where they are no whole line.
-fn read_fault(error: &Error, line: &[u8]) -> ScenarioFault
+pub fn read_fault(error: &Error, line: &[u8]) -> ScenarioFault
     ensures { (result ≡ ScenarioFault.ReadFailed) ⊎ ((result ≡ ScenarioFault.OutOfMemory)
         × ((content : List ℕ) → line.now ≡ content ++ 10 ∷ [] → ⊥)) }
 {
@@ -36,7 +36,7 @@ fn read_fault(error: &Error, line: &[u8]) -> ScenarioFault
 }
 
 /// Why a line of this number was not run.
-fn line_fault(number: u64, stop: Stop) -> ScenarioFault
+pub fn line_fault(number: u64, stop: Stop) -> ScenarioFault
     ensures { result ≡ fault_of number stop }
 {
     match stop {
@@ -46,7 +46,7 @@ fn line_fault(number: u64, stop: Stop) -> ScenarioFault
 }
 
 /// The fault of a transaction without its end, which was begun in the line of this number.
-fn unended(number: u64) -> ScenarioFault
+pub fn unended(number: u64) -> ScenarioFault
     ensures { result ≡ ScenarioFault.Line number BadLine }
 {
     ScenarioFault::Line {

@@ -138,7 +138,7 @@ impl Names {
     }
 
     /// Does what a line of this number says by itself.
-    fn obey_line<'a>(&mut self, number: u64, line: Line<'a>) -> Result<Request<'a>, Stop>
+    pub(crate) fn obey_line<'a>(&mut self, number: u64, line: Line<'a>) -> Result<Request<'a>, Stop>
         ensures { (names : AllNames) → AreNamed self.old names
             → AsksLine number names (line_of line.entry) result self.new }
     {

@@ -5,7 +5,9 @@ use Rattle.model.specs.Signature.{Verifies}
 use Rattle.model.specs.Genesis.{Genesis}
 use Rattle.model.specs.Ledger.{Network, network_of, network_on}
 use Rattle.model.specs.History.{State, Event, Next, Reply, OutOfMemory, Entry, opening, Step, IsLegal}
-use Rattle.model.specs.Journal.{JournalEntry, Journal, history_of, calls_of, Knowledge, IsLegalJournal, IsCalled, IsLook}
+use Rattle.model.specs.Journal.{JournalEntry, Journal, history_of, calls_of, Knowledge, NamesItsPeer, IsLegalJournal, IsCalled, IsLook}
+use Rattle.std.specs.List.{AllByRecursion}
+use Rattle.model.proofs.Lists.{all_push}
 use Rattle.model.proofs.LegalHistories.{opens_nothing, run_length, legal_sound}
 use Rattle.model.proofs.OneReply.{reply_one}
 use Rattle.model.proofs.ToldChains.{run_on}
@@ -25,7 +27,7 @@ use Rattle.shared.specs.Standing.{IsCoreOf}
 
 -- a journal without entries
 pub nothing_legal : (network : Network) → IsLegalJournal network []
-nothing_legal network = (opening network, refl)
+nothing_legal network = record { state = opening network; legal = refl; named = tt }
 
 -- a new core stands for the opening state
 pub opening_stands : (verifies : Verifies) (held : Held) → held ≡ opening_held held.genesis [] → Stands held (opening (network_of held.genesis verifies))
@@ -56,9 +58,8 @@ look_of verifies genesis number v found w is role looked =
     let calls : v.calls ≡ w.calls = sym (ap (λ (u : SeatView). u.calls) looked.same) in
     record {
       seen = looked.seen;
-      state = legal.0;
-      legal = legal.1;
-      height_of = looked.height_is ∙ height_of_legal genesis verifies w.seen legal.0 legal.1;
+      legal = legal;
+      height_is = looked.height_is ∙ height_of_legal genesis verifies w.seen legal.state legal.legal;
       loads = ap (λ (u : SeatView). u.loads) looked.same;
       last = ap (λ (u : SeatView). u.last) looked.same;
       caller = refl;
@@ -68,43 +69,44 @@ look_of verifies genesis number v found w is role looked =
 
 -- ---- a call
 
-pub call_of : (network : Network) (number : ℕ) (writer : SeatView) (e : JournalEntry) (v w : SeatView) → e.caller ≡ number → IsLegalJournal network (writer.seen ++ e ∷ []) → IsSealed writer e v w
-    → IsCalled network (knowledge_of number v) e (knowledge_of number w)
-call_of network number writer e v w own legal sealed =
+pub call_of : (verifies : Verifies) (genesis : Genesis) (number : ℕ) (writer : SeatView) (e : JournalEntry) (v w : SeatView) → e.caller ≡ number → IsLegalJournal (network_of genesis verifies) (writer.seen ++ e ∷ []) → IsSealed writer e v w
+    → IsCalled (network_of genesis verifies) (knowledge_of number v) e (knowledge_of number w)
+call_of verifies genesis number writer e v w own legal sealed =
     let seen : w.seen ≡ writer.seen ++ e ∷ [] = ap (λ (u : SeatView). u.seen) sealed.same in
     record {
       own = own;
       between = sealed.begins.0;
       seen = seen ∙ ap (λ (j : Journal). j ++ e ∷ []) sealed.begins.1;
-      legal = subst (IsLegalJournal network) (sym seen) legal;
+      legal = subst (IsLegalJournal (network_of genesis verifies)) (sym seen) legal;
       calls = ap (λ (u : SeatView). u.calls) sealed.same;
       each_once = subst (λ (c : ℕ). calls_of c w.seen ≡ w.calls) own sealed.calls;
       caller = refl;
       loads = ap (λ (u : SeatView). u.loads) sealed.same;
-      last = ap (λ (u : SeatView). u.last) sealed.same;
+      last = ap (λ (u : SeatView). u.last) sealed.same ∙ ap height_after sealed.begins.1;
     }
 
 -- ---- the core under the lock
 
 -- a step of the core, and the journal with one more call
-pub core_after : (verifies : Verifies) (genesis : Genesis) (journal now : Journal) (held new : Held) (caller : ℕ) (event : Event) (reply : Reply) (e : JournalEntry) → IsCoreOf verifies genesis journal held → now ≡ journal → Steps verifies held event reply new → new.genesis ≡ held.genesis → new.opened ≡ held.opened → e ≡ call_by caller event reply
+pub core_after : (verifies : Verifies) (genesis : Genesis) (journal now : Journal) (held new : Held) (made e : JournalEntry) → IsCoreOf verifies genesis journal held → now ≡ journal → Steps verifies held made.entry.event made.entry.reply new → new.genesis ≡ held.genesis → new.opened ≡ held.opened → NamesItsPeer made → e ≡ made
     → IsCoreOf verifies genesis (now ++ e ∷ []) new
-core_after verifies genesis journal now held new caller event reply e core same steps genesis_same opened_same is =
+core_after verifies genesis journal now held new made e core same steps genesis_same opened_same names is =
     let step = steps core.state core.stands in
     let network = network_of genesis verifies in
-    let legal = legal_on network journal core.state (call_by caller event reply) step.0 core.legal (subst (λ (n : Network). Step n core.state event reply step.0) (λ i. network_on (core.genesis_is i) verifies (core.opened_is i)) step.1) in
+    let legal = legal_on network journal core.state made step.0 core.legal (subst (λ (n : Network). Step n core.state made.entry.event made.entry.reply step.0) (λ i. network_on (core.genesis_is i) verifies (core.opened_is i)) step.1) in
     record {
       genesis_is = genesis_same ∙ core.genesis_is;
       opened_is = opened_same ∙ core.opened_is;
       state = step.0;
       legal = subst (λ (x : Journal × JournalEntry). IsLegal network (history_of (x.0 ++ x.1 ∷ [])) step.0) (λ i. (sym same i, sym is i)) legal;
+      named = subst (λ (x : Journal × JournalEntry). AllByRecursion NamesItsPeer (x.0 ++ x.1 ∷ [])) (λ i. (sym same i, sym is i)) (all_push NamesItsPeer journal made core.named names);
       stands = step.2;
     }
 
 -- what a seat that has seen all but the last call may store
 pub legal_of : (verifies : Verifies) (key genesis : Genesis) (journal seen : Journal) (e : JournalEntry) (held : Held) → IsCoreOf verifies genesis (journal ++ e ∷ []) held → key ≡ genesis → seen ≡ journal → IsLegalJournal (network_of key verifies) (seen ++ e ∷ [])
 legal_of verifies key genesis journal seen e held core is same =
-    subst (λ (x : Genesis × Journal). IsLegalJournal (network_of x.0 verifies) (x.1 ++ e ∷ [])) (λ i. (sym is i, sym same i)) (core.state, core.legal)
+    subst (λ (x : Genesis × Journal). IsLegalJournal (network_of x.0 verifies) (x.1 ++ e ∷ [])) (λ i. (sym is i, sym same i)) (record { state = core.state; legal = core.legal; named = core.named })
 
 pub height_of_core : (verifies : Verifies) (genesis : Genesis) (journal seen : Journal) (e : JournalEntry) (held : Held) (height : ℕ) → IsCoreOf verifies genesis (journal ++ e ∷ []) held → height ≡ length held.chain → seen ≡ journal → height ≡ height_after (seen ++ e ∷ [])
 height_of_core verifies genesis journal seen e held height core is same =

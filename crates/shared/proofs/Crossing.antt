@@ -1,5 +1,5 @@
--- A shared core may be used by several threads, and a caller may go to another one, whatever the scheme of signatures and
--- whatever the core's name. A type whole, as it has its parts, since a `search` that goes down through them runs out of
+-- A shared core may be used by several threads, and a caller or an adder may go to another one, whatever the scheme of
+-- signatures and whatever the names of core and inbox. A type whole, as it has its parts, since a `search` that goes down through them runs out of
 -- steps.
 use denote.RattleType.{RattleType}
 use denote.Builtin.{unit}
@@ -14,18 +14,24 @@ use Rattle.atomic_table.proofs.shared.Seat.TheSendSync as seat
 use Rattle.atomic_table.proofs.owned.Table.TheSendSync as table
 use Rattle.genesis.specs.contracts.genesis.Genesis as Genesis
 use Rattle.witness_pool.specs.declared.scheme.SigScheme as scheme
-use Rattle.chain_core.proofs.ForCallers.{Core-send, Reply-send}
-use Rattle.chain_core.proofs.event.RawEvent.TheSendSync as event
+use Rattle.block.proofs.ForCallers.{CheckedBlock-send}
+use Rattle.mempool.proofs.reply.SubmitReply.TheSendSync as submitted
+use Rattle.chain_core.proofs.ForCallers.{Core-send}
+use Rattle.chain_core.specs.contracts.follower.Instruction as Instruction
 use Rattle.shared.specs.declared.room.Room as room
 use Rattle.shared.specs.contracts.caller.Caller as Caller
 use Rattle.shared.specs.contracts.heights.View as View
 use Rattle.shared.specs.contracts.heights.HeightRule as HeightRule
 use Rattle.shared.specs.contracts.heights.HeightRuleTableRuleUnitViewGenesis.TheImpl as rule
+use Rattle.shared.specs.contracts.call.Call as Call
 use Rattle.shared.specs.contracts.journal_entry.JournalEntry as JournalEntry
 use Rattle.shared.specs.contracts.journal.Journal as Journal
 use Rattle.shared.specs.contracts.desk.Desk as Desk
 use Rattle.shared.specs.contracts.shared.Shared as Shared
+use Rattle.inbox.specs.declared.mailroom.Mailroom as mailroom
+use Rattle.shared.specs.contracts.adder.Adder as Adder
 use Rattle.shared.proofs.caller.Caller.TheSendSync as caller
+use Rattle.shared.proofs.adder.Adder.TheSendSync as adder
 
 unit_send : IsSend unit
 unit_send = search sendable
@@ -33,9 +39,22 @@ unit_send = search sendable
 pub Caller-send : (B : RattleType) (b : room.Ghosts B.Denot) → IsSend (Caller.the_field B b).row
 Caller-send = caller.the_send
 
+-- an adder whose gate may
+pub Adder-send : (G B M : RattleType) (b : room.Ghosts B.Denot) (m : mailroom.Ghosts M.Denot) → IsSend G → IsSend (Adder.the_row G B M b m)
+Adder-send = adder.the_send
+
 module _ (S : RattleType) (s : scheme.Ghosts S.Denot) where
+  instruction_send : IsSend (Instruction.the_field S s).row
+  instruction_send = let b = CheckedBlock-send S s in search (crosses, sendable) depth 20
+
+  call_send : IsSend (Call.the_field S s).row
+  call_send =
+      let i = instruction_send in
+      let a = submitted.the_field_send in
+      search (crosses, sendable) depth 40 fits 20000
+
   entry_send : IsSend (JournalEntry.the_field S s).row
-  entry_send = let r = Reply-send S s in let e = event.the_field_send in search (crosses, sendable) depth 20
+  entry_send = let c = call_send in search (crosses, sendable) depth 20
 
   module _ (B : RattleType) (b : room.Ghosts B.Denot) where
     journal_send : IsSend (Journal.the_field S B s).row

@@ -1,4 +1,4 @@
 -- What crates above cite of this one's proofs, and no other file.
 
--- A shared core may be used by several threads, and a caller may go to another one.
-pub use Rattle.shared.proofs.Crossing.{Shared-sync, Caller-send}
+-- A shared core may be used by several threads, and a caller or an adder may go to another one.
+pub use Rattle.shared.proofs.Crossing.{Shared-sync, Caller-send, Adder-send}

@@ -17,7 +17,7 @@ pub stays_seen : (network : Network) (a c : Knowledge) → IsLater network a c �
 stays_seen network _ _ (Same a) = begins_all a.seen
 stays_seen network _ _ (Called a b c call later is) = begins_on c.seen b.seen a.seen (begins_with_call network b c call is) (stays_seen network a b later)
 stays_seen network _ _ (Looked a b c height later is) = begins_on c.seen b.seen a.seen is.seen (stays_seen network a b later)
-stays_seen network _ _ (Met a b c other other' later is) = begins_on c.seen b.seen a.seen is.one (stays_seen network a b later)
+stays_seen network _ _ (Met a b c other other' later is) = begins_on c.seen b.seen a.seen is.one.seen (stays_seen network a b later)
 
 pub heights_rise : (network : Network) (a b c d : Knowledge) (first second : ℕ) → IsOpening network → IsLook network a first b → IsLater network b c → IsLook network c second d → first ≤ second
 heights_rise network a b c d first second opens look later next = never_falls network a b c d first second opens look (stays_seen network b c later) next

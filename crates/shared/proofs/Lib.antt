@@ -4,5 +4,7 @@ pub mod Moves
 pub mod Calls
 pub mod Meetings
 pub mod Later
+pub mod Arriving
+pub mod Adders
 pub mod Crossing
 pub mod ForCallers

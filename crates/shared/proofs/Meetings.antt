@@ -1,10 +1,14 @@
 -- Callers who are told what the journal has.
-use Rattle.std.proofs.Common.{◌≡◌, ◌≤◌, ℕ, ◌++◌, length, cond, Bool, true, sym, ap, ◌∙◌, subst, arith}
+use Rattle.std.proofs.Common.{◌≡◌, ◌≤◌, ℕ, ◌+◌, ◌++◌, [], ◌∷◌, length, cond, Bool, true, refl, sym, ap, ◌∙◌, subst, arith, append-nil}
 use Rattle.std.proofs.lemmas.Bool.{le-ltb}
 use Rattle.std.proofs.lemmas.List.{length-append}
-use Rattle.model.specs.Journal.{Journal, Knowledge, BeginsWithSeen, IsMeeting}
-use Rattle.shared.specs.Heights.{SeatView, copy_of, with_copy, longer, with_news, knowledge_of}
+use Rattle.model.specs.Signature.{Verifies}
+use Rattle.model.specs.Genesis.{Genesis}
+use Rattle.model.specs.Ledger.{network_of}
+use Rattle.model.specs.Journal.{JournalEntry, Journal, Knowledge, BeginsWithSeen, IsLegalJournal, IsMeeting, IsLook, height_of, calls_of}
+use Rattle.shared.specs.Heights.{Role, Calls, SeatView, copy_of, with_copy, longer, with_news, knowledge_of, height_after, IsLooked, IsCompared, KnowsCalls}
 use Rattle.shared.specs.Meeting.{IsTold, IsStillWriter, IsInformed}
+use Rattle.shared.proofs.Calls.{height_of_legal}
 
 -- of a journal and a beginning of it the journal is the longer
 pub longer_all : (journal seen : Journal) → BeginsWithSeen journal seen → longer seen journal ≡ journal
@@ -13,55 +17,86 @@ longer_all journal seen begins =
     let below : length seen ≤ length journal = omega (arith, length-append seen begins.0) in
     ap (λ (b : Bool). cond b seen journal) (le-ltb (length journal) (length seen) below)
 
--- the seat with what the writer has seen
-abbrev informed : SeatView → Journal → SeatView
-informed v journal =
+no_entries : (journal : Journal) → length journal ≡ 0 → journal ≡ []
+no_entries [] none = refl
+no_entries (x ∷ xs) none = absurd (omega arith)
+
+-- two journals that begin with one another
+pub begins_both : (xs ys : Journal) → BeginsWithSeen xs ys → BeginsWithSeen ys xs → xs ≡ ys
+begins_both xs ys a b =
+    let rest_is : a.0 ≡ [] = no_entries a.0 (
+    let m = ap length a.1 in
+    let n = ap length b.1 in
+    let p = length-append ys a.0 in
+    let q = length-append xs b.0 in
+    omega arith
+    ) in
+    a.1 ∙ (ap (λ (j : Journal). ys ++ j) rest_is ∙ append-nil ys)
+
+-- the writer after a note was laid beside what it has seen, and a look
+pub measured_of : (writer laid compared : SeatView) (note : SeatView) (found : ℕ) → writer.writes ≡ true → laid ≡ with_copy writer note → IsCompared laid found compared → IsStillWriter writer compared
+measured_of writer laid compared note found right is looked =
     record {
-      genesis = v.genesis;
-      role = v.role;
-      writes = v.writes;
-      seen = journal;
-      before = v.seen;
-      calls = v.calls;
-      loads = v.loads;
-      last = v.last;
+      right = ap (λ (u : SeatView). u.writes) looked.same ∙ (ap (λ (u : SeatView). u.writes) is ∙ right);
+      role = ap (λ (u : SeatView). u.role) looked.same ∙ ap (λ (u : SeatView). u.role) is;
+      seen = ap (λ (u : SeatView). u.seen) looked.same ∙ ap (λ (u : SeatView). u.seen) is;
     }
 
-pub told_of : (writer v measured same w : SeatView) → BeginsWithSeen writer.seen v.seen → measured ≡ with_copy writer (copy_of v) → same ≡ v → w ≡ with_news same (copy_of measured) → IsTold writer v w
-told_of writer v measured same w begins is still news =
+pub measured_begins : (writer laid compared v note : SeatView) (found : ℕ) → note ≡ copy_of v → laid ≡ with_copy writer note → IsCompared laid found compared → BeginsWithSeen writer.seen v.seen
+measured_begins writer laid compared v note found of is looked =
+    subst (λ (x : Journal × Journal). BeginsWithSeen x.0 x.1) (λ i. (ap (λ (u : SeatView). u.seen) is i, (ap (λ (u : SeatView). u.before) is ∙ ap (λ (u : SeatView). u.seen) of) i)) looked.begins
+
+-- the seat, after it learned from the writer, looked, and the writer has seen no less
+pub told_of : (verifies : Verifies) (writer v first same news w last : SeatView) (found : ℕ) → BeginsWithSeen writer.seen v.seen → first.seen ≡ writer.seen → same ≡ v → news ≡ with_news same (copy_of first) → IsLooked verifies news found w
+    → last.seen ≡ writer.seen → BeginsWithSeen last.seen w.seen → IsTold verifies writer v w
+told_of verifies writer v first same news w last found begins first_is still learned looked last_is back =
+    let told : news ≡ record v { seen = writer.seen; before = v.seen } =
+    learned ∙ ((λ i. with_news (still i) (copy_of first)) ∙ ap (λ (j : Journal). record v { seen = j; before = v.seen }) (ap (λ (j : Journal). longer v.seen j) first_is ∙ longer_all writer.seen v.seen begins)) in
+    let seen : w.seen ≡ writer.seen =
+    begins_both w.seen writer.seen (subst (λ (j : Journal). BeginsWithSeen w.seen j) (ap (λ (u : SeatView). u.seen) told) looked.seen) (subst (λ (j : Journal). BeginsWithSeen j w.seen) last_is back) in
+    let height : found ≡ height_after writer.seen = looked.height_is ∙ ap height_after seen in
     record {
-      same = news ∙ ((λ i. with_news (still i) (copy_of (is i))) ∙ ap (informed v) (longer_all writer.seen v.seen begins));
+      same = looked.same ∙ ((λ i. record (told i) { seen = seen i; loads = (told i).loads + 1; last = height i }));
       begins = begins;
+      legal = subst (λ (x : Genesis × Journal). IsLegalJournal (network_of x.0 verifies) x.1) (λ i. (ap (λ (u : SeatView). u.genesis) told i, seen i)) looked.legal;
+      calls = subst (λ (x : SeatView × Journal). KnowsCalls x.0.role x.1 x.0.calls) (λ i. (told i, seen i)) looked.calls;
     }
 
-pub still_of : (writer v measured w : SeatView) → writer.writes ≡ true → measured ≡ with_copy writer (copy_of v) → w ≡ measured → IsStillWriter writer w
-still_of writer v measured w right is same =
-    let all = same ∙ is in
+pub still_on : (a b c d : SeatView) → IsStillWriter a b → c ≡ b → IsStillWriter c d → IsStillWriter a d
+still_on a b c d one same two =
     record {
-      right = ap (λ (u : SeatView). u.writes) all ∙ right;
-      role = ap (λ (u : SeatView). u.role) all;
-      seen = ap (λ (u : SeatView). u.seen) all;
+      right = two.right;
+      role = two.role ∙ (ap (λ (u : SeatView). u.role) same ∙ one.role);
+      seen = two.seen ∙ (ap (λ (u : SeatView). u.seen) same ∙ one.seen);
     }
 
--- the caller with this journal seen
-abbrev knowing : Knowledge → Journal → Knowledge
-knowing k journal = record { caller = k.caller; seen = journal; calls = k.calls; loads = k.loads; last = k.last }
-
-pub informed_of : (number : ℕ) (writer v w : SeatView) (journal : Journal) → IsTold writer v w → writer.seen ≡ journal → IsInformed journal (knowledge_of number v) (knowledge_of number w)
-informed_of number writer v w journal told all =
+pub informed_of : (verifies : Verifies) (genesis : Genesis) (number : ℕ) (writer v w : SeatView) (journal : Journal) → IsTold verifies writer v w → v.genesis ≡ genesis → v.role ≡ Calls number → writer.seen ≡ journal
+    → IsInformed (network_of genesis verifies) journal (knowledge_of number v) (knowledge_of number w)
+informed_of verifies genesis number writer v w journal told here role all =
+    let seen : w.seen ≡ journal = ap (λ (u : SeatView). u.seen) told.same ∙ all in
+    let legal : IsLegalJournal (network_of genesis verifies) w.seen =
+    subst (λ (x : Genesis × Journal). IsLegalJournal (network_of x.0 verifies) x.1) (λ i. (here i, (all ∙ sym seen) i)) told.legal in
+    let height : height_of (network_of genesis verifies) journal ≡ height_after w.seen = ap height_after (sym seen) in
+    let calls : w.calls ≡ v.calls = ap (λ (u : SeatView). u.calls) told.same in
     record {
-      same = ap (knowledge_of number) told.same ∙ ap (knowing (knowledge_of number v)) all;
-      begins = subst (λ (j : Journal). BeginsWithSeen j v.seen) all told.begins;
+      look = record {
+        seen = subst (λ (j : Journal). BeginsWithSeen j v.seen) (all ∙ sym seen) told.begins;
+        legal = legal;
+        height_is = height ∙ height_of_legal genesis verifies w.seen legal.state legal.legal;
+        loads = ap (λ (u : SeatView). u.loads) told.same;
+        last = ap (λ (u : SeatView). u.last) told.same ∙ ap height_after all;
+        caller = refl;
+        calls = calls;
+        each_once = subst (λ (x : Role × Journal). KnowsCalls x.0 x.1 v.calls) (λ i. (role i, (all ∙ sym seen) i)) told.calls ∙ sym calls;
+      };
+      seen = seen;
     }
 
-pub met_of : (journal now : Journal) (a b a' b' : Knowledge) → IsInformed journal a a' → IsInformed now b b' → now ≡ journal → IsMeeting a b a' b'
-met_of journal now a b a' b' one other still =
-    let first : a'.seen ≡ journal = ap (λ (k : Knowledge). k.seen) one.same in
-    let second : b'.seen ≡ now = ap (λ (k : Knowledge). k.seen) other.same in
+pub met_of : (verifies : Verifies) (genesis : Genesis) (journal now : Journal) (a b a' b' : Knowledge) → IsInformed (network_of genesis verifies) journal a a' → IsInformed (network_of genesis verifies) now b b' → now ≡ journal → IsMeeting (network_of genesis verifies) a b a' b'
+met_of verifies genesis journal now a b a' b' one other still =
     record {
-      same = first ∙ sym (second ∙ still);
-      one = subst (λ (j : Journal). BeginsWithSeen j a.seen) (sym first) one.begins;
-      other = subst (λ (j : Journal). BeginsWithSeen j b.seen) (sym second) other.begins;
-      one_same = one.same ∙ ap (knowing a) (sym first);
-      other_same = other.same ∙ ap (knowing b) (sym second);
+      height = height_of (network_of genesis verifies) journal;
+      one = one.look;
+      other = subst (λ (j : Journal). IsLook (network_of genesis verifies) b (height_of (network_of genesis verifies) j) b') still other.look;
+      same = one.seen ∙ sym (other.seen ∙ still);
     }

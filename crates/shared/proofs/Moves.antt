@@ -220,10 +220,11 @@ looks verifies genesis slots id me serves s kept homes at fits64 = (
     }
 
 pub compares : {S : Type 0} (verifies : Verifies) (genesis : Genesis) (slots id : ℕ) (me : Me S SeatView) → (me.0.role ≡ Spent → ⊥) → me.0.writes ≡ true
-    → Allows (IsKept verifies genesis) slots id me 0 (λ n. n) (λ n after. IsCompared me.0 after.0 × (after.1 ≡ me.1))
+    → Allows (IsKept verifies genesis) slots id me 0 (λ n. n) (λ n after. IsCompared me.0 n after.0 × (after.1 ≡ me.1))
 compares verifies genesis slots id me serves writes s kept homes at fits64 =
-    let mine = kept.fits id me.0 at serves in (
-      me.0,
+    let mine = kept.fits id me.0 at serves in
+    let w : SeatView = record me.0 { loads = me.0.loads + 1; last = slice_index s.words 0 } in (
+      w,
       keeps,
       tt,
       record {
@@ -234,11 +235,18 @@ compares verifies genesis slots id me serves writes s kept homes at fits64 =
         legal = kept.legal;
         word = word_stays s.words (height_after kept.log) kept.word;
         unknown = kept.unknown;
-        fits = fits_set genesis kept.log kept.writer kept.dealer kept.seats s.views id me.0
+        fits = fits_set genesis kept.log kept.writer kept.dealer kept.seats s.views id w
             (λ by u apart was still. kept.fits by u was still)
-            (λ still. mine);
+            (λ still. record { genesis_is = mine.genesis_is; seen = mine.seen; before = mine.before; right = mine.right; role = mine.role });
       },
-      ((refl, subst (λ (j : Journal). BeginsWithSeen j me.0.before) (sym (mine.right writes).1) mine.before), refl),
+      (
+        record {
+          same = refl;
+          begins = subst (λ (j : Journal). BeginsWithSeen j me.0.before) (sym (mine.right writes).1) mine.before;
+          height_is = word_is s.words (height_after kept.log) kept.word ∙ ap height_after (sym (mine.right writes).1);
+        },
+        refl,
+      ),
     )
 
 -- ---- a store

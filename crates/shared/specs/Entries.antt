@@ -1,15 +1,54 @@
--- What the entries of the code's journal stand for, and what a caller's own call is in it.
-use Rattle.std.specs.Prelude.{ℕ, None}
+-- What the entries of the code's journal stand for, and what a caller's own call and an arrival are in it.
+use Rattle.std.specs.Prelude.{ℕ, List, Option, Some, None, Ok, map}
+use Rattle.model.specs.History as history
 use Rattle.model.specs.History.{Event, Reply}
 use Rattle.model.specs.Journal.{JournalEntry}
-use Rattle.chain_core.specs.Views.{event_of, reply_of}
+use Rattle.ident.specs.PointView.{point_of}
+use Rattle.chain_core.specs.Views.{arrive_reply_of, submit_reply_of, open_reply_of, next_reply_of}
+use Rattle.chain_core.specs.Views.{forward_reply_of, close_reply_of}
+use Rattle.shared.specs.declared.call.Call.{Call}
+use Rattle.shared.specs.declared.call.Call.TheVariants.{Arrive, Submit, Open, Next, Forward, Close}
 use Rattle.shared.specs.declared.journal_entry.JournalEntry.TheInside.{Inside}
 
+-- the peer that an arrival came from
+abbrev pub peer_of : {S : Type 0} → Call S → Option ℕ
+peer_of (Arrive peer bytes reply) = Some peer
+peer_of (Submit bytes reply) = None
+peer_of (Open reply) = None
+peer_of (Next id reply) = None
+peer_of (Forward id points reply) = None
+peer_of (Close id reply) = None
+
+abbrev pub asked : {S : Type 0} → Call S → Event
+asked (Arrive peer bytes reply) = history.Arrive bytes.items
+asked (Submit bytes reply) = history.Submit bytes.items
+asked (Open reply) = history.Open
+asked (Next id reply) = history.Next id.number
+asked (Forward id points reply) = history.Forward id.number (map point_of points.items)
+asked (Close id reply) = history.Close id.number
+
+abbrev pub answered : {S : Type 0} → Call S → Reply
+answered (Arrive peer bytes reply) = arrive_reply_of (Ok reply)
+answered (Submit bytes reply) = submit_reply_of (Ok reply)
+answered (Open reply) = open_reply_of reply
+answered (Next id reply) = next_reply_of reply
+answered (Forward id points reply) = forward_reply_of reply
+answered (Close id reply) = close_reply_of reply
+
+-- the caller made this call
+abbrev pub entry_of : {S : Type 0} → ℕ → Call S → JournalEntry
+entry_of caller call =
+    record { caller = caller; peer = peer_of call; entry = record { event = asked call; reply = answered call } }
+
 abbrev pub entry_view : {S : Type 0} → Inside S → JournalEntry
-entry_view a =
-    record { caller = a.caller; peer = a.peer; entry = record { event = event_of a.event; reply = reply_of a.reply } }
+entry_view a = entry_of a.caller a.call
 
 -- a caller brings the event itself, and this is answered
 abbrev pub call_by : ℕ → Event → Reply → JournalEntry
 call_by caller event reply =
     record { caller = caller; peer = None; entry = record { event = event; reply = reply } }
+
+-- a caller brings bytes of a block that a peer sent, and this is answered
+abbrev pub arrival_by : (caller peer : ℕ) → List ℕ → Reply → JournalEntry
+arrival_by caller peer bytes reply =
+    record { caller = caller; peer = Some peer; entry = record { event = history.Arrive bytes; reply = reply } }

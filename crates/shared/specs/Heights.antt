@@ -49,78 +49,28 @@ first_view genesis =
 
 -- the seat without the right
 abbrev pub without_right : SeatView → SeatView
-without_right v =
-    record {
-      genesis = v.genesis;
-      role = v.role;
-      writes = false;
-      seen = v.seen;
-      before = v.before;
-      calls = v.calls;
-      loads = v.loads;
-      last = v.last;
-    }
+without_right v = record v { writes = false }
 
 -- the note: it has the right, and what was seen
 abbrev pub note_of : SeatView → SeatView
-note_of v =
-    record {
-      genesis = v.genesis;
-      role = Carries;
-      writes = true;
-      seen = v.seen;
-      before = [];
-      calls = [];
-      loads = 0;
-      last = 0;
-    }
+note_of v = record v { role = Carries; writes = true; before = []; calls = []; loads = 0; last = 0 }
 
 -- the seat that takes a note in has the right, and has seen what the note has; it keeps what it had seen before
 abbrev pub with_note : SeatView → SeatView → SeatView
-with_note v note =
-    record {
-      genesis = v.genesis;
-      role = v.role;
-      writes = true;
-      seen = note.seen;
-      before = v.seen;
-      calls = v.calls;
-      loads = v.loads;
-      last = v.last;
-    }
+with_note v note = record v { writes = true; seen = note.seen; before = v.seen }
 
 -- ---- how callers meet, by notes without the right
 
 -- a note of what the seat has seen, without the right; the seat stays as it is
 abbrev pub copy_of : SeatView → SeatView
-copy_of v =
-    record {
-      genesis = v.genesis;
-      role = Carries;
-      writes = false;
-      seen = v.seen;
-      before = [];
-      calls = [];
-      loads = 0;
-      last = 0;
-    }
+copy_of v = record v { role = Carries; writes = false; before = []; calls = []; loads = 0; last = 0 }
 
 abbrev pub unchanged : SeatView → SeatView
 unchanged v = v
 
 -- the seat lays what the note has seen beside what it has seen itself, so that a look can tell that this begins with it
 abbrev pub with_copy : SeatView → SeatView → SeatView
-with_copy v note =
-    record {
-      genesis = v.genesis;
-      role = v.role;
-      writes = v.writes;
-      seen = v.seen;
-      before = note.seen;
-      calls = v.calls;
-      loads = v.loads;
-      last = v.last;
-    }
+with_copy v note = record v { before = note.seen }
 
 -- the longer of two journals
 abbrev pub longer : Journal → Journal → Journal
@@ -128,17 +78,7 @@ longer a b = if nat_lt (length b) (length a) then a else b
 
 -- the seat learns from the note: it has seen the longer of the two, and keeps what it had seen before
 abbrev pub with_news : SeatView → SeatView → SeatView
-with_news v note =
-    record {
-      genesis = v.genesis;
-      role = v.role;
-      writes = v.writes;
-      seen = longer v.seen note.seen;
-      before = v.seen;
-      calls = v.calls;
-      loads = v.loads;
-      last = v.last;
-    }
+with_news v note = record v { seen = longer v.seen note.seen; before = v.seen }
 
 -- a genesis that nobody has, and the name of no table
 abbrev pub no_genesis : Genesis
@@ -188,17 +128,7 @@ next_role role = role
 
 -- the seat that has given a number
 abbrev pub has_dealt : SeatView → SeatView
-has_dealt v =
-    record {
-      genesis = v.genesis;
-      role = next_role v.role;
-      writes = v.writes;
-      seen = v.seen;
-      before = v.before;
-      calls = v.calls;
-      loads = v.loads;
-      last = v.last;
-    }
+has_dealt v = record v { role = next_role v.role }
 
 abbrev pub dealt_role : Role → Role
 dealt_role (Deals next) = Calls next
@@ -206,17 +136,7 @@ dealt_role role = Spent
 
 -- the seat of the new caller, who made no call
 abbrev pub new_caller : SeatView → SeatView
-new_caller v =
-    record {
-      genesis = v.genesis;
-      role = dealt_role v.role;
-      writes = false;
-      seen = v.seen;
-      before = [];
-      calls = [];
-      loads = 0;
-      last = 0;
-    }
+new_caller v = record v { role = dealt_role v.role; writes = false; before = []; calls = []; loads = 0; last = 0 }
 
 -- ---- the rule
 
@@ -258,38 +178,22 @@ KnowsCalls role journal calls = Unit {0}
 
 -- a look: the word is the height of a legal journal, which begins with what was seen, and which has then been seen
 pub record IsLooked (verifies : Verifies) (v : SeatView) (height : ℕ) (w : SeatView) : Type 0 where
-  pub same : w ≡ record {
-    genesis = v.genesis;
-    role = v.role;
-    writes = v.writes;
-    seen = w.seen;
-    before = v.before;
-    calls = v.calls;
-    loads = v.loads + 1;
-    last = height;
-  }
+  pub same : w ≡ record v { seen = w.seen; loads = v.loads + 1; last = height }
   pub seen : BeginsWithSeen w.seen v.seen
   pub legal : IsLegalJournal (network_of v.genesis verifies) w.seen
   pub height_is : height ≡ height_after w.seen
   pub calls : KnowsCalls v.role w.seen v.calls
 
--- a look after a note: what the note brought begins with what had been seen before
-abbrev pub IsCompared : SeatView → SeatView → Type 0
-IsCompared v w = (w ≡ v) × BeginsWithSeen v.seen v.before
+-- a look by the one who writes, after a note: what was seen begins with what the note laid beside it, and the word is
+-- the height after it
+pub record IsCompared (v : SeatView) (height : ℕ) (w : SeatView) : Type 0 where
+  pub same : w ≡ record v { loads = v.loads + 1; last = height }
+  pub begins : BeginsWithSeen v.seen v.before
+  pub height_is : height ≡ height_after v.seen
 
 -- the seat that has written an entry of its own
 abbrev pub with_entry : SeatView → JournalEntry → SeatView
-with_entry v entry =
-    record {
-      genesis = v.genesis;
-      role = v.role;
-      writes = v.writes;
-      seen = v.seen ++ entry ∷ [];
-      before = v.before;
-      calls = v.calls ++ entry ∷ [];
-      loads = v.loads;
-      last = v.last;
-    }
+with_entry v entry = record v { seen = v.seen ++ entry ∷ []; calls = v.calls ++ entry ∷ [] }
 
 -- a store: the entry stands at the end of the journal
 abbrev pub IsWritten : JournalEntry → SeatView → SeatView → Type 0

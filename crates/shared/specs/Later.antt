@@ -9,4 +9,5 @@ pub data IsLater (network : Network) : Knowledge → Knowledge → Type 0 where
   Called : (a b c : Knowledge) (call : JournalEntry) → IsLater network a b → IsCalled network b call c
       → IsLater network a c
   Looked : (a b c : Knowledge) (height : ℕ) → IsLater network a b → IsLook network b height c → IsLater network a c
-  Met : (a b c other other' : Knowledge) → IsLater network a b → IsMeeting b other c other' → IsLater network a c
+  Met : (a b c other other' : Knowledge) → IsLater network a b → IsMeeting network b other c other'
+      → IsLater network a c

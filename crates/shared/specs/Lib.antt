@@ -1,3 +1,4 @@
+pub mod Arrivals
 pub mod Heights
 pub mod Codes
 pub mod Sealing
@@ -10,3 +11,5 @@ pub mod Callers
 pub mod Desks
 pub mod Opening
 pub mod OpenedCores
+pub mod Adding
+pub mod Adders

@@ -1,21 +1,22 @@
 -- What a seat and a caller know after they were told what the journal has.
-use Rattle.std.specs.Prelude.{◌≡◌, true}
-use Rattle.model.specs.Journal.{Journal, Knowledge, BeginsWithSeen}
-use Rattle.shared.specs.Heights.{SeatView}
+use Rattle.std.specs.Prelude.{◌≡◌, ◌+◌, true}
+use Rattle.model.specs.Signature.{Verifies}
+use Rattle.model.specs.Ledger.{Network, network_of}
+use Rattle.model.specs.Journal.{Journal, Knowledge, BeginsWithSeen, IsLegalJournal, IsLook, height_of}
+use Rattle.shared.specs.Heights.{SeatView, height_after, KnowsCalls}
 
--- the seat has seen what the writer has, which begins with what it had seen
-pub record IsTold (writer v w : SeatView) : Type 0 where
-  pub same : w ≡ record {
-    genesis = v.genesis;
-    role = v.role;
-    writes = v.writes;
+-- the seat has seen what the writer has, which is legal, begins with what it had seen, and has of its caller's calls
+-- just those that it knows; it read the height once
+pub record IsTold (verifies : Verifies) (writer v w : SeatView) : Type 0 where
+  pub same : w ≡ record v {
     seen = writer.seen;
     before = v.seen;
-    calls = v.calls;
-    loads = v.loads;
-    last = v.last;
+    loads = v.loads + 1;
+    last = height_after writer.seen;
   }
   pub begins : BeginsWithSeen writer.seen v.seen
+  pub legal : IsLegalJournal (network_of v.genesis verifies) writer.seen
+  pub calls : KnowsCalls v.role writer.seen v.calls
 
 -- the writer has the right, and has seen what it had
 pub record IsStillWriter (v w : SeatView) : Type 0 where
@@ -23,13 +24,7 @@ pub record IsStillWriter (v w : SeatView) : Type 0 where
   pub role : w.role ≡ v.role
   pub seen : w.seen ≡ v.seen
 
--- the caller has seen the whole journal, which begins with what it had seen, and knows nothing else that is new
-pub record IsInformed (journal : Journal) (before after : Knowledge) : Type 0 where
-  pub same : after ≡ record {
-    caller = before.caller;
-    seen = journal;
-    calls = before.calls;
-    loads = before.loads;
-    last = before.last;
-  }
-  pub begins : BeginsWithSeen journal before.seen
+-- the caller looked at the height, and has then seen the whole journal
+pub record IsInformed (network : Network) (journal : Journal) (before after : Knowledge) : Type 0 where
+  pub look : IsLook network before (height_of network journal) after
+  pub seen : after.seen ≡ journal

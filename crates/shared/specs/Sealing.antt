@@ -1,19 +1,18 @@
 -- What a call that is written into the journal leaves of the two seats.
-use Rattle.std.specs.Prelude.{◌≡◌, [], ◌∷◌, ◌++◌, true, false}
+use Rattle.std.specs.Prelude.{◌≡◌, ◌+◌, [], ◌∷◌, ◌++◌, true, false}
 use Rattle.model.specs.Journal.{JournalEntry, calls_of, BeginsWithSeen}
-use Rattle.shared.specs.Heights.{SeatView}
+use Rattle.shared.specs.Heights.{SeatView, height_after}
 
--- the caller's seat has seen what the writer had, with the entry at its end, and has this one call more
+-- the caller's seat has seen what the writer had, with the entry at its end, and has this one call more; it read the
+-- height before it once
 pub record IsSealed (writer : SeatView) (entry : JournalEntry) (v w : SeatView) : Type 0 where
-  pub same : w ≡ record {
-    genesis = v.genesis;
-    role = v.role;
+  pub same : w ≡ record v {
     writes = false;
     seen = writer.seen ++ entry ∷ [];
     before = v.seen;
     calls = v.calls ++ entry ∷ [];
-    loads = v.loads;
-    last = v.last;
+    loads = v.loads + 1;
+    last = height_after writer.seen;
   }
   pub begins : BeginsWithSeen writer.seen v.seen
   pub calls : calls_of entry.caller w.seen ≡ w.calls

@@ -1,6 +1,7 @@
--- What the lock keeps of the journal: the core is its state, and the seat with the right to write has seen all of it; and
--- the word beside the lock.
+-- What the lock keeps of the journal: the core is its state, and the seat with the right to write has seen all of it;
+-- and the word beside the lock.
 use Rattle.std.specs.Prelude.{◌≡◌, ℕ, [], true}
+use Rattle.std.specs.List.{AllByRecursion}
 use Rattle.std.specs.Global.{Global}
 use Rattle.atomic_table.specs.Seated.{TableId}
 use Rattle.atomic_table.specs.declared.shared.Seat.{Seat}
@@ -9,7 +10,7 @@ use Rattle.model.specs.Signature.{Verifies}
 use Rattle.model.specs.Genesis.{Genesis}
 use Rattle.model.specs.Ledger.{network_of}
 use Rattle.model.specs.History.{State, IsLegal}
-use Rattle.model.specs.Journal.{Journal, history_of}
+use Rattle.model.specs.Journal.{Journal, history_of, NamesItsPeer}
 use Rattle.chain_core.specs.Held.{Held, Stands}
 use Rattle.shared.specs.Heights.{Deals, SeatView}
 
@@ -18,12 +19,13 @@ abbrev pub IsHeightOf : {S P : Type 0} → TableId → Genesis → Table S SeatV
 IsHeightOf name genesis t =
     (t.shared.table_id ≡ name) × (t.shared.table_id.words ≡ 1) × (t.shared.key ≡ genesis)
 
--- the journal is legal, and the core is its state
+-- the journal is legal, each arrival names its peer, and the core is the journal's state
 pub record IsCoreOf (verifies : Verifies) (genesis : Genesis) (journal : Journal) (held : Held) : Type 0 where
   pub genesis_is : held.genesis ≡ genesis
   pub opened_is : held.opened ≡ []
   pub state : State
   pub legal : IsLegal (network_of genesis verifies) (history_of journal) state
+  pub named : AllByRecursion NamesItsPeer journal
   pub stands : Stands held state
 
 -- the seat is one of this word, has the right to write, and has seen just this journal

@@ -1,19 +1,18 @@
 //! The callers of a shared core.
 
-use crate::heights::HeightSeat;
-use crate::journal_entry::JournalEntry;
+ghost use Rattle.std.specs.Prelude.{◌≡◌, []};
+ghost use Rattle.shared.specs.Arrivals.{arrivals_in};
+
+use crate::caller_seat::CallerSeat;
 use crate::room::Room;
-use chain_core::{RawEvent, Reply};
-use std::marker::{Model, PhantomData};
-use witness_pool::SigScheme;
+use std::marker::Model;
 
 /// One who calls a shared core, from one thread at a time. It knows which beginning of the journal it has seen, and its
-/// own calls; that is for contracts alone and takes no memory.
+/// own calls; that is for contracts alone and takes no memory. Blocks are brought by an [`crate::Adder`], so none of
+/// its calls is an arrival.
 #[derive(Drop)]
 pub struct Caller<B: Room> {
-    pub(crate) number: u64,
-    pub(crate) seat: HeightSeat,
-    pub(crate) room: PhantomData<B>,
+    pub(crate) seat: CallerSeat<B>,
 }
 
 impl<B: Room> Model for Caller<B> {
@@ -24,34 +23,19 @@ impl<B: Room> Model for Caller<B> {
 
     ghost coded = { coded_knowledge };
 
-    ghost use Rattle.shared.specs.Callers.{caller_view, IsCallerOf};
+    ghost use Rattle.shared.specs.Callers.{caller_view, IsCallerInside};
 
     ghost view = { caller_view };
 
-    ghost invariant = { IsCallerOf B.table B.genesis };
+    ghost invariant = { IsCallerInside };
 }
 
 impl<B: Room> Caller<B> {
-    ghost use Rattle.std.specs.Prelude.{◌≡◌};
-    ghost use Rattle.chain_core.specs.Views.{event_of, reply_of};
-    ghost use Rattle.shared.specs.Entries.{call_by};
-
     /// The number of the caller, from 0 on.
     pub fn number(&self) -> u64
-        ensures { result ≡ self.now.caller }
+        ensures number { result ≡ self.now.caller }
+        ensures quiet { arrivals_in self.now.calls ≡ [] }
     {
-        self.number
-    }
-
-    /// The entry of the journal that this caller brought the event, and what was answered.
-    pub(crate) fn entry<S: SigScheme>(&self, event: RawEvent, reply: Reply<S>) -> JournalEntry<S>
-        ensures { result ≡ call_by self.now.caller (event_of event) (reply_of reply) }
-    {
-        JournalEntry {
-            caller: self.number,
-            peer: None,
-            event,
-            reply,
-        }
+        self.seat.number()
     }
 }

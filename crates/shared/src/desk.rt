@@ -7,18 +7,19 @@ ghost use Rattle.model.specs.Journal.{IsCalled, IsMeeting};
 ghost use Rattle.ident.specs.PointView.{point_of};
 ghost use Rattle.chain_core.specs.Views.{arrive_reply_of, submit_reply_of, open_reply_of, next_reply_of};
 ghost use Rattle.chain_core.specs.declared.follower.NextFault.TheVariants as fault;
-ghost use Rattle.shared.specs.Entries.{call_by};
+ghost use Rattle.shared.specs.Entries.{call_by, arrival_by};
 ghost use Rattle.shared.specs.Answers.{IsAnswered, IsJournaled, HasSeenAll, forwarded_reply, closed_reply, ComesBack};
 ghost use Rattle.shared.specs.Standing.{IsHeightOf};
 
-use crate::caller::Caller;
+use crate::call::Call;
+use crate::caller_seat::CallerSeat;
 use crate::faults::{CloseFault, NotArrived, NotForwarded, NotSubmitted};
 use crate::heights::Heights;
 use crate::journal::Journal;
 use crate::room::Room;
+use block::Seen;
 use chain_core::{
-    ArriveReply, Core, FollowerId, Instruction, NextFault, OpenFault, RawEvent, Reply,
-    UnknownFollower,
+    ArriveReply, Core, FollowerId, Instruction, NextFault, OpenFollowerFault, UnknownFollower,
 };
 use ident::Point;
 use mempool::SubmitReply;
@@ -57,20 +58,24 @@ fn is_want<S: SigScheme>(answer: &Result<Option<Instruction<S>>, NextFault>) -> 
 // In each call room in the journal is taken first, then the core answers, and unless memory ran out the event and the
 // reply are the journal's last entry. So a call that memory runs out for changes nothing and is in no journal.
 impl<S: SigScheme, B: Room> Desk<S, B> {
-    /// Bytes of a block arrive, brought by the caller. The journal takes them; where memory runs out they come back.
+    /// Bytes of a block arrive that a peer sent; the caller brings them, and has seen what they are. The journal takes
+    /// them; where memory runs out they come back.
     pub fn arrive(
         &mut self,
         heights: &Heights<S>,
-        caller: &mut Caller<B>,
+        caller: &mut CallerSeat<B>,
+        peer: u64,
         bytes: Vec<u8>,
+        seen: Seen<S>,
     ) -> Result<ArriveReply, NotArrived>
-        requires { IsHeightOf B.table B.genesis heights.now }
+        requires heights { IsHeightOf B.table B.genesis heights.now }
+        requires seen { seen ≡ bytes.items }
         // The call is the last entry of the journal, and the caller has seen all of it.
         ensures journal { IfOk result (λ reply. self.new ≡ self.old
-            ++ call_by caller.old.caller (Arrive bytes.items) (arrive_reply_of (Ok reply)) ∷ []) }
+            ++ arrival_by caller.old.caller peer bytes.items (arrive_reply_of (Ok reply)) ∷ []) }
         ensures seen { OnOk result (caller.new.seen ≡ self.new) }
         ensures called { IfOk result (λ reply. IsCalled (network_of B.genesis S.verifies) caller.old
-            (call_by caller.old.caller (Arrive bytes.items) (arrive_reply_of (Ok reply))) caller.new) }
+            (arrival_by caller.old.caller peer bytes.items (arrive_reply_of (Ok reply))) caller.new) }
         ensures err { OnErr result (self.new ≡ self.old) }
         ensures caller { OnErr result (caller.new ≡ caller.old) }
         ensures back { IfErr result (λ e. e.bytes ≡ bytes) }
@@ -78,10 +83,10 @@ impl<S: SigScheme, B: Room> Desk<S, B> {
         let Ok(()) = self.journal.reserve() else {
             return Err(NotArrived { bytes });
         };
-        let Ok(reply) = self.core.arrive(&bytes) else {
+        let Ok(reply) = self.core.arrive_seen(seen) else {
             return Err(NotArrived { bytes });
         };
-        let entry = caller.entry(RawEvent::Arrive(bytes), Reply::Arrive(Ok(reply)));
+        let entry = caller.entry(Call::Arrive { peer, bytes, reply });
         self.journal.write(heights, caller, &self.core, entry);
         Ok(reply)
     }
@@ -91,7 +96,7 @@ impl<S: SigScheme, B: Room> Desk<S, B> {
     pub fn submit(
         &mut self,
         heights: &Heights<S>,
-        caller: &mut Caller<B>,
+        caller: &mut CallerSeat<B>,
         bytes: Vec<u8>,
     ) -> Result<SubmitReply, NotSubmitted>
         requires { IsHeightOf B.table B.genesis heights.now }
@@ -110,7 +115,7 @@ impl<S: SigScheme, B: Room> Desk<S, B> {
         let Ok(reply) = self.core.submit(&bytes) else {
             return Err(NotSubmitted { bytes });
         };
-        let entry = caller.entry(RawEvent::Submit(bytes), Reply::Submit(Ok(reply)));
+        let entry = caller.entry(Call::Submit { bytes, reply });
         self.journal.write(heights, caller, &self.core, entry);
         Ok(reply)
     }
@@ -119,8 +124,8 @@ impl<S: SigScheme, B: Room> Desk<S, B> {
     pub fn open(
         &mut self,
         heights: &Heights<S>,
-        caller: &mut Caller<B>,
-    ) -> Result<FollowerId, OpenFault>
+        caller: &mut CallerSeat<B>,
+    ) -> Result<FollowerId, OpenFollowerFault>
         requires { IsHeightOf B.table B.genesis heights.now }
         ensures journal { IsJournaled self.old caller.old.caller Open (open_reply_of result) self.new }
         ensures seen { HasSeenAll (open_reply_of result) self.new caller.new }
@@ -129,10 +134,10 @@ impl<S: SigScheme, B: Room> Desk<S, B> {
     {
         self.journal.reserve()?;
         let answer = self.core.open();
-        if let Err(OpenFault::OutOfMemory) = answer {
-            return Err(OpenFault::OutOfMemory);
+        if let Err(OpenFollowerFault::OutOfMemory) = answer {
+            return Err(OpenFollowerFault::OutOfMemory);
         }
-        let entry = caller.entry(RawEvent::Open, Reply::Open(answer));
+        let entry = caller.entry(Call::Open { reply: answer });
         self.journal.write(heights, caller, &self.core, entry);
         answer
     }
@@ -142,7 +147,7 @@ impl<S: SigScheme, B: Room> Desk<S, B> {
     pub fn next(
         &mut self,
         heights: &Heights<S>,
-        caller: &mut Caller<B>,
+        caller: &mut CallerSeat<B>,
         id: FollowerId,
     ) -> Result<Option<Instruction<S>>, NextFault>
         requires { IsHeightOf B.table B.genesis heights.now }
@@ -160,7 +165,7 @@ impl<S: SigScheme, B: Room> Desk<S, B> {
         if is_want(&answer) {
             return Err(NextFault::OutOfMemory);
         }
-        let entry = caller.entry(RawEvent::Next(id), Reply::Next(answer));
+        let entry = caller.entry(Call::Next { id, reply: answer });
         self.journal.write(heights, caller, &self.core, entry);
         told
     }
@@ -170,7 +175,7 @@ impl<S: SigScheme, B: Room> Desk<S, B> {
     pub fn forward(
         &mut self,
         heights: &Heights<S>,
-        caller: &mut Caller<B>,
+        caller: &mut CallerSeat<B>,
         id: FollowerId,
         points: Vec<Point>,
     ) -> Result<Option<Point>, NotForwarded>
@@ -186,7 +191,11 @@ impl<S: SigScheme, B: Room> Desk<S, B> {
             return Err(NotForwarded::OutOfMemory { points });
         };
         let answer = self.core.forward(id, &points);
-        let entry = caller.entry(RawEvent::Forward(id, points), Reply::Forward(answer));
+        let entry = caller.entry(Call::Forward {
+            id,
+            points,
+            reply: answer,
+        });
         self.journal.write(heights, caller, &self.core, entry);
         match answer {
             Ok(found) => Ok(found),
@@ -198,7 +207,7 @@ impl<S: SigScheme, B: Room> Desk<S, B> {
     pub fn close(
         &mut self,
         heights: &Heights<S>,
-        caller: &mut Caller<B>,
+        caller: &mut CallerSeat<B>,
         id: FollowerId,
     ) -> Result<(), CloseFault>
         requires { IsHeightOf B.table B.genesis heights.now }
@@ -209,7 +218,7 @@ impl<S: SigScheme, B: Room> Desk<S, B> {
     {
         self.journal.reserve()?;
         let answer = self.core.close(id);
-        let entry = caller.entry(RawEvent::Close(id), Reply::Close(answer));
+        let entry = caller.entry(Call::Close { id, reply: answer });
         self.journal.write(heights, caller, &self.core, entry);
         match answer {
             Ok(()) => Ok(()),
@@ -218,11 +227,11 @@ impl<S: SigScheme, B: Room> Desk<S, B> {
     }
 
     /// Two callers see the whole journal.
-    pub fn meet(&mut self, heights: &Heights<S>, one: &mut Caller<B>, other: &mut Caller<B>)
+    pub fn meet(&mut self, heights: &Heights<S>, one: &mut CallerSeat<B>, other: &mut CallerSeat<B>)
         requires { IsHeightOf B.table B.genesis heights.now }
         ensures journal { self.new ≡ self.old }
         ensures seen { (one.new.seen ≡ self.new) × (other.new.seen ≡ self.new) }
-        ensures meeting { IsMeeting one.old other.old one.new other.new }
+        ensures meeting { IsMeeting (network_of B.genesis S.verifies) one.old other.old one.new other.new }
     {
         self.journal.tell(heights, one);
         self.journal.tell(heights, other);

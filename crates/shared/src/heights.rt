@@ -124,7 +124,7 @@ impl Play<(), View> for Compares {
     ghost use Rattle.std.specs.Prelude.{◌≡◌};
     ghost use Rattle.shared.specs.Heights.{IsCompared};
 
-    ghost then = { λ step before found after. IsCompared before.0 after.0 × (after.1 ≡ before.1) };
+    ghost then = { λ step before found after. IsCompared before.0 found after.0 × (after.1 ≡ before.1) };
 }
 
 /// Names an entry of the journal, in proofs alone.

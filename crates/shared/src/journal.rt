@@ -6,7 +6,7 @@ ghost use Rattle.model.specs.Journal.{IsCalled};
 ghost use Rattle.shared.specs.Meeting.{IsInformed};
 ghost use Rattle.shared.specs.Standing.{IsHeightOf, IsCoreOf, IsWriterOf};
 
-use crate::caller::Caller;
+use crate::caller_seat::CallerSeat;
 use crate::heights::{HeightSeat, Heights};
 use crate::journal_entry::JournalEntry;
 use crate::meeting::tell;
@@ -41,7 +41,7 @@ impl<S: SigScheme, B: Room> Journal<S, B> {
     pub fn write(
         &mut self,
         heights: &Heights<S>,
-        caller: &mut Caller<B>,
+        caller: &mut CallerSeat<B>,
         core: &Core<S>,
         entry: JournalEntry<S>,
     )
@@ -60,13 +60,13 @@ impl<S: SigScheme, B: Room> Journal<S, B> {
         self.entries.push_reserved(entry);
     }
 
-    /// The caller has then seen the whole journal.
-    pub fn tell(&mut self, heights: &Heights<S>, caller: &mut Caller<B>)
+    /// The caller has then seen the whole journal, and has looked at the height.
+    pub fn tell(&mut self, heights: &Heights<S>, caller: &mut CallerSeat<B>)
         requires heights { IsHeightOf B.table B.genesis heights.now }
         requires writer { IsWriterOf B.table self.old.writer self.old.entries.items }
         ensures entries { self.new.entries.items ≡ self.old.entries.items }
         ensures writer { IsWriterOf B.table self.new.writer self.new.entries.items }
-        ensures informed { IsInformed self.old.entries.items caller.old caller.new }
+        ensures informed { IsInformed (network_of B.genesis S.verifies) self.old.entries.items caller.old caller.new }
     {
         tell(heights, &mut self.writer, &mut caller.seat);
     }

@@ -1,17 +1,14 @@
 //! The entries of the journal.
 
-use chain_core::{RawEvent, Reply};
+use crate::call::Call;
 use std::marker::Model;
 use witness_pool::SigScheme;
 
-/// A call that was made under the lock: who made it, the event and its reply, and of an arrival the peer that it came
-/// from, where it came from one.
+/// A call that was made under the lock, and who made it.
 #[derive(Drop)]
 pub struct JournalEntry<S: SigScheme> {
     pub(crate) caller: u64,
-    pub(crate) peer: Option<u64>,
-    pub(crate) event: RawEvent,
-    pub(crate) reply: Reply<S>,
+    pub(crate) call: Call<S>,
 }
 
 impl<S: SigScheme> Model for JournalEntry<S> {

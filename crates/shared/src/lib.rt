@@ -3,15 +3,19 @@
 //! ```text
 //! let opened = Opened::<TestScheme>::new(alloc, genesis, 2)?;
 //! let (shared, mut callers) = opened.named::<Brand>()?;
-//! // Each thread has a caller of its own.
-//! let reply = shared.arrive(rt, &mut callers[0], bytes)?; // waits for the lock
+//! // Each thread has a caller of its own. One of them adds what peers sent.
+//! let mut adder = Adder::new(alloc, end, adders_caller, Pool::new(OpenGate), 4);
+//! let added = adder.run(rt, &shared, 1)?; // waits for the lock
 //! let follower = shared.open(rt, &mut callers[0])?;
 //! let told = shared.next(rt, &mut callers[0], follower)?;
 //! let height = shared.height(&mut callers[1]); // waits for nobody
 //! ```
 #![tactic(auto)]
 
+mod adder;
+mod call;
 mod caller;
+mod caller_seat;
 mod desk;
 mod faults;
 mod heights;
@@ -21,12 +25,14 @@ pub mod laws;
 mod meeting;
 mod open_fault;
 mod opened;
+mod reader;
 mod room;
 mod sealing;
 mod shared;
 
+pub use adder::Adder;
 pub use caller::Caller;
-pub use faults::{CloseFault, NotArrived, NotForwarded, NotSubmitted};
+pub use faults::{CloseFault, NotForwarded, NotSubmitted};
 pub use open_fault::OpenFault;
 pub use opened::{MAX_CALLERS, Opened};
 pub use room::Room;

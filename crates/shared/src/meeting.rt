@@ -2,11 +2,11 @@
 
 ghost use Rattle.std.specs.Prelude.{◌≡◌, true, false};
 ghost use Rattle.model.specs.Journal.{BeginsWithSeen};
-ghost use Rattle.shared.specs.Heights.{Spent, copy_of, with_copy, with_news};
+ghost use Rattle.shared.specs.Heights.{Spent, copy_of, with_news};
 ghost use Rattle.shared.specs.Meeting.{IsTold, IsStillWriter};
 
 use crate::heights::{Comparing, Copying, HeightSeat, Heights, Learning};
-use crate::sealing::compare;
+use crate::sealing::{compare, look};
 use witness_pool::SigScheme;
 
 /// A note of the seat goes to the writer, and a look tells that what the writer has seen begins with it.
@@ -18,8 +18,8 @@ fn measure<S: SigScheme>(heights: &Heights<S>, writer: &mut HeightSeat, seat: &m
     requires seat { seat.old.table_id ≡ heights.now.shared.table_id }
     requires seat_serves { seat.old.me.0.role ≡ Spent → ⊥ }
     ensures begins { BeginsWithSeen writer.old.me.0.seen seat.old.me.0.seen }
-    ensures writer { (writer.new.me ≡ (with_copy writer.old.me.0 (copy_of seat.old.me.0), writer.old.me.1))
-        × (writer.new.table_id ≡ writer.old.table_id) }
+    ensures writer { IsStillWriter writer.old.me.0 writer.new.me.0 }
+    ensures writer_same { (writer.new.table_id ≡ writer.old.table_id) × (writer.new.me.1 ≡ writer.old.me.1) }
     ensures seat { (seat.new.me ≡ seat.old.me) × (seat.new.table_id ≡ seat.old.table_id) }
 {
     let note = heights.shared.split_seat::<Copying>(seat);
@@ -43,7 +43,9 @@ fn learn<S: SigScheme>(heights: &Heights<S>, writer: &mut HeightSeat, seat: &mut
     heights.shared.join_seat::<Learning>(seat, note);
 }
 
-/// The seat has then seen what the writer has, which begins with what it had seen. No right to write goes along.
+/// The seat has then seen what the writer has, which begins with what it had seen, and has looked at the height. No
+/// right to write goes along. The look tells of the journal; that no more stands in it than the writer has seen is then
+/// told by a second note.
 pub fn tell<S: SigScheme>(heights: &Heights<S>, writer: &mut HeightSeat, seat: &mut HeightSeat)
     requires word { heights.now.shared.table_id.words ≡ 1 }
     requires writer { writer.old.table_id ≡ heights.now.shared.table_id }
@@ -52,11 +54,13 @@ pub fn tell<S: SigScheme>(heights: &Heights<S>, writer: &mut HeightSeat, seat: &
     requires seat { seat.old.table_id ≡ heights.now.shared.table_id }
     requires seat_serves { seat.old.me.0.role ≡ Spent → ⊥ }
     requires reads { seat.old.me.0.writes ≡ false }
-    ensures told { IsTold writer.old.me.0 seat.old.me.0 seat.new.me.0 }
+    ensures told { IsTold S.verifies writer.old.me.0 seat.old.me.0 seat.new.me.0 }
     ensures writer { IsStillWriter writer.old.me.0 writer.new.me.0 }
     ensures seat_same { (seat.new.table_id ≡ seat.old.table_id) × (seat.new.me.1 ≡ seat.old.me.1) }
     ensures writer_same { (writer.new.table_id ≡ writer.old.table_id) × (writer.new.me.1 ≡ writer.old.me.1) }
 {
     measure(heights, writer, seat);
     learn(heights, writer, seat);
+    look(heights, seat);
+    measure(heights, writer, seat);
 }

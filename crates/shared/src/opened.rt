@@ -5,6 +5,7 @@ ghost use Rattle.shared.specs.Heights.{has_dealt, new_caller, Deals};
 ghost use Rattle.shared.specs.Opening.{IsOpenFault, newcomers};
 
 use crate::caller::Caller;
+use crate::caller_seat::CallerSeat;
 use crate::desk::Desk;
 use crate::heights::{Dealing, HeightSeat, Heights};
 use crate::journal::Journal;
@@ -93,10 +94,13 @@ impl<S: SigScheme> Opened<S> {
         let mut all = Vec::with_capacity(alloc, callers)?;
         for number in 0..callers as u64 {
             let dealt = deal(&heights, &mut seat, number);
-            all.push(Caller {
+            let seat_of_caller = CallerSeat {
                 number,
                 seat: dealt,
                 room: PhantomData,
+            };
+            all.push(Caller {
+                seat: seat_of_caller,
             })?;
         }
         let journal = Journal {

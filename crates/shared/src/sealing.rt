@@ -42,15 +42,15 @@ fn lend<S: SigScheme>(heights: &Heights<S>, from: &mut HeightSeat, to: &mut Heig
 
 /// A look that tells that what the seat has seen begins with what was laid beside it: what it had seen before a note
 /// came, or what the note has seen.
-pub fn compare<S: SigScheme>(heights: &Heights<S>, seat: &mut HeightSeat)
+pub fn compare<S: SigScheme>(heights: &Heights<S>, seat: &mut HeightSeat) -> u64
     requires word { heights.now.shared.table_id.words ≡ 1 }
     requires seat { seat.old.table_id ≡ heights.now.shared.table_id }
     requires serves { seat.old.me.0.role ≡ Spent → ⊥ }
     requires right { seat.old.me.0.writes ≡ true }
-    ensures compared { IsCompared seat.old.me.0 seat.new.me.0 }
+    ensures compared { IsCompared seat.old.me.0 result seat.new.me.0 }
     ensures same { (seat.new.table_id ≡ seat.old.table_id) × (seat.new.me.1 ≡ seat.old.me.1) }
 {
-    heights.shared.load::<Compares>(seat, 0);
+    heights.shared.load::<Compares>(seat, 0)
 }
 
 /// The height after an entry is stored, by the seat of the one who made the call.

@@ -2,21 +2,22 @@
 
 ghost use Rattle.std.specs.Prelude.{◌≡◌, Ok, IfOk, IfErr, OnErr, map};
 ghost use Rattle.model.specs.Ledger.{network_of};
-ghost use Rattle.model.specs.History.{Arrive, Submit, Open, Next, Forward, Close};
+ghost use Rattle.model.specs.History.{Submit, Open, Next, Forward, Close};
 ghost use Rattle.model.specs.Journal.{IsCalled, IsLook, IsMeeting};
 ghost use Rattle.ident.specs.PointView.{point_of};
 ghost use Rattle.chain_core.specs.Views.{arrive_reply_of, submit_reply_of, open_reply_of, next_reply_of};
 ghost use Rattle.shared.specs.Answers.{IsAnswered, forwarded_reply, closed_reply, ComesBack};
 ghost use Rattle.shared.specs.Standing.{IsHeightOf};
-ghost use Rattle.shared.specs.Entries.{call_by};
+ghost use Rattle.shared.specs.Entries.{call_by, arrival_by};
 
 use crate::caller::Caller;
+use crate::caller_seat::CallerSeat;
 use crate::desk::Desk;
 use crate::faults::{CloseFault, NotArrived, NotForwarded, NotSubmitted};
 use crate::heights::Heights;
 use crate::room::Room;
-use crate::sealing::look;
-use chain_core::{ArriveReply, FollowerId, Instruction, NextFault, OpenFault};
+use block::Seen;
+use chain_core::{ArriveReply, FollowerId, Instruction, NextFault, OpenFollowerFault};
 use ident::Point;
 use mempool::SubmitReply;
 use std::sync::{Mutex, Wait};
@@ -43,26 +44,7 @@ impl<S: SigScheme, B: Room> Shared<S, B> {
         // It is the length of the chain after a legal journal, which begins with all that the caller had seen.
         ensures { IsLook (network_of B.genesis S.verifies) caller.old result caller.new }
     {
-        look(&self.heights, &mut caller.seat)
-    }
-
-    /// Bytes of a block arrive, brought by this caller itself. The call stands in the journal with its reply, whatever
-    /// that is, and the journal takes the bytes; where memory runs out it doesn't, nothing changes, and the bytes come
-    /// back. Waits for the lock. Costs what the arrival costs the core, and copies no bytes beside.
-    pub fn arrive<R: Wait>(
-        &self,
-        rt: &R,
-        caller: &mut Caller<B>,
-        bytes: Vec<u8>,
-    ) -> Result<ArriveReply, NotArrived>
-        // The caller has then seen a legal journal that begins with all that it had seen and ends with this call.
-        ensures called { IfOk result (λ reply. IsCalled (network_of B.genesis S.verifies) caller.old
-            (call_by caller.old.caller (Arrive bytes.items) (arrive_reply_of (Ok reply))) caller.new) }
-        ensures err { OnErr result (caller.new ≡ caller.old) }
-        ensures back { IfErr result (λ e. e.bytes ≡ bytes) }
-    {
-        let mut desk = self.desk.lock(rt);
-        desk.arrive(&self.heights, caller, bytes)
+        caller.seat.look(&self.heights)
     }
 
     /// Bytes of a transaction are submitted by this caller. The call stands in the journal with its reply, whatever
@@ -80,18 +62,22 @@ impl<S: SigScheme, B: Room> Shared<S, B> {
         ensures back { IfErr result (λ e. e.bytes ≡ bytes) }
     {
         let mut desk = self.desk.lock(rt);
-        desk.submit(&self.heights, caller, bytes)
+        desk.submit(&self.heights, &mut caller.seat, bytes)
     }
 
     /// Opens a follower of the least number that is free, 0 to 1,023. That there are 1,024 stands in the journal as the
     /// call's reply; where memory runs out nothing does, and nothing changes. Waits for the lock.
-    pub fn open<R: Wait>(&self, rt: &R, caller: &mut Caller<B>) -> Result<FollowerId, OpenFault>
+    pub fn open<R: Wait>(
+        &self,
+        rt: &R,
+        caller: &mut Caller<B>,
+    ) -> Result<FollowerId, OpenFollowerFault>
         // Unless memory ran out, the caller has then seen a legal journal that begins with all that it had seen and
         // ends with this call and its reply.
         ensures { IsAnswered (network_of B.genesis S.verifies) caller.old Open (open_reply_of result) caller.new }
     {
         let mut desk = self.desk.lock(rt);
-        desk.open(&self.heights, caller)
+        desk.open(&self.heights, &mut caller.seat)
     }
 
     /// What the follower of this number is told next: to go back, a block, or nothing. That no such follower is open
@@ -107,7 +93,7 @@ impl<S: SigScheme, B: Room> Shared<S, B> {
             caller.new }
     {
         let mut desk = self.desk.lock(rt);
-        desk.next(&self.heights, caller, id)
+        desk.next(&self.heights, &mut caller.seat, id)
     }
 
     /// Sets the follower of this number to the first of the points that is on the selected chain, and answers that
@@ -126,7 +112,7 @@ impl<S: SigScheme, B: Room> Shared<S, B> {
         ensures back { IfErr result (ComesBack points) }
     {
         let mut desk = self.desk.lock(rt);
-        desk.forward(&self.heights, caller, id, points)
+        desk.forward(&self.heights, &mut caller.seat, id, points)
     }
 
     /// Closes the follower of this number, which may then be given again. The call stands in the journal with its
@@ -142,15 +128,47 @@ impl<S: SigScheme, B: Room> Shared<S, B> {
             caller.new }
     {
         let mut desk = self.desk.lock(rt);
-        desk.close(&self.heights, caller, id)
+        desk.close(&self.heights, &mut caller.seat, id)
     }
 
-    /// Two callers meet: each has then seen the same journal, which begins with all that it had seen. Waits for the
-    /// lock. A few steps on the word of the height; takes no memory, and writes nothing.
-    pub fn meet<R: Wait>(&self, rt: &R, one: &mut Caller<B>, other: &mut Caller<B>)
-        ensures { IsMeeting one.old other.old one.new other.new }
+    /// Bytes of a block arrive that a peer sent, brought by the caller of this seat, which has seen what they are. The
+    /// call stands in the journal with its reply; where memory runs out it doesn't, and the bytes come back.
+    pub(crate) fn arrive<R: Wait>(
+        &self,
+        rt: &R,
+        caller: &mut CallerSeat<B>,
+        peer: u64,
+        bytes: Vec<u8>,
+        seen: Seen<S>,
+    ) -> Result<ArriveReply, NotArrived>
+        requires { seen ≡ bytes.items }
+        ensures called { IfOk result (λ reply. IsCalled (network_of B.genesis S.verifies) caller.old
+            (arrival_by caller.old.caller peer bytes.items (arrive_reply_of (Ok reply))) caller.new) }
+        ensures err { OnErr result (caller.new ≡ caller.old) }
+        ensures back { IfErr result (λ e. e.bytes ≡ bytes) }
+    {
+        let mut desk = self.desk.lock(rt);
+        desk.arrive(&self.heights, caller, peer, bytes, seen)
+    }
+
+    /// The callers of two seats meet.
+    pub(crate) fn meet_seats<R: Wait>(
+        &self,
+        rt: &R,
+        one: &mut CallerSeat<B>,
+        other: &mut CallerSeat<B>,
+    )
+        ensures { IsMeeting (network_of B.genesis S.verifies) one.old other.old one.new other.new }
     {
         let mut desk = self.desk.lock(rt);
         desk.meet(&self.heights, one, other);
+    }
+
+    /// Two callers meet: each looks at the height, and has then seen the same journal, which begins with all that it
+    /// had seen. Waits for the lock. A few steps on the word of the height; takes no memory, and writes nothing.
+    pub fn meet<R: Wait>(&self, rt: &R, one: &mut Caller<B>, other: &mut Caller<B>)
+        ensures { IsMeeting (network_of B.genesis S.verifies) one.old other.old one.new other.new }
+    {
+        self.meet_seats(rt, &mut one.seat, &mut other.seat);
     }
 }

@@ -2,7 +2,7 @@
 
 use super::fixture::{MEMORY, SMALL_NETWORK, boxed, core_on, make, run_all};
 use chain_core::{
-    ArriveReply, Core, FollowerId, Instruction, NextFault, OpenFault, RawEvent, Reply,
+    ArriveReply, Core, FollowerId, Instruction, NextFault, OpenFollowerFault, RawEvent, Reply,
     UnknownFollower,
 };
 use ident::Point;
@@ -24,7 +24,7 @@ fn opens(rt: &impl Abort, core: &mut Core<TestScheme>, number: u64) {
 /// No follower more is opened.
 fn is_full(rt: &impl Abort, core: &mut Core<TestScheme>) {
     let opened = core.open();
-    assert!(rt; opened == Err(OpenFault::TooManyFollowers));
+    assert!(rt; opened == Err(OpenFollowerFault::TooManyFollowers));
 }
 
 // 1,024 followers are opened, each under the next number, and no more. Then one is closed, and its number given again.

@@ -1,4 +1,4 @@
-//! Worked examples of the core, of scripts and of shared cores that a file of cases can't say: each is a test, with
+//! Worked examples of the core and of scripts that a file of cases can't say: each is a test, with
 //! what is to come out written by hand.
 #![tactic(auto)]
 
@@ -20,7 +20,5 @@ mod script_from_tests;
 mod script_io_tests;
 #[cfg(test)]
 mod script_tests;
-#[cfg(test)]
-mod shared_tests;
 #[cfg(test)]
 mod text_tests;

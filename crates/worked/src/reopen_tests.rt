@@ -3,8 +3,9 @@
 use super::fixture::{
     MEMORY, Made, SMALL_NETWORK, answers, boxed, chain_of, core_on, kept, make, same,
 };
-use chain_core::{Core, Instruction, ReopenFault};
+use chain_core::{ArriveReply, Core, Instruction, Refusal, ReopenFault};
 use genesis::Genesis;
+use ident::Point;
 use std::process::Abort;
 use witness_pool::TestScheme;
 
@@ -37,6 +38,11 @@ fn is_refused(rt: &(impl Abort + AllocGlobal), texts: &[Vec<u8>], number: u64) {
         Err(ReopenFault::OutOfMemory) => u64::MAX,
     };
     same(rt, "the invalid block", told, number);
+}
+
+/// The block without transactions that goes on from this one, in this slot.
+fn after(rt: &(impl Abort + AllocGlobal), parent: &Made, slot: u64) -> Made {
+    make(rt, Some(parent), slot)
 }
 
 /// A copy of the block's text, behind the others.
@@ -91,11 +97,46 @@ fn restarts_on_immutable_blocks(rt: HostRuntime) {
     tells_from_the_first_on(&rt, &mut again, &texts);
 }
 
+// What a core was opened on is never rolled back, though the chain is shorter than k.
+#[test]
+fn no_fork_behind_an_opened_chain(rt: HostRuntime) {
+    let a1 = make(&rt, None, 1);
+    let a2 = after(&rt, &a1, 2);
+    let b1 = make(&rt, None, 4);
+    let b2 = after(&rt, &b1, 5);
+    let b3 = after(&rt, &b2, 6);
+    let b4 = after(&rt, &b3, 7);
+    let mut texts = boxed(&rt, Vec::new(rt.alloc()));
+    put(&rt, &mut texts, &a1);
+    let mut core = opened_on(&rt, &texts);
+    assert!(rt;
+        core.tip()
+            == (Point {
+                number: 1,
+                hash: a1.hash
+            })
+    );
+    let too_old = ArriveReply::Refused(Refusal::TooOld);
+    answers(&rt, &mut core, &b1.text, too_old);
+    answers(&rt, &mut core, &a1.text, too_old);
+    answers(&rt, &mut core, &a2.text, kept(0, 1));
+    answers(&rt, &mut core, &b2.text, kept(0, 0));
+    answers(&rt, &mut core, &b3.text, kept(0, 0));
+    answers(&rt, &mut core, &b4.text, kept(0, 0));
+    assert!(rt;
+        core.tip()
+            == (Point {
+                number: 2,
+                hash: a2.hash
+            })
+    );
+}
+
 // The first block that is none, or can't come next, is told by its number.
 #[test]
 fn first_invalid_block(rt: HostRuntime) {
     let a1 = make(&rt, None, 3);
-    let same_slot = make(&rt, Some(&a1), 3);
+    let same_slot = after(&rt, &a1, 3);
     let mut texts = boxed(&rt, Vec::new(rt.alloc()));
     same(&rt, "on nothing", opened_on(&rt, &texts).height(), 0);
     put(&rt, &mut texts, &same_slot);

@@ -1,7 +1,8 @@
 use Rattle.std.proofs.Common.{◌≡◌, ◌+◌, ◌++◌, ◌∷◌, [], ℕ, suc, List, refl, sym, ap, ◌∙◌, subst, arith}
 use Rattle.model.specs.Ledger.{network_of}
 use Rattle.model.specs.History.{opening, IsLegal}
-use Rattle.model.specs.Journal.{Journal, Knowledge, history_of}
+use Rattle.std.specs.List.{AllByRecursion}
+use Rattle.model.specs.Journal.{Journal, Knowledge, history_of, NamesItsPeer}
 use Rattle.shared.specs.Heights.{SeatView, Deals, next_role, has_dealt, new_caller, knowledge_of}
 use Rattle.shared.specs.Opening.{newcomer, newcomers}
 use Rattle.shared.proofs.Calls.{opening_stands}
@@ -18,6 +19,7 @@ invariant_of-desk g c =
         opened_is = ap (λ h. h.opened) c.self.invariant.new;
         state = opening (network_of g.B.Room.genesis g.S.SigScheme.verifies);
         legal = subst (λ (j : Journal). IsLegal (network_of g.B.Room.genesis g.S.SigScheme.verifies) (history_of j) (opening (network_of g.B.Room.genesis g.S.SigScheme.verifies))) (sym none) refl;
+        named = subst (AllByRecursion NamesItsPeer) (sym none) tt;
         stands = opening_stands g.S.SigScheme.verifies c.self.inside.core c.self.invariant.new;
       };
       writer = record {

@@ -1,12 +1,6 @@
-use Rattle.std.proofs.Common.{subst}
-use Rattle.model.specs.Ledger.{network_of}
-use Rattle.model.specs.Journal.{Knowledge, IsLook}
-use Rattle.shared.specs.Heights.{knowledge_of}
-use Rattle.shared.proofs.Calls.{look_of}
+use Rattle.std.proofs.Common.{ap, ◌∙◌}
+use Rattle.shared.specs.Arrivals.{arrivals_in}
 use Rattle.shared.proofs.shared.Shared.height.Goals as goal
 
-pub returns : goal.returns
-returns g c =
-    let i = c.caller.invariant in
-    subst (λ (k : Knowledge). IsLook (network_of g.B.Room.genesis g.S.SigScheme.verifies) k c.look.result (knowledge_of c.caller.inside.number c.look.new.seat.me.0)) c.caller.view_is
-    (look_of g.S.SigScheme.verifies g.B.Room.genesis c.caller.inside.number c.caller.inside.seat.me.0 c.look.result c.look.new.seat.me.0 i.genesis_is i.role c.look.ensures.looked)
+pub invariant_of-caller : goal.invariant_of-caller
+invariant_of-caller g c = ap arrivals_in c.look.ensures.calls ∙ c.caller.invariant

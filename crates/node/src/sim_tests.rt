@@ -1,0 +1,201 @@
+//! Simulations: peers that send from threads of their own.
+
+use crate::sim::sim;
+use crate::tests::{GENESIS, MEMORY, ends, own_folder, remove, write_file};
+use genesis::Genesis;
+use inbox::PEERS;
+use scenario::{LineFault, ScenarioFault};
+use std::process::Abort;
+use std::sync::Wait;
+use std::sync::atomic::{AtomicBool, AtomicU64, Ordering};
+use std::thread;
+use std::thread::Threads;
+use witness_pool::{Gate, OpenGate};
+
+/// How many threads a simulation has: the adder's, the peers', and the client's.
+const THREADS: usize = PEERS + 2;
+
+/// A block that arrives twice, and one that is none.
+const REPEATED: &str = "block A1 genesis 1
+raw Z 82840101f65820000000000000000000000000000000000000000000000000000000000000000080
+send 1 A1
+send 2 Z
+send 3 A1
+";
+
+const REPEATED_TOLD: &str = "height 1
+arrivals 3
+peer 1 1
+peer 2 1
+peer 3 1
+peer 4 0
+heights ok
+follower 1
+";
+
+/// What comes of 40 blocks of one chain, ten from each peer.
+const FORTY_TOLD: &str = "height 40
+arrivals 40
+peer 1 10
+peer 2 10
+peer 3 10
+peer 4 10
+heights ok
+follower 40
+";
+
+/// The genesis of these numbers, with room for a chain of so many blocks that may be rolled back.
+fn genesis_of(rt: &(impl Abort + AllocGlobal), deepest: &str) -> Genesis {
+    let mut text = String::new(rt.alloc());
+    for part in GENESIS {
+        text.push_str(*part).expect(rt, MEMORY);
+    }
+    let text = text
+        .replace(rt.alloc(), "k = 2\n", deepest)
+        .expect(rt, MEMORY);
+    Genesis::from_toml(rt.alloc(), text.as_str()).expect(rt, "a genesis")
+}
+
+/// A chain of 40 blocks, the first of which the first peer sends, the second one the second, and so on in turn.
+fn forty_blocks(rt: &(impl Abort + AllocGlobal)) -> String {
+    let mut lines = String::new(rt.alloc());
+    lines.push_str("block N1 genesis 1\n").expect(rt, MEMORY);
+    for number in 2..41u64 {
+        let parent = number - 1;
+        write!(lines, "block N{number} N{parent} {number}\n").expect(rt, MEMORY);
+    }
+    for number in 1..41u64 {
+        let peer = 1 + (number - 1) % 4;
+        write!(lines, "send {peer} N{number}\n").expect(rt, MEMORY);
+    }
+    lines
+}
+
+/// A simulation of this script prints this.
+fn simulates<G: Gate>(
+    rt: &(impl Abort + Threads + Wait + Sync + AllocGlobal),
+    script: &str,
+    gate: &G,
+    told: &str,
+) {
+    let genesis = genesis_of(rt, "k = 50\n");
+    let mut reader = script.as_bytes();
+    let mut out = Vec::new(rt.alloc());
+    assert!(rt; sim(rt, genesis, &mut reader, &mut out, gate) == Ok(()));
+    assert!(rt; out.as_slice() == told.as_bytes());
+}
+
+// Whatever the schedule.
+#[test]
+fn forty_blocks_from_four_peers(rt: HostRuntime) {
+    let script = forty_blocks(&rt);
+    for _ in 0..50u64 {
+        simulates(&rt, &script, &OpenGate, FORTY_TOLD);
+    }
+}
+
+#[test]
+fn repeated_arrivals(rt: HostRuntime) {
+    for _ in 0..50u64 {
+        simulates(&rt, REPEATED, &OpenGate, REPEATED_TOLD);
+    }
+}
+
+/// A gate at which each thread waits for all the others to begin.
+#[derive(Drop)]
+struct Gathering {
+    begun: Vec<AtomicBool>,
+    gathered: AtomicU64,
+    ended: AtomicU64,
+}
+
+impl Gathering {
+    /// No thread has begun.
+    fn new(rt: &(impl Abort + AllocGlobal)) -> Gathering {
+        let mut begun = Vec::new(rt.alloc());
+        for _ in 0..THREADS {
+            begun.push(AtomicBool::new(false)).expect(rt, MEMORY);
+        }
+        Gathering {
+            begun,
+            gathered: AtomicU64::new(0),
+            ended: AtomicU64::new(0),
+        }
+    }
+
+    /// Whether all threads have begun.
+    fn is_complete(&self) -> bool {
+        self.begun.iter().all(|begun| begun.load(Ordering::SeqCst))
+    }
+}
+
+impl Gate for Gathering {
+    fn start(&self, job: usize) {
+        if let Some(begun) = self.begun.get(job.wrapping_sub(1)) {
+            begun.store(true, Ordering::SeqCst);
+        }
+        for _ in 0..1_000_000u32 {
+            if self.is_complete() {
+                self.gathered.fetch_add(1, Ordering::SeqCst);
+                return;
+            }
+            thread::yield_now();
+        }
+    }
+
+    fn done(&self, _job: usize) {
+        self.ended.fetch_add(1, Ordering::SeqCst);
+    }
+}
+
+#[test]
+fn all_threads_start(rt: HostRuntime) {
+    let gate = Gathering::new(&rt);
+    simulates(&rt, REPEATED, &gate, REPEATED_TOLD);
+    assert!(&rt; gate.gathered.load(Ordering::SeqCst) == THREADS as u64);
+    assert!(&rt; gate.ended.load(Ordering::SeqCst) == THREADS as u64);
+}
+
+// The fault of a script is told before any thread starts.
+#[test]
+fn fault_before_any_thread(rt: HostRuntime) {
+    let gate = Gathering::new(&rt);
+    let genesis = genesis_of(&rt, "k = 2\n");
+    let mut reader = b"block A1 genesis 1\nsend 1 A1\narrive A1\n".as_slice();
+    let mut out = Vec::new(rt.alloc());
+    let fault = ScenarioFault::Line {
+        number: 3,
+        fault: LineFault::BadLine,
+    };
+    assert!(&rt; sim(&rt, genesis, &mut reader, &mut out, &gate) == Err(fault));
+    assert!(&rt; out.is_empty());
+    assert!(&rt; !gate.is_complete());
+    assert!(&rt; gate.ended.load(Ordering::SeqCst) == 0);
+}
+
+/// Scripts of files with the status, what is printed and what is told.
+const SCRIPTS: &[(&str, (u8, &str, &str))] = &[
+    (REPEATED, (0, REPEATED_TOLD, "")),
+    (
+        "block A1 genesis 1\nsend 5 A1\n",
+        (1, "", "line 2: BadLine\n"),
+    ),
+    ("send 1 A1\n", (1, "", "line 1: UnknownName\n")),
+    ("tip\n", (1, "", "line 1: BadLine\n")),
+];
+
+#[test]
+fn simulations_of_files(rt: HostRuntime) {
+    let folder = own_folder(&rt);
+    let genesis = write_file(&rt, &folder, "genesis.toml", GENESIS);
+    for (text, (status, printed, told)) in SCRIPTS {
+        let script = write_file(&rt, &folder, "some.script", &[*text]);
+        let words = ["node", "sim", "--script", &script, "--genesis", &genesis];
+        ends(&rt, words.as_slice(), *status, *printed, *told);
+    }
+    let words = ["node", "sim", "--script", "no/such", "--genesis", &genesis];
+    ends(&rt, words.as_slice(), 1, "", "cannot read no/such\n");
+    let words = ["node", "sim", "--script", "s", "--genesis", "no/such"];
+    ends(&rt, words.as_slice(), 1, "", "cannot read no/such\n");
+    remove(&rt, &folder);
+}

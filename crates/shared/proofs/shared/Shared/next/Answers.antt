@@ -1,0 +1,9 @@
+use Rattle.model.specs.Ledger.{network_of}
+use Rattle.model.specs.History.{Next}
+use Rattle.chain_core.specs.Views.{next_reply_of}
+use Rattle.shared.proofs.Arriving.{quiet_answered}
+use Rattle.shared.proofs.shared.Shared.next.Goals as goal
+
+pub invariant_of-caller : goal.invariant_of-caller
+invariant_of-caller g c =
+    quiet_answered (network_of g.B.Room.genesis g.S.SigScheme.verifies) c.caller.inside.seat (Next c.args.id.number) (next_reply_of c.next.result) c.next.new.caller c.next.ensures.answered c.caller.invariant

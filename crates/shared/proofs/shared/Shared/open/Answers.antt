@@ -1,0 +1,9 @@
+use Rattle.model.specs.Ledger.{network_of}
+use Rattle.model.specs.History.{Open}
+use Rattle.chain_core.specs.Views.{open_reply_of}
+use Rattle.shared.proofs.Arriving.{quiet_answered}
+use Rattle.shared.proofs.shared.Shared.open.Goals as goal
+
+pub invariant_of-caller : goal.invariant_of-caller
+invariant_of-caller g c =
+    quiet_answered (network_of g.B.Room.genesis g.S.SigScheme.verifies) c.caller.inside.seat Open (open_reply_of c.open.result) c.open.new.caller c.open.ensures.answered c.caller.invariant

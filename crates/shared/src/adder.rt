@@ -1,0 +1,241 @@
+//! One who adds the blocks that peers sent.
+
+ghost use Rattle.std.specs.Prelude.{◌≡◌, ℕ, ◌+◌, ◌-◌, ◌<◌, [], length, slice_index, slice_set, None, Some, IfOk};
+ghost use Rattle.std.specs.Prelude.{IfNone, OnOk, OnErr, IfErr, IsSome};
+ghost use Rattle.std.specs.List.{AllByRecursion};
+ghost use Rattle.model.specs.Ledger.{network_of};
+ghost use Rattle.model.specs.Journal.{IsMeeting};
+ghost use Rattle.inbox.specs.Arrivals.{IsPeer, peers};
+ghost use Rattle.inbox.specs.Telling.{IsAllThatWasSent};
+ghost use Rattle.witness_pool.specs.Workers.{AreWorkers};
+ghost use Rattle.shared.specs.Adding.{HasAdded, HasTaken, IsGrownBy, IsBrought, IsAllBrought, IsBroughtCount};
+
+use crate::caller::Caller;
+use crate::caller_seat::CallerSeat;
+use crate::faults::NotArrived;
+use crate::reader::Reader;
+use crate::room::Room;
+use crate::shared::Shared;
+use inbox::{AdderEnd, Arrival, Mailroom, PEERS, PeerEnd};
+use std::alloc::{AllocError, Global};
+use std::marker::Model;
+use std::sync::Wait;
+use std::thread::Threads;
+use witness_pool::{Gate, Pool, SigScheme};
+
+/// Takes what peers sent from an inbox, and brings it to a shared core, one arrival after the other. Each is read, and
+/// its transactions are checked by a pool of workers, before the lock is taken. A contract sees what the adder knows as
+/// a caller, what it took, and the arrival that it took and hasn't brought: one that memory ran out for stays with it.
+///
+/// Of each peer, the arrivals among its calls, and then the one that it holds, are what it took of that peer.
+#[derive(Drop)]
+pub struct Adder<G, B: Room, M: Mailroom> {
+    reader: Reader<G>,
+    caller: CallerSeat<B>,
+    end: AdderEnd<M>,
+    held: Option<Arrival>,
+}
+
+impl<G, B: Room, M: Mailroom> Model for Adder<G, B, M> {
+    ghost use Rattle.shared.specs.Adding.{Adding, coded_adding};
+
+    ghost Value = { Adding };
+
+    ghost coded = { coded_adding };
+
+    ghost use Rattle.shared.specs.Adders.{adder_view, IsAdderInside};
+
+    ghost view = { adder_view };
+
+    ghost invariant = { IsAdderInside };
+}
+
+/// One less, for the peer of this number, from 1 on.
+fn count_out(counts: &mut [u64; PEERS], peer: u64)
+    requires peer { IsPeer peer }
+    requires many { length counts.old ≡ peers }
+    ensures { counts.new ≡ slice_set counts.old (peer - 1) (slice_index counts.old (peer - 1) - 1) }
+{
+    let place = (peer - 1) as usize;
+    counts[place] = counts[place].saturating_sub(1);
+}
+
+impl<G: Gate, B: Room, M: Mailroom> Adder<G, B, M> {
+    /// An adder that takes from this end of an inbox, from which nothing was taken yet, and makes its calls as this
+    /// caller. Blocks' transactions are checked by so many workers of the pool, 1 to 16. Takes no memory.
+    pub fn new(
+        alloc: Global,
+        end: AdderEnd<M>,
+        caller: Caller<B>,
+        pool: Pool<G>,
+        workers: usize,
+    ) -> Adder<G, B, M>
+        requires end { end.taken ≡ [] }
+        requires workers { AreWorkers workers }
+        ensures { result ≡ record { knows = caller; intake = end; held = None } }
+    {
+        let Caller { seat } = caller;
+        let reader = Reader {
+            alloc,
+            pool,
+            workers,
+        };
+        Adder {
+            reader,
+            caller: seat,
+            end,
+            held: None,
+        }
+    }
+
+    /// How many arrivals it brought of each peer, in the order of their numbers. Takes no memory, and waits for nobody.
+    pub fn counts(&self) -> [u64; PEERS]
+        ensures { (place : ℕ) → place < peers → IsBroughtCount self.now place (slice_index result place) }
+    {
+        let mut counts = self.end.counts();
+        if let Some(arrival) = &self.held {
+            count_out(&mut counts, arrival.peer);
+        }
+        counts
+    }
+
+    /// The adder and a caller meet: each looks at the height, and has then seen the same journal, which begins with all
+    /// that it had seen. Waits for the lock. Takes no memory.
+    pub fn meet<S: SigScheme, R: Wait>(
+        &mut self,
+        rt: &R,
+        shared: &Shared<S, B>,
+        caller: &mut Caller<B>,
+    )
+        ensures meeting { IsMeeting (network_of B.genesis S.verifies) self.old.knows caller.old self.new.knows
+            caller.new }
+        ensures same { self.new ≡ record self.old { knows = self.new.knows } }
+    {
+        shared.meet_seats(rt, &mut self.caller, &mut caller.seat);
+    }
+
+    /// Takes the oldest arrival, if there is one.
+    fn take<R: Wait>(&mut self, rt: &R)
+        requires { self.old.held ≡ None }
+        ensures { HasTaken self.old self.new }
+    {
+        self.held = self.end.take(rt);
+    }
+
+    /// Takes the oldest arrival with these peers lent, which have ended; where there is none all that they sent was
+    /// taken.
+    fn take_last<R: Wait>(&mut self, rt: &R, peers: &mut [PeerEnd<M>])
+        requires { self.old.held ≡ None }
+        ensures taken { HasTaken self.old self.new }
+        ensures peers { peers.new ≡ peers.old }
+        ensures last { IfNone self.new.held (AllByRecursion (IsAllThatWasSent self.new.intake.taken) peers.old) }
+    {
+        self.held = self.end.take_last(rt, peers);
+    }
+
+    /// Brings the arrival that is held, if one is. Where memory runs out it is still held.
+    fn bring<S: SigScheme + Send, R: Threads + Wait + Sync>(
+        &mut self,
+        rt: &R,
+        shared: &Shared<S, B>,
+    ) -> Result<u64, AllocError>
+        ensures added { HasAdded (network_of B.genesis S.verifies) self.old self.new }
+        ensures many { IfOk result (λ many.
+            length self.new.knows.calls ≡ length self.old.knows.calls + many) }
+        ensures ok { OnOk result (self.new.held ≡ None) }
+        ensures err { OnErr result (self.new ≡ self.old) }
+        ensures waits { OnErr result (IsSome self.old.held) }
+    {
+        let Some(arrival) = self.held.take() else {
+            return Ok(0);
+        };
+        let Arrival { peer, bytes } = arrival;
+        match bring_bytes(rt, &self.reader, shared, &mut self.caller, peer, bytes) {
+            Ok(()) => Ok(1),
+            Err(NotArrived { bytes }) => {
+                self.held = Some(Arrival { peer, bytes });
+                Err(AllocError)
+            }
+        }
+    }
+
+    /// Tries to take so many times, and brings each arrival that it takes to the core; first the one that it holds,
+    /// if it does. Answers how many it brought; that count stands still at the largest number of 64 bits. A take that
+    /// finds the inbox empty counts as one. Where memory runs out for an arrival it stays with the adder, and the next
+    /// call begins with it. Waits for the lock, and for a thread that is in the middle of a step.
+    ///
+    /// An arrival costs what reading it costs, shared by the workers, one copy of its bytes, and what it costs the
+    /// core, which alone is done under the lock.
+    pub fn run<S: SigScheme + Send, R: Threads + Wait + Sync>(
+        &mut self,
+        rt: &R,
+        shared: &Shared<S, B>,
+        turns: u64,
+    ) -> Result<u64, AllocError>
+        // What the adder knows grows by locked calls of its own, each of which brings one arrival that it took; and of
+        // all that it took just one arrival may not be brought yet.
+        ensures added { HasAdded (network_of B.genesis S.verifies) self.old self.new }
+        ensures many { IfOk result (λ many. IsGrownBy self.old.knows.calls self.new.knows.calls many) }
+        ensures ok { OnOk result (self.new.held ≡ None) }
+        ensures err { OnErr result (IsSome self.new.held) }
+    {
+        let mut count = self.bring(rt, shared)?;
+        'turns: for _ in 0..turns {
+            self.take(rt);
+            count = count.saturating_add(self.bring(rt, shared)?);
+        }
+        Ok(count)
+    }
+
+    /// Takes until the inbox is empty, and brings each arrival to the core; first the one that it holds, if it does.
+    /// The peers have ended, and are lent. Where memory runs out for an arrival it stays with the adder, and the next
+    /// call begins with it. Waits for the lock, and for a thread that is in the middle of a step.
+    pub fn drain<S: SigScheme + Send, R: Threads + Wait + Sync>(
+        &mut self,
+        rt: &R,
+        shared: &Shared<S, B>,
+        peers: &mut [PeerEnd<M>],
+    ) -> Result<(), AllocError>
+        ensures peers { peers.new ≡ peers.old }
+        ensures added { HasAdded (network_of B.genesis S.verifies) self.old self.new }
+        // All that these peers sent was brought, in order, each once.
+        ensures all { OnOk result (AllByRecursion (IsAllBrought self.new.knows.calls) peers.old) }
+        ensures ok { OnOk result (self.new.held ≡ None) }
+        ensures err { OnErr result (IsSome self.new.held) }
+    {
+        self.bring(rt, shared)?;
+        'takes: for _ in rt.forever() {
+            self.take_last(rt, peers);
+            if self.held.is_none() {
+                return Ok(());
+            }
+            self.bring(rt, shared)?;
+        }
+        unreachable!()
+    }
+}
+
+/// Brings bytes that a peer sent. Where memory runs out they come back.
+fn bring_bytes<S, G, B, R>(
+    rt: &R,
+    reader: &Reader<G>,
+    shared: &Shared<S, B>,
+    caller: &mut CallerSeat<B>,
+    peer: u64,
+    bytes: Vec<u8>,
+) -> Result<(), NotArrived>
+where
+    S: SigScheme + Send,
+    G: Gate,
+    B: Room,
+    R: Threads + Wait + Sync,
+    ensures called { OnOk result (IsBrought (network_of B.genesis S.verifies) caller.old peer bytes.items caller.new) }
+    ensures caller { OnErr result (caller.new ≡ caller.old) }
+    ensures back { IfErr result (λ e. e.bytes ≡ bytes) }
+{
+    let Ok(seen) = reader.read(rt, &bytes) else {
+        return Err(NotArrived { bytes });
+    };
+    shared.arrive(rt, caller, peer, bytes, seen)?;
+    Ok(())
+}

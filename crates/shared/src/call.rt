@@ -1,0 +1,45 @@
+//! Calls under the lock.
+
+use chain_core::{
+    ArriveReply, FollowerId, Instruction, NextFault, OpenFollowerFault, UnknownFollower,
+};
+use ident::Point;
+use mempool::SubmitReply;
+use witness_pool::SigScheme;
+
+/// What was asked under the lock, with what was answered. An arrival names the peer that it came from; nothing else
+/// comes from a peer.
+#[derive(Drop)]
+pub enum Call<S: SigScheme> {
+    /// These bytes of a block arrived, which this peer sent.
+    Arrive {
+        peer: u64,
+        bytes: Vec<u8>,
+        reply: ArriveReply,
+    },
+    /// These bytes of a transaction were submitted.
+    Submit {
+        bytes: Vec<u8>,
+        reply: SubmitReply,
+    },
+    /// A follower was to be opened.
+    Open {
+        reply: Result<FollowerId, OpenFollowerFault>,
+    },
+    /// A follower was to be told what comes next.
+    Next {
+        id: FollowerId,
+        reply: Result<Option<Instruction<S>>, NextFault>,
+    },
+    /// A follower was to be set to the first of these points that is on the selected chain.
+    Forward {
+        id: FollowerId,
+        points: Vec<Point>,
+        reply: Result<Option<Point>, UnknownFollower>,
+    },
+    /// A follower was to be closed.
+    Close {
+        id: FollowerId,
+        reply: Result<(), UnknownFollower>,
+    },
+}

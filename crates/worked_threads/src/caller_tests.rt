@@ -1,0 +1,127 @@
+//! A core that several callers share beside an adder.
+
+ghost use Rattle.std.specs.Prelude.{◌≡◌};
+
+use super::fixture::{
+    MEMORY, Parts, adds, bytes_of, copy, names_of, next_of, open, parts_of, same, sends,
+};
+use chain_core::{Instruction, NextFault};
+use ident::Point;
+use inbox::Mailroom;
+use mempool::SubmitReply;
+use script::Names;
+use shared::{Caller, MAX_CALLERS, OpenFault, Opened, Room, Shared};
+use std::marker::Brand;
+use std::process::Abort;
+use std::sync::Wait;
+use std::thread::Threads;
+use witness_pool::{OpenGate, TestScheme};
+
+/// The caller's bytes are answered so.
+fn submits<B: Room, R: Wait + Abort + AllocGlobal>(
+    rt: &R,
+    shared: &Shared<TestScheme, B>,
+    caller: &mut Caller<B>,
+    bytes: &[u8],
+    want: SubmitReply,
+) {
+    let reply = shared.submit(rt, caller, copy(rt, bytes));
+    assert!(rt; reply.is_ok_and(|reply| reply == want));
+}
+
+/// A caller opens a follower, is told this block and nothing more, sets the follower to genesis, closes it, and asks
+/// again.
+fn follows<B: Room, R: Wait + Abort + AllocGlobal>(
+    rt: &R,
+    shared: &Shared<TestScheme, B>,
+    caller: &mut Caller<B>,
+    bytes: &[u8],
+) {
+    let id = shared.open(rt, caller).expect(rt, "a follower");
+    assert!(rt; id.number == 0);
+    let told = match shared.next(rt, caller, id) {
+        Ok(Some(Instruction::AddBlock(block))) => block.bytes() == bytes,
+        _ => false,
+    };
+    assert!(rt; told);
+    assert!(rt; matches!(shared.next(rt, caller, id), Ok(None)));
+    let genesis = vec![in rt.alloc(); Point::genesis()].expect(rt, MEMORY);
+    let found = shared.forward(rt, caller, id, genesis).expect(rt, MEMORY);
+    assert!(rt; found == Some(Point::genesis()));
+    assert!(rt; shared.close(rt, caller, id).is_ok());
+    assert!(rt; matches!(shared.next(rt, caller, id), Err(NextFault::UnknownFollower)));
+}
+
+/// A caller makes a call of each kind.
+fn makes_all_calls<B: Room, R: Wait + Abort + AllocGlobal>(
+    rt: &R,
+    shared: &Shared<TestScheme, B>,
+    caller: &mut Caller<B>,
+    names: &Names,
+) {
+    same(rt, "height", shared.height(caller), 1);
+    let payment = names.tx_of(b"First").expect(rt, "a payment");
+    let payment = payment.encode().expect(rt, MEMORY);
+    submits(rt, shared, caller, &payment, SubmitReply::Added);
+    submits(rt, shared, caller, &payment, SubmitReply::Known);
+    submits(rt, shared, caller, b"\x80", SubmitReply::Malformed);
+    follows(rt, shared, caller, bytes_of(rt, names, "A1"));
+}
+
+/// The adder brings a block; a caller who made no call so far sees it, and makes its calls. Then the adder and another
+/// caller meet, and that one sees the same height.
+fn calls_beside_an_adder<B: Room, M: Mailroom, R: Threads + Wait + Abort + AllocGlobal + Sync>(
+    rt: &R,
+    parts: &mut Parts<OpenGate, B, M>,
+    names: &Names,
+) {
+    let Parts {
+        shared,
+        adder,
+        peers,
+        callers,
+    } = parts;
+    let mut other = next_of(rt, callers);
+    let mut caller = next_of(rt, callers);
+    same(rt, "before", shared.height(&mut other), 0);
+    sends(rt, &mut peers[2], bytes_of(rt, names, "A1"));
+    adds(rt, adder, shared, 1, 1);
+    makes_all_calls(rt, shared, &mut caller, names);
+    assert!(rt; adder.counts() == [0, 0, 1, 0]);
+    adder.meet(rt, shared, &mut other);
+    shared.meet(rt, &mut caller, &mut other);
+    same(rt, "after", shared.height(&mut other), 1);
+}
+
+/// Does so, at a core and an inbox that were opened for it.
+fn called_beside_an_adder<B: Room, M: Mailroom, R: Threads + Wait + Abort + AllocGlobal + Sync>(
+    rt: &R,
+    opened: Opened<TestScheme>,
+    inbox: inbox::Opened,
+)
+    requires table { opened.table ≡ B.table }
+    requires genesis { opened.genesis ≡ B.genesis }
+    requires queue { inbox.table ≡ M.table }
+    requires capacity { inbox.capacity ≡ M.capacity }
+{
+    let names = names_of(rt, "block A1 genesis 1");
+    let mut parts = parts_of::<OpenGate, B, M>(rt, OpenGate, opened, inbox);
+    calls_beside_an_adder(rt, &mut parts, &names);
+}
+
+#[test]
+fn adder_and_callers(rt: HostRuntime) {
+    let opened = open(&rt, 3).expect(&rt, "a shared core");
+    let inbox = inbox::Opened::new(rt.alloc(), 8).expect(&rt, "an inbox");
+    called_beside_an_adder::<Brand, Brand, _>(&rt, opened, inbox);
+}
+
+#[test]
+fn callers_are_1_to_64(rt: HostRuntime) {
+    for callers in [0, MAX_CALLERS + 1] {
+        assert!(rt; open(&rt, callers).err() == Some(OpenFault::BadCallers));
+    }
+    for callers in [1, MAX_CALLERS] {
+        assert!(rt; open(&rt, callers).is_ok());
+    }
+}

@@ -1,0 +1,11 @@
+//! What data can't say of a shared core: its callers and its adder, on one thread and on several.
+#![tactic(auto)]
+
+#[cfg(test)]
+mod adder_tests;
+#[cfg(test)]
+mod caller_tests;
+#[cfg(test)]
+mod fixture;
+#[cfg(test)]
+mod pool_tests;
