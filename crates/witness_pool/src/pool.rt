@@ -41,6 +41,7 @@ fn check_share<G: Gate, S: SigScheme>(
 }
 
 /// The verdicts of all workers: those of the last share in a thread of its own, beside those of the shares before it.
+/// A share alone is done by this thread.
 fn check_shares<R: Threads + Sync, G: Gate, S: SigScheme + Send>(
     rt: &R,
     alloc: Global,
@@ -52,6 +53,11 @@ fn check_shares<R: Threads + Sync, G: Gate, S: SigScheme + Send>(
     let Some(share) = shares.pop_back() else {
         return Ok(VecDeque::new(alloc));
     };
+    if shares.is_empty() {
+        let mut all = VecDeque::with_capacity(alloc, 1)?;
+        all.push_back(check_share(alloc, gate, share)?)?;
+        return Ok(all);
+    }
     let (last, before) = join(
         rt,
         move || -> Result<Vec<CheckedTx<S>>, AllocError>
@@ -96,8 +102,8 @@ impl<G: Gate> Pool<G> {
 
     /// The transactions with their verdicts, in their order: those of [`plain`], whatever the number of workers, 1 to
     /// 16. Job j, from 1 on, is done by worker 1 + (j - 1) mod workers, each worker's in rising order, and the gate is
-    /// told before and after it. Starts a thread for each worker but one; the work of a thread that can't be started is
-    /// done by this one. At a fault the transactions are gone. Linear in the transactions.
+    /// told before and after it. Starts a thread for each worker that has a job, but one; the work of a thread that
+    /// can't be started is done by this one. At a fault the transactions are gone. Linear in the transactions.
     pub fn check<R: Threads + Sync, S: SigScheme + Send>(
         &self,
         rt: &R,
@@ -114,7 +120,9 @@ impl<G: Gate> Pool<G> {
         }
         let count = txs.len();
         let jobs = numbered(alloc, txs)?;
-        let shares = deal(alloc, workers, jobs)?;
+        // A worker without a job would be a thread without work.
+        let busy = workers.min(count).max(1);
+        let shares = deal(alloc, busy, jobs)?;
         let checked = check_shares(rt, alloc, &self.gate, shares)?;
         Ok(gather(alloc, checked, count)?)
     }
