@@ -9,6 +9,7 @@ pub mod Runs
 pub mod Reached
 pub mod OpenedOn
 pub mod ForgedTexts
+pub mod CopiedTexts
 pub mod Results
 pub mod Points
 pub mod FollowerCalls

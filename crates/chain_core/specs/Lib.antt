@@ -11,4 +11,5 @@ pub mod FollowerCalls
 pub mod Calls
 pub mod PastHashes
 pub mod Numbers
+pub mod Immutable
 pub mod Reopening

@@ -55,7 +55,7 @@ impl<S: SigScheme> Model for Core<S> {
 
 impl<S: SigScheme> Core<S> {
     ghost use Rattle.std.specs.Prelude.{◌≡◌, ◌≤◌, ◌+◌, ℕ, List, [], length, None, Some, IfOk, IfErr, OnErr, map};
-    ghost use Rattle.std.specs.Prelude.{MatchOption};
+    ghost use Rattle.std.specs.Prelude.{MatchOption, drop};
     ghost use Rattle.std.specs.List.{AllByRecursion};
     ghost use Rattle.model.specs.Transaction.{SpellsTransaction};
     ghost use Rattle.model.specs.Utxo.{coin_of, outputs_of};
@@ -65,6 +65,7 @@ impl<S: SigScheme> Core<S> {
     ghost use Rattle.model.specs.Genesis.{supply_of};
     ghost use Rattle.model.specs.Ledger.{Ledger, ledger_of, network_of, network_on};
     ghost use Rattle.model.specs.Limits.{block_size_limit};
+    ghost use Rattle.model.specs.Log.{IsLogBlock};
     ghost use Rattle.model.specs.Forging.{ArrivesNext};
     ghost use Rattle.model.specs.History as history;
     ghost use Rattle.model.specs.History.{State, Entry, Arrive, Submit, Open, Next, Forward, Close, IsRun, Applies};
@@ -81,6 +82,7 @@ impl<S: SigScheme> Core<S> {
     ghost use Rattle.chain_core.specs.ForgedBlocks.{IsForgedAs, IsForgeFault};
     ghost use Rattle.chain_core.specs.Held.{opening_held, network_held, Stands};
     ghost use Rattle.chain_core.specs.Numbers.{block_numbered};
+    ghost use Rattle.chain_core.specs.Immutable.{immutable_texts};
     ghost use Rattle.chain_core.specs.Reopening.{IsChainOf, IsReopenFault, texts_in};
 
     /// A core before anything arrived: the selected chain is empty, and the unspent outputs are those of the genesis.
@@ -457,6 +459,25 @@ impl<S: SigScheme> Core<S> {
             Some(block) => Some(block.bytes()),
             None => None,
         }
+    }
+
+    /// Copies of the texts of the blocks that are never rolled back, but for the first `from` of them. Err where memory
+    /// runs out for these.
+    pub fn copy_immutable(&self, from: u64) -> Result<Vec<Vec<u8>>, AllocError>
+        ensures texts { IfOk result (λ texts.
+            texts_in texts.items ≡ drop from (immutable_texts S.verifies self.now)) }
+        // Each has 1 to 1,048,576 bytes.
+        ensures sizes { IfOk result (λ texts. AllByRecursion IsLogBlock (texts_in texts.items)) }
+    {
+        let mut texts = Vec::new(self.alloc);
+        for number in from..self.immutable() {
+            let Some(block) = self.block(number + 1) else {
+                unreachable!();
+            };
+            let copy = block.to_vec(self.alloc)?;
+            texts.push(copy)?;
+        }
+        Ok(texts)
     }
 
     /// The unspent outputs of the selected chain. Takes no memory.

@@ -1,4 +1,4 @@
-pub mod Numbered
 pub mod OnLogs
 pub mod Opened
+pub mod Beside
 pub mod ForCallers

@@ -11,7 +11,8 @@ use Rattle.std.specs.Prelude.{Result, Ok, Err, IfOk}
 use Rattle.chain_core.specs.Held.{Held, network_held, opening_held}
 use Rattle.chain_core.specs.declared.reopening.ReopenFault.{ReopenFault}
 use Rattle.chain_core.specs.Reopening.{AreRead, IsChainOf}
-use Rattle.flushing.specs.Texts.{texts_of, immutable_texts, Begins}
+use Rattle.chain_core.specs.Immutable.{texts_of, immutable_texts}
+use Rattle.flushing.specs.Texts.{Begins}
 
 -- blocks that are read of texts have these
 pub texts_read : (chain : List Block) (texts : List (List ℕ)) → AreRead chain texts → texts_of chain ≡ texts

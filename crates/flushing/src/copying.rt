@@ -8,7 +8,8 @@ ghost use Rattle.immlog.specs.Views.{lists_of};
 ghost use Rattle.model.specs.Ledger.{network_of};
 ghost use Rattle.chain_core.specs.Held.{opening_held};
 ghost use Rattle.chain_core.specs.Reopening.{IsChainOf, IsReopenFault};
-ghost use Rattle.flushing.specs.Texts.{texts_of, immutable_texts, Begins};
+ghost use Rattle.chain_core.specs.Immutable.{texts_of, immutable_texts};
+ghost use Rattle.flushing.specs.Texts.{Begins};
 
 use chain_core::{Core, ReopenFault};
 use genesis::Genesis;
@@ -31,37 +32,11 @@ pub fn core_on<D: Disk, S: SigScheme>(
     Core::reopen(alloc, genesis, log.blocks())
 }
 
-/// Copies of the texts of the core's blocks that are never rolled back, but for the first so many.
-fn texts_from<S: SigScheme>(
-    alloc: Global,
-    core: &Core<S>,
-    from: usize,
-) -> Result<Vec<Vec<u8>>, AllocError>
-    ensures texts { IfOk result (λ texts. lists_of texts.items ≡ drop from (immutable_texts S.verifies core.now)) }
-    ensures sizes { IfOk result (λ texts. AllByRecursion IsLogBlock (lists_of texts.items)) }
-{
-    let mut texts = Vec::new(alloc);
-    for number in from as u64..core.immutable() {
-        let Some(block) = core.block(number + 1) else {
-            unreachable!();
-        };
-        let copy = block.to_vec(alloc)?;
-        let Ok(()) = texts.push(copy) else {
-            return Err(AllocError);
-        };
-    }
-    Ok(texts)
-}
-
 /// Puts the core's blocks that are never rolled back onto the log, behind those that it has, which are the first of
 /// them. Err where the log is broken, else where memory ran out for copies, else where the disk failed.
 ///
 /// Copies the new blocks twice, once of them for the log to keep, and writes them as [`Log::append`] does.
-pub fn flush<D: Disk, S: SigScheme>(
-    alloc: Global,
-    log: &mut Log<D>,
-    core: &Core<S>,
-) -> Result<(), AppendFault>
+pub fn flush<D: Disk, S: SigScheme>(log: &mut Log<D>, core: &Core<S>) -> Result<(), AppendFault>
     requires { Begins log.old.blocks (immutable_texts S.verifies core.now) }
 
     ensures all { OnOk result (log.new.blocks ≡ immutable_texts S.verifies core.now) }
@@ -97,7 +72,7 @@ pub fn flush<D: Disk, S: SigScheme>(
     if log.is_broken() {
         return Err(AppendFault::Broken);
     }
-    match texts_from(alloc, core, log.durable()) {
+    match core.copy_immutable(log.durable() as u64) {
         Ok(texts) => log.append(&texts),
         Err(AllocError) => Err(AppendFault::OutOfMemory),
     }

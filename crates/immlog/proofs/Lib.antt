@@ -4,4 +4,5 @@ pub mod Crashes
 pub mod Rows
 pub mod Appending
 pub mod Reading
+pub mod Framing
 pub mod Recovering

@@ -1,16 +1,12 @@
 -- Records, read from bytes.
-use Rattle.std.proofs.Common.{◌≡◌, ℕ, zero, suc, ◌+◌, ◌-◌, ◌<◌, ◌≤◌, List, [], ◌∷◌, ◌++◌, length, take, drop, get_or, refl, sym, ◌∙◌, ap, subst, arith, length-append, Vec}
-use Rattle.std.proofs.lemmas.List.{take-append-drop, take_all, length-drop, length-take-le, drop_at, map-append}
-use Rattle.std.proofs.lemmas.Nat.{be_bytes_4}
+use Rattle.std.proofs.Common.{◌≡◌, ℕ, zero, suc, ◌+◌, ◌-◌, ◌<◌, List, [], ◌∷◌, ◌++◌, length, take, drop, get_or, refl, sym, ◌∙◌, ap, arith, length-append, Vec}
+use Rattle.std.proofs.lemmas.List.{take-append-drop, take_all, length-drop, length-take-le, map-append}
 use Rattle.std.specs.declared.alloc.Global.{Global}
-use Rattle.std.specs.List.{AllByRecursion}
-use Rattle.std.specs.Int.{w32, to_be_bytes, from_be_bytes}
+use Rattle.std.specs.Int.{w32, from_be_bytes}
 use Rattle.sha2.specs.Sha256.{sha256}
-use Rattle.model.specs.Log.{IsLogBlock, body_of, records}
-use Rattle.model.proofs.Lists.{all_push}
-use Rattle.model.proofs.LogTexts.{length-body_of, records-push, ArePartsOf, parts_of, body_of_parts}
+use Rattle.model.specs.Log.{IsLogBlock, body_of}
+use Rattle.model.proofs.LogTexts.{length-body_of, ArePartsOf, parts_of}
 use Rattle.immlog.specs.Views.{lists_of, HasCopied}
-use Rattle.immlog.specs.Steps.{BeginsWithRecord}
 
 -- bytes of a list are bytes in its beginnings
 pub bytes_below : (bs : List ℕ) (n : ℕ) → ((i : ℕ) → get_or bs i 0 < 256) → (i : ℕ) → get_or (take n bs) i 0 < 256
@@ -65,52 +61,10 @@ block_taken bytes size digest rest front block more n split n_is front_is is_blo
     let count : n ≡ length block = n_is ∙ parts.count in
     (front_is ∙ (ap (λ (l : List ℕ). take n l) parts.behind ∙ (ap (λ (k : ℕ). take k (block ++ more)) count ∙ take_front block more)), parts.same)
 
--- a record begins here
-pub record_here : (bytes size digest rest front back : List ℕ) (n : ℕ) → AreSplit bytes size digest rest → ((i : ℕ) → get_or bytes i 0 < 256) → n ≡ from_be_bytes w32 size → front ≡ take n rest → back ≡ drop n rest → length front ≡ n → digest ≡ sha256 front → IsLogBlock front → BeginsWithRecord front bytes
-record_here bytes size digest rest front back n split small n_is front_is back_is len digest_is is_block =
-    let bytes_of_size : (i : ℕ) → get_or size i 0 < 256 = subst (λ (l : List ℕ). (i : ℕ) → get_or l i 0 < 256) (sym split.size_is) (bytes_below bytes 4 small) in
-    let spelled : to_be_bytes w32 n ≡ size = be_bytes_4 size n split.four bytes_of_size n_is in
-    let whole : front ++ back ≡ rest = ap (λ (l : List ℕ). l ++ back) front_is ∙ (ap (λ (l : List ℕ). take n rest ++ l) back_is ∙ take-append-drop n rest) in
-    record {
-      more = back;
-      size = is_block;
-      text = split.whole ∙ (ap (λ (l : List ℕ). size ++ (digest ++ l)) (sym whole) ∙ body_of_parts front back size digest (sym spelled ∙ ap (λ (k : ℕ). to_be_bytes w32 k) (sym len)) digest_is);
-    }
-
 -- ---- the loop over the records
 
 pub tail_slice : (bytes : List ℕ) (n : ℕ) → take (length bytes - n) (drop n bytes) ≡ drop n bytes
 tail_slice bytes n = take_all (length bytes - n) (drop n bytes) (omega (arith, length-drop n bytes))
-
--- one more record is read
-pub record AreRead (bytes : List ℕ) (next : ℕ) (blocks : List (List ℕ)) : Type 0 where
-  pub within : next ≤ length bytes
-  pub text : bytes ≡ records blocks ++ drop next bytes
-  pub place : next ≡ length (records blocks)
-  pub sizes : AllByRecursion IsLogBlock blocks
-
-pub read_more : (bytes behind block : List ℕ) (done : List (List ℕ)) (gate : ℕ) → bytes ≡ records done ++ drop gate bytes → gate ≡ length (records done) → AllByRecursion IsLogBlock done → take (length bytes - gate) (drop gate bytes) ≡ 1 ∷ behind → BeginsWithRecord block behind → AreRead bytes (gate + (37 + length block)) (done ++ block ∷ [])
-read_more bytes behind block done gate text place sizes opened here =
-    let tail : drop gate bytes ≡ 1 ∷ (body_of block ++ here.more) = sym (tail_slice bytes gate) ∙ (opened ∙ ap (λ (l : List ℕ). 1 ∷ l) here.text) in
-    let row : bytes ≡ records (done ++ block ∷ []) ++ here.more = text ∙ (ap (λ (l : List ℕ). records done ++ l) tail ∙ sym (records-push done block here.more)) in
-    let long : length (records (done ++ block ∷ [])) ≡ gate + (37 + length block) = long_of in
-    let whole : length bytes ≡ length (records (done ++ block ∷ [])) + length here.more = ap length row ∙ length-append (records (done ++ block ∷ [])) here.more in
-    record {
-      within = omega arith;
-      text = row ∙ ap (λ (l : List ℕ). records (done ++ block ∷ []) ++ l) (sym (ap (λ (l : List ℕ). drop (gate + (37 + length block)) l) row ∙ drop_at (records (done ++ block ∷ [])) here.more (gate + (37 + length block)) long));
-      place = sym long;
-      sizes = all_push IsLogBlock done block sizes here.size;
-    }
-  where
-    long_of : length (records (done ++ block ∷ [])) ≡ gate + (37 + length block)
-    long_of =
-        let pushed : records (done ++ block ∷ []) ++ [] ≡ records done ++ 1 ∷ (body_of block ++ []) = records-push done block [] in
-        let left : length (records (done ++ block ∷ []) ++ []) ≡ length (records (done ++ block ∷ [])) + 0 = length-append (records (done ++ block ∷ [])) [] in
-        let right : length (records done ++ 1 ∷ (body_of block ++ [])) ≡ length (records done) + suc (length (body_of block ++ [])) = length-append (records done) (1 ∷ (body_of block ++ [])) in
-        let body : length (body_of block ++ []) ≡ length (body_of block) + 0 = length-append (body_of block) [] in
-        let size : length (body_of block) ≡ 36 + length block = length-body_of block in
-        let same : length (records (done ++ block ∷ []) ++ []) ≡ length (records done ++ 1 ∷ (body_of block ++ [])) = ap length pushed in
-        omega arith
 
 -- one more copy behind the others
 pub copied_one : (old new : List (Vec ℕ Global)) (block : List ℕ) → HasCopied old new (block ∷ []) → lists_of new ≡ lists_of old ++ block ∷ []

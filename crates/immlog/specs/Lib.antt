@@ -1,4 +1,5 @@
 pub mod Steps
 pub mod Views
+pub mod Frames
 pub mod OpenLog
 pub mod HeldLog

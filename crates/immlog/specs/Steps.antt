@@ -2,7 +2,7 @@
 use Rattle.std.specs.Prelude.{◌≡◌, ◌⊎◌, ℕ, ◌+◌, ◌≤◌, List, [], ◌∷◌, ◌++◌, length, take, drop}
 use Rattle.std.specs.List.{AllByRecursion}
 use Rattle.model.specs.Disk.{Moment, settled, touched, Leaves, HoldsSince, LeavesSince}
-use Rattle.model.specs.Log.{IsLogBlock, body_of, records, IsClosed, IsLogOf}
+use Rattle.model.specs.Log.{IsLogBlock, records, IsClosed, IsLogOf}
 
 -- this beginning of the disk is sure, and nothing in it was written or cut since
 pub record IsFixed (front : List ℕ) (m : Moment) : Type 0 where
@@ -24,12 +24,6 @@ abbrev pub IsGateMoment : ℕ → ℕ → List ℕ → Moment → Type 0
 IsGateMoment place gate bytes m =
     (m ≡ settled bytes)
     ⊎ ((m ≡ touched place (place + 1) (settled bytes)) ⊎ (m ≡ settled (gate_written place gate bytes)))
-
--- the record of this block, but its gate, begins the bytes
-pub record BeginsWithRecord (block bytes : List ℕ) : Type 0 where
-  pub more : List ℕ
-  pub size : IsLogBlock block
-  pub text : bytes ≡ body_of block ++ more
 
 -- the records of these blocks begin the bytes, and at this place stands a gate that isn't open, or nothing
 pub record IsFound (bytes : List ℕ) (place : ℕ) (blocks : List (List ℕ)) : Type 0 where

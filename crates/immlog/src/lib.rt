@@ -1,7 +1,7 @@
 //! The immutable log: the blocks that no rollback can reach any more, on a disk that may stop at any moment.
 //!
 //! ```text
-//! let mut log = Log::open(alloc, disk)?; // or the disk again, beside why not
+//! let mut log = Log::open(rt, alloc, disk)?; // or the disk again, beside why not
 //! log.append(&blocks)?;                  // once it answers Ok, each crash leaves them all
 //! println!("{}", log.durable());
 //! let disk = log.into_disk();
@@ -9,6 +9,7 @@
 #![tactic(auto)]
 
 mod copies;
+mod digests;
 mod disk;
 mod faults;
 mod log;

@@ -16,6 +16,7 @@ use crate::put::{put_all, wipe};
 use crate::recover::recover;
 use std::alloc::Global;
 use std::marker::Model;
+use std::thread::Threads;
 
 /// A log of blocks on a disk, whose blocks it also keeps in memory. Where the disk failed in a call, the log is broken:
 /// it doesn't touch the disk any more, and is opened again from it.
@@ -26,6 +27,8 @@ pub struct Log<D: Disk> {
     kept: Vec<Vec<u8>>,
     durable: usize,
     gate: usize,
+    /// Where records are spelled before they are written; empty until the first one is.
+    room: Vec<u8>,
     broken: bool,
 }
 
@@ -61,6 +64,7 @@ impl<D: Disk> Log<D> {
                 kept: Vec::new(alloc),
                 durable: 0,
                 gate: 0,
+                room: Vec::new(alloc),
                 broken: false,
             }),
             Err(_) => Err((CreateFault::DiskFault, disk)),
@@ -70,8 +74,12 @@ impl<D: Disk> Log<D> {
     /// Opens the log on this disk: its blocks are read, and behind the last one stands a closed gate, which is made
     /// sure, and nothing else. Err, with the disk beside it, where the disk failed, where an open gate has no record
     /// behind it, or where memory ran out. Takes memory for the bytes of the disk and for a copy of the blocks, and the
-    /// time to compute their digests.
-    pub fn open(alloc: Global, disk: D) -> Result<Log<D>, (OpenLogFault, D)>
+    /// time to compute their digests, which as many threads as there are processors share.
+    pub fn open<R: Threads + Sync>(
+        rt: &R,
+        alloc: Global,
+        disk: D,
+    ) -> Result<Log<D>, (OpenLogFault, D)>
         // The blocks are those of what the reads gave,
         ensures opened { IfOk result (λ log. Opens (D.reads disk) log.blocks) }
         // which is damaged at the place that is told.
@@ -98,7 +106,7 @@ impl<D: Disk> Log<D> {
             Leaves (IsLogOf least blocks) (D.moment disk) → (place : ℕ) → refused.0 ≡ OpenLogFault.Damaged place → ⊥) }
     {
         let mut disk = disk;
-        match recover(alloc, &mut disk) {
+        match recover(rt, alloc, &mut disk) {
             Ok((kept, gate)) => {
                 let durable = kept.len();
                 Ok(Log {
@@ -107,6 +115,7 @@ impl<D: Disk> Log<D> {
                     kept,
                     durable,
                     gate,
+                    room: Vec::new(alloc),
                     broken: false,
                 })
             }
@@ -116,7 +125,8 @@ impl<D: Disk> Log<D> {
 
     /// Puts these blocks, of 1 to 1,048,576 bytes each, onto the log, one after the other. Err where the log is broken,
     /// else where memory ran out for the copies, else where the disk failed. Writes the bytes of the blocks and 37
-    /// bytes for each, and waits for the disk twice for each; takes memory for a copy of each.
+    /// bytes for each, each record at once and then its gate, and waits for the disk twice for each. Takes memory for a
+    /// copy of each, and once for the longest record, about a megabyte.
     pub fn append(&mut self, blocks: &[Vec<u8>]) -> Result<(), AppendFault>
         requires { AllByRecursion IsLogBlock (lists_of blocks.now) }
 
@@ -154,7 +164,7 @@ impl<D: Disk> Log<D> {
         if self.broken {
             return Err(AppendFault::Broken);
         }
-        if copy_all(self.alloc, &mut self.kept, blocks).is_err() {
+        if copy_all(self.alloc, &mut self.kept, &mut self.room, blocks).is_err() {
             return Err(AppendFault::OutOfMemory);
         }
         // Until all is sure, nothing is known of the disk but what a crash may leave of it.
@@ -164,6 +174,7 @@ impl<D: Disk> Log<D> {
             &mut self.gate,
             &self.kept,
             &mut self.durable,
+            &mut self.room,
         )
         .is_err()
         {
@@ -207,6 +218,7 @@ impl<D: Disk> Log<D> {
             kept: _,
             durable: _,
             gate: _,
+            room: _,
             broken: _,
         } = self;
         disk

@@ -5,6 +5,7 @@ ghost use Rattle.std.specs.Int.{w32, to_be_bytes};
 ghost use Rattle.std.specs.Prelude.{IsOk};
 ghost use Rattle.std.specs.List.{AllByRecursion};
 ghost use Rattle.sha2.specs.Sha256.{sha256};
+ghost use Rattle.model.specs.Limits.{block_size_limit};
 ghost use Rattle.model.specs.Disk.{settled, Leaves, HoldsSince, LeavesSince, IsCounted};
 ghost use Rattle.model.specs.Log.{IsLogBlock, body_of, at_rest, IsLogOf};
 ghost use Rattle.immlog.specs.Steps.{IsFixed, KeepsFixed, IsGateMoment, gate_written};
@@ -15,6 +16,10 @@ use sha2::{Digest, Sha256};
 
 /// The gate of a record.
 const OPEN: u8 = 1;
+
+/// The most bytes that are written at once: the longest block, what stands before it but for the gate, and the closed
+/// gate behind it.
+pub const MOST_WRITTEN: usize = 1_048_613;
 
 /// Leaves a closed gate on the disk, and nothing else.
 pub fn wipe<D: Disk>(disk: &mut D) -> Result<(), DiskFailed>
@@ -41,52 +46,45 @@ fn write_end<D: Disk>(disk: &mut D, place: usize, bytes: &[u8]) -> Result<usize,
     Ok(place + bytes.len())
 }
 
-/// Writes the length of the block and its digest.
-fn write_head<D: Disk>(disk: &mut D, place: usize, block: &[u8]) -> Result<usize, DiskFailed>
-    requires place { place ≡ length (D.reads disk.old) }
+/// Spells the record of the block, but for its gate, and a closed gate behind it.
+fn spell(room: &mut [u8], block: &[u8])
+    requires room { length room.old ≡ length block.now + 37 }
     requires size { IsLogBlock block.now }
-    ensures text { OnOk result (D.reads disk.new ≡
-        D.reads disk.old ++ (to_be_bytes w32 (length block.now) ++ sha256 block.now)) }
-    ensures place { IfOk result (λ next. next ≡ length (D.reads disk.new)) }
-    ensures further { IfOk result (λ next. place ≤ next) }
-    ensures fixed { KeepsFixed place (D.moment disk.old) (D.past disk.old) (D.moment disk.new) (D.past disk.new) }
-    ensures failures { IsCounted (D.failures disk.old) (D.failures disk.new) result }
+    ensures { room.new ≡ body_of block.now ++ 0 ∷ [] }
 {
-    let len = (block.len() as u32).to_be_bytes();
-    let digest = Sha256::digest(block);
-    let next = write_end(disk, place, &len)?;
-    write_end(disk, next, &digest)
-}
-
-/// Writes the block and a closed gate behind it, and answers the place of that gate.
-fn write_tail<D: Disk>(disk: &mut D, place: usize, block: &[u8]) -> Result<usize, DiskFailed>
-    requires { place ≡ length (D.reads disk.old) }
-    ensures text { OnOk result (D.reads disk.new ≡ D.reads disk.old ++ (block.now ++ 0 ∷ [])) }
-    ensures place { IfOk result (λ next. next + 1 ≡ length (D.reads disk.new)) }
-    ensures fixed { KeepsFixed place (D.moment disk.old) (D.past disk.old) (D.moment disk.new) (D.past disk.new) }
-    ensures failures { IsCounted (D.failures disk.old) (D.failures disk.new) result }
-{
-    let gate = write_end(disk, place, block)?;
-    write_end(disk, gate, &[0])?;
-    Ok(gate)
+    let (len, rest) = room.split_at_mut(4);
+    len.copy_from_slice(&(block.len() as u32).to_be_bytes());
+    let (digest, rest) = rest.split_at_mut(32);
+    digest.copy_from_slice(&Sha256::digest(block));
+    let (text, gate) = rest.split_at_mut(block.len());
+    text.copy_from_slice(block);
+    gate.copy_from_slice(&[0]);
 }
 
 /// Writes the record of the block behind the closed gate at this place, and a closed gate behind it, all of it sure;
-/// and answers the place of that gate. The closed gate at this place stays.
-fn stage<D: Disk>(disk: &mut D, gate: usize, block: &[u8]) -> Result<usize, DiskFailed>
+/// and answers the place of that gate. The closed gate at this place stays. Spells what it writes in this room.
+fn stage<D: Disk>(
+    disk: &mut D,
+    room: &mut [u8],
+    gate: usize,
+    block: &[u8],
+) -> Result<usize, DiskFailed>
+    requires room { block_size_limit + 37 ≤ length room.old }
     requires place { gate + 1 ≡ length (D.reads disk.old) }
     requires settled { D.moment disk.old ≡ settled (D.reads disk.old) }
     requires size { IsLogBlock block.now }
+    ensures room { length room.new ≡ length room.old }
     ensures text { OnOk result (D.reads disk.new ≡ D.reads disk.old ++ (body_of block.now ++ 0 ∷ [])) }
     ensures place { IfOk result (λ next. next + 1 ≡ length (D.reads disk.new)) }
     ensures settled { OnOk result (D.moment disk.new ≡ settled (D.reads disk.new)) }
     ensures fixed { HoldsSince (D.past disk.old) (D.past disk.new) (D.moment disk.new) (IsFixed (D.reads disk.old)) }
     ensures failures { IsCounted (D.failures disk.old) (D.failures disk.new) result }
 {
-    let place = write_head(disk, gate + 1, block)?;
-    let next = write_tail(disk, place, block)?;
+    let record = &mut room[..block.len() + 37];
+    spell(record, block);
+    let end = write_end(disk, gate + 1, record)?;
     disk.sync()?;
-    Ok(next)
+    Ok(end - 1)
 }
 
 /// Writes a gate over the one at this place, and makes it sure.
@@ -105,10 +103,17 @@ pub fn write_gate<D: Disk>(disk: &mut D, place: usize, gate: u8) -> Result<(), D
 }
 
 /// Puts one block behind the closed gate at this place, and answers the place of the gate behind it.
-fn put<D: Disk>(disk: &mut D, gate: usize, block: &[u8]) -> Result<usize, DiskFailed>
+fn put<D: Disk>(
+    disk: &mut D,
+    room: &mut [u8],
+    gate: usize,
+    block: &[u8],
+) -> Result<usize, DiskFailed>
+    requires room { block_size_limit + 37 ≤ length room.old }
     requires place { gate + 1 ≡ length (D.reads disk.old) }
     requires settled { D.moment disk.old ≡ settled (D.reads disk.old) }
     requires size { IsLogBlock block.now }
+    ensures room { length room.new ≡ length room.old }
     ensures text { OnOk result ((done : List (List ℕ)) → D.reads disk.old ≡ at_rest done →
         D.reads disk.new ≡ at_rest (done ++ block.now ∷ [])) }
     ensures place { IfOk result (λ next. next + 1 ≡ length (D.reads disk.new)) }
@@ -118,19 +123,21 @@ fn put<D: Disk>(disk: &mut D, gate: usize, block: &[u8]) -> Result<usize, DiskFa
         (IsLogOf (length done) (done ++ block.now ∷ later)) }
     ensures failures { IsCounted (D.failures disk.old) (D.failures disk.new) result }
 {
-    let next = stage(disk, gate, block)?;
+    let next = stage(disk, room, gate, block)?;
     write_gate(disk, gate, OPEN)?;
     Ok(next)
 }
 
 /// Puts the blocks past the first so many, which are on the disk, one after the other behind the closed gate at this
-/// place, and counts each once it is sure.
+/// place, and counts each once it is sure. Spells each in this room.
 pub fn put_all<D: Disk>(
     disk: &mut D,
     gate: &mut usize,
     blocks: &[Vec<u8>],
     durable: &mut usize,
+    room: &mut [u8],
 ) -> Result<(), DiskFailed>
+    requires room { durable.old < length blocks.now → block_size_limit + 37 ≤ length room.old }
     requires count { durable.old ≤ length blocks.now }
     requires sizes { AllByRecursion IsLogBlock (lists_of blocks.now) }
     requires rest { D.reads disk.old ≡ at_rest (take durable.old (lists_of blocks.now)) }
@@ -149,7 +156,7 @@ pub fn put_all<D: Disk>(
     ensures failures { IsCounted (D.failures disk.old) (D.failures disk.new) result }
 {
     for block in &blocks[*durable..] {
-        *gate = put(disk, *gate, block)?;
+        *gate = put(disk, room, *gate, block)?;
         *durable += 1;
     }
     Ok(())

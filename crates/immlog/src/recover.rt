@@ -12,6 +12,7 @@ use crate::faults::OpenLogFault;
 use crate::put::write_gate;
 use crate::records::{byte_at, read_blocks};
 use std::alloc::{AllocError, Global};
+use std::thread::Threads;
 
 /// How many bytes are read at once.
 const CHUNK: usize = 65_536;
@@ -132,7 +133,11 @@ fn tidy<D: Disk>(disk: &mut D, place: usize, gate: Option<u8>) -> Result<(), Dis
 
 /// The blocks of the log on this disk, and the place of the closed gate behind them, which is made sure and has nothing
 /// behind it. Err where the disk failed, where the log is damaged, or where memory ran out for the bytes or the blocks.
-pub fn recover<D: Disk>(alloc: Global, disk: &mut D) -> Result<(Vec<Vec<u8>>, usize), OpenLogFault>
+pub fn recover<D: Disk, R: Threads + Sync>(
+    rt: &R,
+    alloc: Global,
+    disk: &mut D,
+) -> Result<(Vec<Vec<u8>>, usize), OpenLogFault>
     ensures opened { IfOk result (λ found. Opens (D.reads disk.old) (lists_of found.0.items)) }
     ensures rest { IfOk result (λ found. D.reads disk.new ≡ at_rest (lists_of found.0.items)) }
     ensures place { IfOk result (λ found. found.1 + 1 ≡ length (D.reads disk.new)) }
@@ -148,7 +153,7 @@ pub fn recover<D: Disk>(alloc: Global, disk: &mut D) -> Result<(Vec<Vec<u8>>, us
         return Err(OpenLogFault::DiskFault);
     };
     let bytes = read_all(alloc, disk)?;
-    let (blocks, gate) = read_blocks(alloc, &bytes)?;
+    let (blocks, gate) = read_blocks(rt, alloc, &bytes)?;
     let Ok(()) = tidy(disk, gate, byte_at(&bytes, gate)) else {
         return Err(OpenLogFault::DiskFault);
     };

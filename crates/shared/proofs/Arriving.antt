@@ -1,10 +1,10 @@
 -- What arrivals stand in journals.
 use Rattle.std.proofs.Common.{◌≡◌, ℕ, List, [], ◌∷◌, ◌++◌, Option, Some, None, Result, Ok, Err, refl, sym, ap, ◌∙◌, append-nil}
-use Rattle.std.specs.Prelude.{IfOk, OnErr}
+use Rattle.std.specs.Prelude.{IfOk, OnOk, OnErr}
 use Rattle.std.proofs.lemmas.Grind.{flat_map-append}
 use Rattle.model.specs.Ledger.{Network}
 use Rattle.model.specs.History.{Event, Reply, OutOfMemory}
-use Rattle.model.specs.Journal.{JournalEntry, Journal, Knowledge, IsCalled}
+use Rattle.model.specs.Journal.{JournalEntry, Journal, Knowledge, IsCalled, IsLook}
 use Rattle.inbox.specs.Arrivals.{Arrival}
 use Rattle.shared.specs.Arrivals.{arrival_in, arrivals_in}
 use Rattle.shared.specs.Entries.{call_by}
@@ -22,6 +22,10 @@ quiet_called network before after e is none quiet =
 pub quiet_answered : (network : Network) (before : Knowledge) (event : Event) (reply : Reply) (after : Knowledge) → IsAnswered network before event reply after → arrivals_in before.calls ≡ [] → arrivals_in after.calls ≡ []
 quiet_answered network before event OutOfMemory after is quiet = ap (λ (k : Knowledge). arrivals_in k.calls) is ∙ quiet
 quiet_answered network before event reply after is quiet = quiet_called network before after (call_by before.caller event reply) is refl quiet
+
+pub quiet_looked : {T E : Type 0} (network : Network) (before after : Knowledge) (height : ℕ) (result : Result T E) → OnOk result (IsLook network before height after) → OnErr result (after ≡ before) → arrivals_in before.calls ≡ [] → arrivals_in after.calls ≡ []
+quiet_looked network before after height (Ok r) look same quiet = ap arrivals_in look.calls ∙ quiet
+quiet_looked network before after height (Err e) look same quiet = ap (λ (k : Knowledge). arrivals_in k.calls) same ∙ quiet
 
 pub quiet_if : {T E : Type 0} (network : Network) (before after : Knowledge) (event : Event) (reply : T → Reply) (result : Result T E) → IfOk result (λ r. IsCalled network before (call_by before.caller event (reply r)) after) → OnErr result (after ≡ before)
     → arrivals_in before.calls ≡ [] → arrivals_in after.calls ≡ []

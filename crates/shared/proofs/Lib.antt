@@ -3,6 +3,7 @@ pub mod Views
 pub mod Moves
 pub mod Calls
 pub mod Meetings
+pub mod Copies
 pub mod Later
 pub mod Arriving
 pub mod Adders

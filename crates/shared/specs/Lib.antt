@@ -9,6 +9,7 @@ pub mod Answers
 pub mod Standing
 pub mod Callers
 pub mod Desks
+pub mod Copies
 pub mod Opening
 pub mod OpenedCores
 pub mod Adding

@@ -3,12 +3,16 @@
 ghost use Rattle.std.specs.Prelude.{◌≡◌, ◌↔◌, ◌++◌, [], ◌∷◌, Ok, Err, IfOk, IfErr, OnOk, OnErr, IsTrue, map};
 ghost use Rattle.model.specs.Ledger.{network_of};
 ghost use Rattle.model.specs.History.{Arrive, Submit, Open, Next, Forward, Close};
-ghost use Rattle.model.specs.Journal.{IsCalled, IsMeeting};
+ghost use Rattle.model.specs.Journal.{IsCalled, IsLook, IsMeeting, height_of};
+ghost use Rattle.model.specs.Log.{IsLogBlock};
+ghost use Rattle.std.specs.List.{AllByRecursion};
 ghost use Rattle.ident.specs.PointView.{point_of};
 ghost use Rattle.chain_core.specs.Views.{arrive_reply_of, submit_reply_of, open_reply_of, next_reply_of};
 ghost use Rattle.chain_core.specs.declared.follower.NextFault.TheVariants as fault;
 ghost use Rattle.shared.specs.Entries.{call_by, arrival_by};
 ghost use Rattle.shared.specs.Answers.{IsAnswered, IsJournaled, HasSeenAll, forwarded_reply, closed_reply, ComesBack};
+ghost use Rattle.chain_core.specs.Reopening.{texts_in};
+ghost use Rattle.shared.specs.Copies.{AreCopiesAfter};
 ghost use Rattle.shared.specs.Standing.{IsHeightOf};
 
 use crate::call::Call;
@@ -23,6 +27,7 @@ use chain_core::{
 };
 use ident::Point;
 use mempool::SubmitReply;
+use std::alloc::AllocError;
 use std::marker::Model;
 use witness_pool::SigScheme;
 
@@ -224,6 +229,28 @@ impl<S: SigScheme, B: Room> Desk<S, B> {
             Ok(()) => Ok(()),
             Err(UnknownFollower {}) => Err(CloseFault::UnknownFollower),
         }
+    }
+
+    /// Copies of the texts of the blocks that are never rolled back, but for the first so many. The caller sees the
+    /// whole journal.
+    pub fn copy(
+        &mut self,
+        heights: &Heights<S>,
+        caller: &mut CallerSeat<B>,
+        from: u64,
+    ) -> Result<Vec<Vec<u8>>, AllocError>
+        requires { IsHeightOf B.table B.genesis heights.now }
+        ensures journal { self.new ≡ self.old }
+        ensures look { OnOk result (IsLook (network_of B.genesis S.verifies) caller.old
+            (height_of (network_of B.genesis S.verifies) self.old) caller.new) }
+        ensures copies { IfOk result (λ texts. AreCopiesAfter (network_of B.genesis S.verifies) caller.new.seen from
+            (texts_in texts.items)) }
+        ensures sizes { IfOk result (λ texts. AllByRecursion IsLogBlock (texts_in texts.items)) }
+        ensures err { OnErr result (caller.new ≡ caller.old) }
+    {
+        let texts = self.core.copy_immutable(from)?;
+        self.journal.tell(heights, caller);
+        Ok(texts)
     }
 
     /// Two callers see the whole journal.

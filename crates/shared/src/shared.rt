@@ -1,12 +1,16 @@
 //! One core for many threads.
 
-ghost use Rattle.std.specs.Prelude.{◌≡◌, Ok, IfOk, IfErr, OnErr, map};
+ghost use Rattle.std.specs.Prelude.{◌≡◌, ℕ, Ok, IfOk, IfErr, OnOk, OnErr, map};
+ghost use Rattle.std.specs.List.{AllByRecursion};
 ghost use Rattle.model.specs.Ledger.{network_of};
 ghost use Rattle.model.specs.History.{Submit, Open, Next, Forward, Close};
 ghost use Rattle.model.specs.Journal.{IsCalled, IsLook, IsMeeting};
+ghost use Rattle.model.specs.Log.{IsLogBlock};
 ghost use Rattle.ident.specs.PointView.{point_of};
 ghost use Rattle.chain_core.specs.Views.{arrive_reply_of, submit_reply_of, open_reply_of, next_reply_of};
 ghost use Rattle.shared.specs.Answers.{IsAnswered, forwarded_reply, closed_reply, ComesBack};
+ghost use Rattle.chain_core.specs.Reopening.{texts_in};
+ghost use Rattle.shared.specs.Copies.{AreCopiesAfter};
 ghost use Rattle.shared.specs.Standing.{IsHeightOf};
 ghost use Rattle.shared.specs.Entries.{call_by, arrival_by};
 
@@ -20,6 +24,7 @@ use block::Seen;
 use chain_core::{ArriveReply, FollowerId, Instruction, NextFault, OpenFollowerFault};
 use ident::Point;
 use mempool::SubmitReply;
+use std::alloc::AllocError;
 use std::sync::{Mutex, Wait};
 use witness_pool::SigScheme;
 
@@ -129,6 +134,28 @@ impl<S: SigScheme, B: Room> Shared<S, B> {
     {
         let mut desk = self.desk.lock(rt);
         desk.close(&self.heights, &mut caller.seat, id)
+    }
+
+    /// Copies of the texts of the blocks that are never rolled back, but for the first `from` of them: what a log still
+    /// lacks that has so many. The journal has nothing of it; the caller has then seen all of the journal, and looked
+    /// at the height. Where memory runs out nothing changes. Waits for the lock, and holds it while it copies.
+    pub fn copy<R: Wait>(
+        &self,
+        rt: &R,
+        caller: &mut Caller<B>,
+        from: u64,
+    ) -> Result<Vec<Vec<u8>>, AllocError>
+        ensures look { OnOk result ((height : ℕ)
+            × IsLook (network_of B.genesis S.verifies) caller.old height caller.new) }
+        // They are those after the journal that the caller has then seen.
+        ensures copies { IfOk result (λ texts. AreCopiesAfter (network_of B.genesis S.verifies) caller.new.seen from
+            (texts_in texts.items)) }
+        // Each has 1 to 1,048,576 bytes.
+        ensures sizes { IfOk result (λ texts. AllByRecursion IsLogBlock (texts_in texts.items)) }
+        ensures err { OnErr result (caller.new ≡ caller.old) }
+    {
+        let mut desk = self.desk.lock(rt);
+        desk.copy(&self.heights, &mut caller.seat, from)
     }
 
     /// Bytes of a block arrive that a peer sent, brought by the caller of this seat, which has seen what they are. The

@@ -67,7 +67,7 @@ fn log_after(rt: &(impl Abort + AllocGlobal), blocks: u64) -> Box<Log<FileDisk<F
     let Ok(mut log) = Log::create(rt.alloc(), disk) else {
         rt.abort();
     };
-    let flushed = flush(rt.alloc(), &mut log, &core);
+    let flushed = flush(&mut log, &core);
     assert!(rt; flushed == Ok(()));
     Box::new(rt.alloc(), log).expect(rt, MEMORY)
 }

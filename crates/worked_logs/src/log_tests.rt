@@ -8,6 +8,7 @@ use file_disk::FileDisk;
 use immlog::Log;
 use std::alloc::{AllocError, Global};
 use std::test::Fail;
+use std::thread::Threads;
 
 fn two_blocks(alloc: Global) -> Result<Vec<Vec<u8>>, AllocError>
     ensures { IfOk result (λ blocks. AllByRecursion IsLogBlock (lists_of blocks.items)) }
@@ -22,7 +23,11 @@ fn two_blocks(alloc: Global) -> Result<Vec<Vec<u8>>, AllocError>
 
 // How many blocks are opened after two were put onto a log whose disk fails in the call after so many, and how many
 // had been durable; None where no log was made or opened.
-fn opened_after(alloc: Global, calls: u64) -> Result<Option<(usize, usize)>, AllocError> {
+fn opened_after(
+    rt: &(impl AllocGlobal + Threads + Sync),
+    calls: u64,
+) -> Result<Option<(usize, usize)>, AllocError> {
+    let alloc = rt.alloc();
     let blocks = two_blocks(alloc)?;
     let Ok(disk) = FileDisk::open(alloc, FakeFile::new(alloc, calls)) else {
         return Ok(None);
@@ -36,7 +41,7 @@ fn opened_after(alloc: Global, calls: u64) -> Result<Option<(usize, usize)>, All
     let Ok(disk) = FileDisk::open(alloc, log.into_disk().into_file()) else {
         return Ok(None);
     };
-    match Log::open(alloc, disk) {
+    match Log::open(rt, alloc, disk) {
         Ok(log) => Ok(Some((durable, log.durable()))),
         Err(_) => Ok(None),
     }
@@ -44,14 +49,14 @@ fn opened_after(alloc: Global, calls: u64) -> Result<Option<(usize, usize)>, All
 
 #[test]
 fn blocks_are_opened_again(rt: HostRuntime) -> Result<(), Fail> {
-    assert_eq!(rt; opened_after(rt.alloc(), 1000)?, Some((2, 2)));
+    assert_eq!(rt; opened_after(&rt, 1000)?, Some((2, 2)));
     Ok(())
 }
 
 #[test]
 fn each_device_call_fails_once(rt: HostRuntime) -> Result<(), Fail> {
     for calls in 0..100 {
-        if let Some((durable, opened)) = opened_after(rt.alloc(), calls)? {
+        if let Some((durable, opened)) = opened_after(&rt, calls)? {
             assert!(rt; durable <= opened, "after {calls} calls");
         }
     }

@@ -13,7 +13,7 @@ use std::sync::Wait;
 use std::thread::Threads;
 use witness_pool::{OpenGate, TestScheme};
 
-/// Peers 2 and 4 send blocks through an inbox of one place, and 1 and 3 nothing. What is left at the end is drained.
+/// Peers 2 and 8 send blocks through an inbox of one place, and six others nothing. What is left at the end is drained.
 fn takes_in_turns<B: Room, M: Mailroom, R: Threads + Wait + Abort + AllocGlobal + Sync>(
     rt: &R,
     parts: &mut Parts<OpenGate, B, M>,
@@ -26,15 +26,15 @@ fn takes_in_turns<B: Room, M: Mailroom, R: Threads + Wait + Abort + AllocGlobal 
         callers: _,
     } = parts;
     adds(rt, adder, shared, 0, 0);
-    sends(rt, &mut peers[3], bytes_of(rt, &names, "A2"));
+    sends(rt, &mut peers[7], bytes_of(rt, &names, "A2"));
     adds(rt, adder, shared, 5, 1);
     sends(rt, &mut peers[1], bytes_of(rt, &names, "A1"));
     adds(rt, adder, shared, 1, 1);
-    sends(rt, &mut peers[3], bytes_of(rt, &names, "A3"));
+    sends(rt, &mut peers[7], bytes_of(rt, &names, "A3"));
     drains(rt, adder, shared, peers);
-    assert!(rt; adder.counts() == [0, 1, 0, 2]);
+    assert!(rt; adder.counts() == [0, 1, 0, 0, 0, 0, 0, 2]);
     drains(rt, adder, shared, peers);
-    assert!(rt; adder.counts() == [0, 1, 0, 2]);
+    assert!(rt; adder.counts() == [0, 1, 0, 0, 0, 0, 0, 2]);
 }
 
 /// Does so, at a core and an inbox that were opened for it; the height is then that of the three blocks.

@@ -87,7 +87,7 @@ fn calls_beside_an_adder<B: Room, M: Mailroom, R: Threads + Wait + Abort + Alloc
     sends(rt, &mut peers[2], bytes_of(rt, names, "A1"));
     adds(rt, adder, shared, 1, 1);
     makes_all_calls(rt, shared, &mut caller, names);
-    assert!(rt; adder.counts() == [0, 0, 1, 0]);
+    assert!(rt; adder.counts() == [0, 0, 1, 0, 0, 0, 0, 0]);
     adder.meet(rt, shared, &mut other);
     shared.meet(rt, &mut caller, &mut other);
     same(rt, "after", shared.height(&mut other), 1);

@@ -8,4 +8,8 @@ mod caller_tests;
 #[cfg(test)]
 mod fixture;
 #[cfg(test)]
+mod gated_file;
+#[cfg(test)]
+mod log_tests;
+#[cfg(test)]
 mod pool_tests;

@@ -1,5 +1,5 @@
 use Rattle.std.proofs.Common.{[], refl}
-use Rattle.flushing.specs.Texts.{immutable_texts}
+use Rattle.chain_core.specs.Immutable.{immutable_texts}
 use Rattle.flushing.proofs.OnLogs.{left_as_it_was}
 use Rattle.flushing.proofs.copying.flush.Goals as goal
 

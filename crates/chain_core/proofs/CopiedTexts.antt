@@ -9,8 +9,8 @@ use Rattle.model.specs.Log.{IsLogBlock}
 use Rattle.model.proofs.BlockTexts.{block_text_is}
 use Rattle.block.specs.Read.{IsRead}
 use Rattle.chain_core.specs.Numbers.{block_numbered}
-use Rattle.immlog.specs.Views.{lists_of}
-use Rattle.flushing.specs.Texts.{texts_of}
+use Rattle.chain_core.specs.Immutable.{texts_of}
+use Rattle.chain_core.specs.Reopening.{texts_in}
 
 numbered_at : (chain : List Block) (n : ℕ) → block_numbered chain (n + 1) ≡ slice_get chain n
 numbered_at chain n = let e : n + 1 ≡ suc n = omega arith in ap (block_numbered chain) e
@@ -51,6 +51,6 @@ unfolding head
 log_block b bytes read = record { some = subst (λ (t : List ℕ). 0 < length t) (sym read.read.text.spelled) (some 0x82 (items_text (items_of (item_of_header b.header ∷ item_of_transactions b.transactions ∷ [])))); within = read.size }
 
 -- a copy of one is behind the others
-pub with_copy : (texts more : List (Vec ℕ Global)) (copy : Vec ℕ Global) (bytes : List ℕ) → more ≡ texts ++ copy ∷ [] → copy.items ≡ bytes → lists_of more ≡ lists_of texts ++ bytes ∷ []
+pub with_copy : (texts more : List (Vec ℕ Global)) (copy : Vec ℕ Global) (bytes : List ℕ) → more ≡ texts ++ copy ∷ [] → copy.items ≡ bytes → texts_in more ≡ texts_in texts ++ bytes ∷ []
 with_copy texts more copy bytes more_is is =
-    ap lists_of more_is ∙ (map-append (λ (v : Vec ℕ Global). v.items) texts (copy ∷ []) ∙ ap (λ (t : List ℕ). lists_of texts ++ t ∷ []) is)
+    ap texts_in more_is ∙ (map-append (λ (v : Vec ℕ Global). v.items) texts (copy ∷ []) ∙ ap (λ (t : List ℕ). texts_in texts ++ t ∷ []) is)

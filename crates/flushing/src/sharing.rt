@@ -1,0 +1,81 @@
+//! Blocks of a core that threads share go onto the log.
+
+ghost use Rattle.std.specs.Prelude.{◌≡◌, ◌↔◌, ◌⊎◌, ℕ, List, length, true, false, OnOk, IsErrOf};
+ghost use Rattle.model.specs.Disk.{Leaves, LeavesSince, one_more};
+ghost use Rattle.model.specs.Journal.{IsLook, BeginsWithSeen};
+ghost use Rattle.model.specs.Ledger.{network_of};
+ghost use Rattle.model.specs.Log.{Opens, OpensToBeginning, IsLogOf};
+ghost use Rattle.shared.specs.Copies.{AreImmutableAfter};
+ghost use Rattle.flushing.specs.Sharing.{BeginAfter};
+ghost use Rattle.flushing.specs.Texts.{Begins};
+
+use immlog::{AppendFault, Disk, Log};
+use shared::{Caller, Room, Shared};
+use std::alloc::AllocError;
+use std::sync::Wait;
+use witness_pool::SigScheme;
+
+/// Puts the blocks of a shared core that are never rolled back onto the log, behind those that it has, which are the
+/// first of them. Err where the log is broken, else where memory ran out for copies, else where the disk failed.
+///
+/// Waits for the lock, copies what the log lacks, lets the lock go, and then writes as [`crate::flush`] does: nobody
+/// waits for the disk. A contract speaks of the journal that the caller has then seen, which begins with all that it
+/// had seen; blocks that became immutable since aren't among those that are put on.
+pub fn flush_shared<D: Disk, S: SigScheme, B: Room, R: Wait>(
+    rt: &R,
+    log: &mut Log<D>,
+    shared: &Shared<S, B>,
+    caller: &mut Caller<B>,
+) -> Result<(), AppendFault>
+    requires { BeginAfter (network_of B.genesis S.verifies) caller.old.seen log.old.blocks }
+
+    // The caller has then seen the whole journal, and looked at the height; or nothing of what it knows changed.
+    ensures looked { OnOk result ((height : ℕ)
+        × IsLook (network_of B.genesis S.verifies) caller.old height caller.new) }
+    ensures knows { (caller.new ≡ caller.old) ⊎ ((height : ℕ)
+        × IsLook (network_of B.genesis S.verifies) caller.old height caller.new) }
+    ensures seen { BeginsWithSeen caller.new.seen caller.old.seen }
+
+    ensures all { OnOk result (AreImmutableAfter (network_of B.genesis S.verifies) caller.new.seen log.new.blocks) }
+    ensures sound { OnOk result (log.new.broken ≡ false) }
+    // A crash then leaves just these blocks.
+    ensures left { OnOk result (Leaves (λ bytes. Opens bytes log.new.blocks) (D.moment log.new.disk)) }
+
+    // Whatever it answers, what the log has are the first of these blocks,
+    ensures begins { BeginAfter (network_of B.genesis S.verifies) caller.new.seen log.new.blocks }
+    // those that it had among them.
+    ensures stay { Begins log.old.blocks log.new.blocks }
+    // A crash at any moment since it was called leaves a log that isn't damaged, of a beginning of these blocks, with
+    // all that were durable when it was called.
+    ensures crash { log.old.broken ≡ false → (all : List (List ℕ))
+        → AreImmutableAfter (network_of B.genesis S.verifies) caller.new.seen all
+        → LeavesSince (D.past log.old.disk) (D.past log.new.disk) (D.moment log.new.disk)
+        (OpensToBeginning (length log.old.blocks) all) }
+    // Now it leaves all that are durable now.
+    ensures crash_now { log.old.broken ≡ false → (all : List (List ℕ))
+        → AreImmutableAfter (network_of B.genesis S.verifies) caller.new.seen all
+        → Leaves (OpensToBeginning (length log.new.blocks) all) (D.moment log.new.disk) }
+    // The same, as `Log::open` asks for it, where memory lasted.
+    ensures kept { log.old.broken ≡ false → (IsErrOf result AppendFault.OutOfMemory → ⊥) → (all : List (List ℕ))
+        → AreImmutableAfter (network_of B.genesis S.verifies) caller.new.seen all
+        → LeavesSince (D.past log.old.disk) (D.past log.new.disk) (D.moment log.new.disk)
+        (IsLogOf (length log.old.blocks) all) }
+    ensures kept_now { log.old.broken ≡ false → (IsErrOf result AppendFault.OutOfMemory → ⊥)
+        → (all : List (List ℕ)) → AreImmutableAfter (network_of B.genesis S.verifies) caller.new.seen all
+        → Leaves (IsLogOf (length log.new.blocks) all) (D.moment log.new.disk) }
+
+    ensures broken { IsErrOf result AppendFault.Broken ↔ (log.old.broken ≡ true) }
+    ensures untouched { IsErrOf result AppendFault.Broken → (log.new ≡ log.old) × (caller.new ≡ caller.old) }
+    ensures memory { IsErrOf result AppendFault.OutOfMemory → log.new ≡ log.old }
+    ensures failed { IsErrOf result AppendFault.DiskFault →
+        D.failures log.new.disk ≡ one_more (D.failures log.old.disk) }
+    ensures breaks { IsErrOf result AppendFault.DiskFault → log.new.broken ≡ true }
+{
+    if log.is_broken() {
+        return Err(AppendFault::Broken);
+    }
+    match shared.copy(rt, caller, log.durable() as u64) {
+        Ok(texts) => log.append(&texts),
+        Err(AllocError) => Err(AppendFault::OutOfMemory),
+    }
+}

@@ -1,0 +1,223 @@
+//! A log beside an adder: the blocks that are never rolled back go onto it from a thread of its own.
+
+ghost use Rattle.std.specs.Prelude.{◌≡◌, []};
+ghost use Rattle.model.specs.Ledger.{network_of};
+ghost use Rattle.model.specs.Signature.{test_verifies};
+ghost use Rattle.flushing.specs.Sharing.{BeginAfter};
+
+use super::fixture::{MEMORY, Parts, bytes_of, drains, names_of, next_of, open, parts_of, sends};
+use super::gated_file::{Crossing, GatedFile};
+use file_disk::FileDisk;
+use flushing::flush_shared;
+use immlog::{Disk, Log};
+use inbox::{Mailroom, PEERS, PeerEnd};
+use mempool::SubmitReply;
+use script::Names;
+use shared::{Caller, Opened, Room, Shared};
+use std::alloc::Global;
+use std::fs::OpenFile;
+use std::io::{Read, Seek, Write};
+use std::marker::Brand;
+use std::process::Abort;
+use std::sync::atomic::{AtomicBool, Ordering};
+use std::sync::{Arc, Wait};
+use std::thread::{self, Threads, join};
+use witness_pool::{OpenGate, TestScheme};
+use worked_logs::FakeFile;
+
+/// How many blocks are brought. As 2 may be rolled back, all but 2 of them go onto the log.
+const BLOCKS: usize = 40;
+
+/// A chain of so many blocks, by lines of scripts.
+fn lines_of(rt: &(impl Abort + AllocGlobal)) -> String {
+    let mut lines = String::new(rt.alloc());
+    lines.push_str("block B1 genesis 1\n").expect(rt, MEMORY);
+    for number in 2..=BLOCKS {
+        let before = number.saturating_sub(1);
+        let line = format!(in rt.alloc(); "block B{number} B{before} {number}\n");
+        lines.push_str(&line.expect(rt, MEMORY)).expect(rt, MEMORY);
+    }
+    lines
+}
+
+/// The peers send the blocks in turns, each the next one.
+fn send_blocks<M: Mailroom, R: Wait + Abort + AllocGlobal>(
+    rt: &R,
+    peers: &mut [PeerEnd<M>; PEERS],
+    names: &Names,
+) {
+    for number in 1..=BLOCKS {
+        let name = format!(in rt.alloc(); "B{number}").expect(rt, MEMORY);
+        sends(rt, &mut peers[number % PEERS], bytes_of(rt, names, &name));
+    }
+}
+
+/// A log without blocks, on this file.
+fn log_on<F: Read + Write + Seek + OpenFile + Drop>(
+    rt: &(impl Abort + AllocGlobal),
+    file: F,
+) -> Log<FileDisk<F>>
+    ensures { result.blocks ≡ [] }
+{
+    let disk = FileDisk::open(rt.alloc(), file).expect(rt, MEMORY);
+    match Log::create(rt.alloc(), disk) {
+        Ok(log) => log,
+        Err(_) => rt.abort(),
+    }
+}
+
+/// Puts what is never rolled back onto the log, again and again until all was brought, and then once more.
+fn flush_until<D: Disk, B: Room, R: Wait + Abort>(
+    rt: &R,
+    shared: &Shared<TestScheme, B>,
+    caller: &mut Caller<B>,
+    log: &mut Log<D>,
+    ended: &AtomicBool,
+)
+    requires { BeginAfter (network_of B.genesis test_verifies) caller.old.seen log.old.blocks }
+{
+    for _ in rt.forever() {
+        let last = ended.load(Ordering::SeqCst);
+        let flushed = flush_shared(rt, log, shared, caller);
+        assert!(rt; flushed == Ok(()));
+        if last {
+            return;
+        }
+        thread::yield_now();
+    }
+}
+
+/// A caller puts what is never rolled back onto a new log, until all was brought. How many blocks the log then has.
+fn logged<B: Room, R: Wait + Abort + AllocGlobal>(
+    rt: &R,
+    shared: &Shared<TestScheme, B>,
+    mut caller: Caller<B>,
+    ended: &AtomicBool,
+) -> usize {
+    let mut log = log_on(rt, FakeFile::new(rt.alloc(), u64::MAX));
+    // What it has seen is then a legal journal.
+    shared.height(&mut caller);
+    flush_until(rt, shared, &mut caller, &mut log, ended);
+    log.durable()
+}
+
+/// The adder brings all blocks, while those that are never rolled back go onto a log.
+fn logs_beside<B: Room + Send + Sync, M: Mailroom, R: Threads + Wait + Abort + AllocGlobal + Sync>(
+    rt: &R,
+    opened: Opened<TestScheme>,
+    inbox: inbox::Opened,
+)
+    requires table { opened.table ≡ B.table }
+    requires genesis { opened.genesis ≡ B.genesis }
+    requires queue { inbox.table ≡ M.table }
+    requires capacity { inbox.capacity ≡ M.capacity }
+{
+    let names = names_of(rt, &lines_of(rt));
+    let mut parts = parts_of::<OpenGate, B, M>(rt, OpenGate, opened, inbox);
+    let Parts {
+        shared,
+        adder,
+        peers,
+        callers,
+    } = &mut *parts;
+    let shared = &*shared;
+    send_blocks(rt, peers, &names);
+    let caller = next_of(rt, callers);
+    let ended = AtomicBool::new(false);
+    let ended = &ended;
+    let (durable, ()) = join(
+        rt,
+        move || -> usize { logged(rt, shared, caller, ended) },
+        move || {
+            drains(rt, adder, shared, peers);
+            ended.store(true, Ordering::SeqCst);
+        },
+    );
+    assert!(rt; durable == BLOCKS - 2);
+}
+
+#[test]
+fn log_beside_the_adder(rt: HostRuntime) {
+    let opened = open(&rt, 2).expect(&rt, "a shared core");
+    let inbox = inbox::Opened::new(rt.alloc(), 64).expect(&rt, "an inbox");
+    logs_beside::<Brand, Brand, _>(&rt, opened, inbox);
+}
+
+/// A caller puts what is never rolled back onto a new log, whose first write of it waits. How many blocks it then has.
+fn written<B: Room, R: Wait + Abort + AllocGlobal>(
+    rt: &R,
+    shared: &Shared<TestScheme, B>,
+    mut caller: Caller<B>,
+    crossing: Arc<Crossing, Global>,
+) -> usize {
+    let gate = Arc::try_clone(&crossing).expect(rt, MEMORY);
+    let file = GatedFile {
+        file: FakeFile::new(rt.alloc(), u64::MAX),
+        crossing,
+    };
+    let mut log = log_on(rt, file);
+    gate.arm();
+    shared.height(&mut caller);
+    let flushed = flush_shared(rt, &mut log, shared, &mut caller);
+    assert!(rt; flushed == Ok(()));
+    log.durable()
+}
+
+/// Once a write has begun, another caller's submission is answered.
+fn submits<B: Room, R: Wait + Abort>(
+    rt: &R,
+    shared: &Shared<TestScheme, B>,
+    caller: &mut Caller<B>,
+    crossing: &Crossing,
+    payment: Vec<u8>,
+) {
+    assert!(rt; crossing.has_begun());
+    let reply = shared.submit(rt, caller, payment);
+    assert!(rt; reply.is_ok_and(|reply| reply == SubmitReply::Added));
+    crossing.answer();
+}
+
+/// All blocks are journaled. Then those that are never rolled back go onto a log, and while the disk is written, another
+/// caller is answered.
+fn writes_outside<
+    B: Room + Send + Sync,
+    M: Mailroom,
+    R: Threads + Wait + Abort + AllocGlobal + Sync,
+>(rt: &R, opened: Opened<TestScheme>, inbox: inbox::Opened)
+    requires table { opened.table ≡ B.table }
+    requires genesis { opened.genesis ≡ B.genesis }
+    requires queue { inbox.table ≡ M.table }
+    requires capacity { inbox.capacity ≡ M.capacity }
+{
+    let names = names_of(rt, &lines_of(rt));
+    let payment = names.tx_of(b"First").expect(rt, "a payment").encode();
+    let payment = payment.expect(rt, MEMORY);
+    let mut parts = parts_of::<OpenGate, B, M>(rt, OpenGate, opened, inbox);
+    let Parts {
+        shared,
+        adder,
+        peers,
+        callers,
+    } = &mut *parts;
+    let shared = &*shared;
+    send_blocks(rt, peers, &names);
+    drains(rt, adder, shared, peers);
+    let (caller, mut other) = (next_of(rt, callers), next_of(rt, callers));
+    let crossing = Arc::new(rt.alloc(), Crossing::new()).expect(rt, MEMORY);
+    let writing = Arc::try_clone(&crossing).expect(rt, MEMORY);
+    let seen = &*crossing;
+    let (durable, ()) = join(
+        rt,
+        move || -> usize { written(rt, shared, caller, writing) },
+        move || { submits(rt, shared, &mut other, seen, payment) },
+    );
+    assert!(rt; durable == BLOCKS - 2);
+    assert!(rt; crossing.has_met());
+}
+
+#[test]
+fn log_written_outside_the_lock(rt: HostRuntime) {
+    let opened = open(&rt, 3).expect(&rt, "a shared core");
+    let inbox = inbox::Opened::new(rt.alloc(), 64).expect(&rt, "an inbox");
+    writes_outside::<Brand, Brand, _>(&rt, opened, inbox);
+}
