@@ -1,11 +1,9 @@
 //! Scripts in which peers send bytes.
 
 use genesis::Genesis;
+use inbox::PEERS;
 use scenario::Sending;
 use std::alloc::{AllocError, Global};
-
-/// How many peers there are.
-const PEERS: u64 = 4;
 
 /// Tells what a peer sends.
 fn put_sending(alloc: Global, sending: &Sending, came: &mut String) -> Result<(), AllocError> {
@@ -29,7 +27,7 @@ pub fn put_run(
     came: &mut String,
 ) -> Result<(), AllocError> {
     let mut reader = script;
-    match scenario::sends(alloc, genesis, &mut reader, PEERS) {
+    match scenario::sends(alloc, genesis, &mut reader, PEERS as u64) {
         Ok(sends) => put_all(alloc, &sends, came),
         Err(fault) => write!(came, "! {fault}\n"),
     }

@@ -3,7 +3,7 @@ use Rattle.std.specs.Prelude.{◌≡◌, ℕ, ◌==◌, ◌<◌, ◌≤◌, ◌+
 
 -- how many peers an inbox has; they have the numbers from 1 to this one
 abbrev pub peers : ℕ
-peers = 4
+peers = 8
 
 -- the number of a peer
 abbrev pub IsPeer : ℕ → Type 0

@@ -13,7 +13,7 @@ use std::marker::{Model, PhantomData};
 use std::sync::{Arc, Wait};
 
 /// How many peers an inbox has.
-pub const PEERS: usize = 4;
+pub const PEERS: usize = 8;
 
 /// Where one peer sends, from one thread at a time. A contract sees the peer's number, and all bytes that it sent.
 #[derive(Drop)]

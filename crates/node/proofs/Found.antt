@@ -1,5 +1,5 @@
 -- The subcommand that was found, from its name and its rows.
-use Rattle.std.proofs.Common.{◌≡◌, true, List, Option, Some, None, option_map, rules}
+use Rattle.std.proofs.Common.{◌≡◌, true, List, Option, Some, None, option_map, refl, rules}
 use Rattle.std.specs.Prelude.{bytes_eq, IfSome}
 use Rattle.std.proofs.lemmas.Slice.Eq.{bytes_eq-Decides}
 use Rattle.clap.specs.Words.{Text, Row}
@@ -17,3 +17,8 @@ same_text a b h = search (rules, bytes_eq-Decides a b, h)
 pub some_weaker : {X : Type 0} (P Q : X → Type 0) (r : Option X) → ((x : X) → P x → Q x) → IfSome r P → IfSome r Q
 some_weaker P Q None weaker holds = tt
 some_weaker P Q (Some x) weaker holds = weaker x holds
+
+-- a text that is there, with what is known of it
+pub there : {P : Text → Type 0} {N : Type 0} (text : Option Text) (n : N) → (text ≡ None → Some n ≡ None) → ((t : Text) → text ≡ Some t → P t) → (t : Text) × (text ≡ Some t) × P t
+there None n some known = let bad : Some n ≡ None = some refl in cc
+there (Some t) n some known = (t, refl, known t refl)

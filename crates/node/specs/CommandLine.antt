@@ -1,7 +1,9 @@
 -- The command line of the program, as its parser reads it.
-use Rattle.std.specs.Prelude.{true, [], Some, codes}
+use Rattle.std.specs.Prelude.{true, [], ◌∷◌, Some, codes}
 use Rattle.clap.specs.declared.builder.action.ArgAction.TheVariants.{Set}
+use Rattle.clap.specs.declared.builder.value_parser.ValueParser.TheVariants.{Unsigned}
 use Rattle.clap.specs.Words.{Text, Rule, Shape, App, new_rule, new_app, with_rule, with_subcommand}
+use Rattle.node.specs.Clients.{clients_limit}
 
 -- an option with one value
 abbrev pub option_rule : Text → Rule
@@ -11,16 +13,22 @@ option_rule id = record (new_rule id) { long = Some id; action = Some Set; value
 abbrev pub required_rule : Text → Rule
 required_rule id = record (option_rule id) { required = true }
 
+-- the option with how many clients there are, of whom there is one where it isn't given
+abbrev pub clients_rule : Rule
+clients_rule =
+    record (option_rule (codes "clients")) { parser = Some (Unsigned 1 clients_limit); defaults = codes "1" ∷ [] }
+
 -- the command `run` with its three options
 abbrev pub run_app : App
 run_app =
     with_rule (with_rule (with_rule (new_app (codes "run")) (required_rule (codes "genesis")))
     (required_rule (codes "script"))) (option_rule (codes "log"))
 
--- the command `sim` with its two
+-- the command `sim` with its three
 abbrev pub sim_app : App
 sim_app =
-    with_rule (with_rule (new_app (codes "sim")) (required_rule (codes "genesis"))) (required_rule (codes "script"))
+    with_rule (with_rule (with_rule (new_app (codes "sim")) (required_rule (codes "genesis")))
+    (required_rule (codes "script"))) clients_rule
 
 -- the command `replay` with its two
 abbrev pub replay_app : App

@@ -1,3 +1,4 @@
+pub mod Clients
 pub mod CommandLine
 pub mod JobView
 pub mod Ending

@@ -23,10 +23,15 @@ peer_lines number (count ∷ counts) = peer_line number count ++ peer_lines (num
 abbrev pub heights_line : Bool → List ℕ
 heights_line fell = if fell then codes "heights bad" ++ 10 ∷ [] else codes "heights ok" ++ 10 ∷ []
 
--- the height that the client read last, the arrivals together and of each peer, whether heights fell, and how long the
--- chain is that the follower was told
+-- how long the chain is that each follower was told
+abbrev pub follower_lines : List ℕ → List ℕ
+follower_lines [] = []
+follower_lines (told ∷ rest) = number_line (codes "follower") told ++ follower_lines rest
+
+-- the height that the first client read last, the arrivals together and of each peer, whether heights fell, and what
+-- each client's follower was told
 abbrev pub summary_text : Summary → List ℕ
 summary_text s =
     number_line (codes "height") s.height
     ++ (number_line (codes "arrivals") (total_of s.arrivals)
-    ++ (peer_lines 1 s.arrivals ++ (heights_line s.fell ++ number_line (codes "follower") s.told)))
+    ++ (peer_lines 1 s.arrivals ++ (heights_line s.fell ++ follower_lines s.told.items)))

@@ -3,11 +3,13 @@
 ghost use Rattle.std.specs.Prelude.{◌≡◌, map, IfOk, IfSome, false, string_bytes};
 ghost use Rattle.clap.specs.Words.{app_of, rule_of, rows_of, found_of, subcommand_of, subcommand_rows_of};
 ghost use Rattle.clap.specs.declared.builder.command.Command.TheViews.{out-Command};
-ghost use Rattle.node.specs.CommandLine.{option_rule, required_rule, run_app, sim_app, replay_app};
+ghost use Rattle.node.specs.CommandLine.{option_rule, required_rule, clients_rule, run_app, sim_app, replay_app};
 ghost use Rattle.node.specs.CommandLine.{bare_app, script_app, node_app};
 ghost use Rattle.node.specs.JobView.{IsJobOf, IsRunJob, IsSimJob, IsReplayJob};
 
+use crate::clients::{Clients, MAX_CLIENTS};
 use crate::jobs::Job;
+use clap::builder::ValueParser;
 use clap::error::ErrorKind;
 use clap::{Arg, ArgAction, ArgMatches, Command, Error};
 use std::alloc::{AllocError, Global};
@@ -30,6 +32,20 @@ fn required_path<'a>(alloc: Global, id: &'a str, help: &'a str) -> Arg<'a>
     ensures local { result.global ≡ false }
 {
     path_option(alloc, id, help).required(true)
+}
+
+/// The option with how many clients there are.
+fn clients_option<'a>(alloc: Global) -> Arg<'a>
+    ensures rule { rule_of result ≡ clients_rule }
+    ensures local { result.global ≡ false }
+{
+    Arg::new(alloc, "clients")
+        .long("clients")
+        .action(ArgAction::Set)
+        .value_name("N")
+        .help("How many clients follow the chain, 1 to 8")
+        .value_parser(ValueParser::unsigned(1, MAX_CLIENTS as u64))
+        .default_value("1")
 }
 
 /// The command `run`.
@@ -58,10 +74,12 @@ fn sim_command<'a>(alloc: Global) -> Result<Command<'a>, AllocError>
 {
     let genesis = required_path(alloc, "genesis", "What the network agrees on");
     let script = required_path(alloc, "script", "What the peers send");
+    let clients = clients_option(alloc);
     Command::new(alloc, "sim")
         .about("Have peers send blocks at once, and print what came of it")
         .arg(genesis)?
-        .arg(script)
+        .arg(script)?
+        .arg(clients)
 }
 
 /// The command `replay`.
@@ -124,7 +142,13 @@ fn sim_job<'a>(found: &ArgMatches<'a>) -> Option<Job<'a>>
 {
     let genesis = found.get_str("genesis")?;
     let script = found.get_str("script")?;
-    Some(Job::Sim { genesis, script })
+    let many = found.get_one::<usize>("clients")?;
+    let clients = Clients::new(many)?;
+    Some(Job::Sim {
+        genesis,
+        script,
+        clients,
+    })
 }
 
 /// The replay that these options name, if they name one.

@@ -1,5 +1,7 @@
 //! What the program can do.
 
+use crate::clients::Clients;
+
 /// What the program is to do.
 #[derive(Debug, Drop)]
 pub enum Job<'a> {
@@ -9,10 +11,12 @@ pub enum Job<'a> {
         script: &'a str,
         log: Option<&'a str>,
     },
-    /// Have the peers of this file's script send blocks under the genesis of this one, each in a thread of its own.
+    /// Have the peers of this file's script send blocks under the genesis of this one, each in a thread of its own, and
+    /// so many clients follow the chain.
     Sim {
         genesis: &'a str,
         script: &'a str,
+        clients: Clients,
     },
     /// Open the log of this file under the genesis of this one, and tell how many blocks it has.
     Replay {

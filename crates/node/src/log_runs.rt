@@ -5,7 +5,7 @@ ghost use Rattle.model.specs.Signature.{test_verifies};
 ghost use Rattle.model.specs.Disk.{LeavesSince};
 ghost use Rattle.model.specs.Log.{OpensToBeginning};
 ghost use Rattle.chain_core.specs.Held.{Held};
-ghost use Rattle.flushing.specs.Texts.{texts_of, immutable_texts};
+ghost use Rattle.chain_core.specs.Immutable.{texts_of, immutable_texts};
 ghost use Rattle.scenario.specs.Handed.{HasRun};
 
 use crate::failure::Failure;
@@ -20,26 +20,31 @@ use std::alloc::Global;
 use std::fs::{File, OpenOptions};
 use std::io::{BufReader, ErrorKind, Read, Write};
 use std::rt::Files;
+use std::thread::Threads;
 use witness_pool::TestScheme;
 
 /// The log on a disk, which is made where the disk is empty.
-fn log_on<'a, D: Disk + Drop>(alloc: Global, disk: D, is_empty: bool) -> Result<Log<D>, Failure<'a>>
+fn log_on<'a, D: Disk + Drop, R: Threads + Sync + AllocGlobal>(
+    rt: &R,
+    disk: D,
+    is_empty: bool,
+) -> Result<Log<D>, Failure<'a>>
     ensures sound { IfOk result (λ log. log.broken ≡ false) }
 {
     if is_empty {
-        return match Log::create(alloc, disk) {
+        return match Log::create(rt.alloc(), disk) {
             Ok(log) => Ok(log),
             Err(_) => Err(Failure::DiskFault),
         };
     }
-    match Log::open(alloc, disk) {
+    match Log::open(rt, rt.alloc(), disk) {
         Ok(log) => Ok(log),
         Err((fault, _disk)) => Err(fault.into()),
     }
 }
 
 /// The log of a file. Where the file is empty, or is missing and may be made, it has no block.
-fn log_of_file<'a, R: Files + AllocGlobal>(
+fn log_of_file<'a, R: Files + AllocGlobal + Threads + Sync>(
     rt: &R,
     path: &'a str,
     may_make: bool,
@@ -57,7 +62,7 @@ fn log_of_file<'a, R: Files + AllocGlobal>(
     match FileDisk::open(rt.alloc(), file) {
         Ok(disk) => {
             let is_empty = disk.is_empty();
-            log_on(rt.alloc(), disk, is_empty)
+            log_on(rt, disk, is_empty)
         }
         Err(error) if error.kind() == ErrorKind::OutOfMemory => {
             Err(Failure::Scenario(ScenarioFault::OutOfMemory))
@@ -108,7 +113,7 @@ fn run_on_log<'a, D: Disk, R: Read, W: Write>(
     let (core, ran) = scenario::run_from(alloc, genesis, core, reader, out);
     // What it was opened on begins its immutable blocks: a clause of this call.
     let _immutable = core.immutable();
-    let flushed = flush(alloc, log, &core);
+    let flushed = flush(log, &core);
     match (ran, flushed) {
         (Err(fault), _) => Err(fault.into()),
         (Ok(()), Err(fault)) => Err(fault.into()),
@@ -141,7 +146,7 @@ fn run_script<'a, D: Disk, R: Files + AllocGlobal, W: Write>(
 /// Runs the script of a file under the genesis of another, on the log of a third, which is made where it is missing.
 /// The genesis is read first, then the log is opened, then the script is run. After that, also after a fault of the
 /// script, the blocks that are never rolled back any more are put onto the log.
-pub fn run_logged<'a, R: Files + AllocGlobal, W: Write>(
+pub fn run_logged<'a, R: Files + AllocGlobal + Threads + Sync, W: Write>(
     rt: &R,
     genesis: &'a str,
     script: &'a str,
@@ -164,7 +169,7 @@ fn height_of<'a, D: Disk>(
 }
 
 /// Opens the log of a file under the genesis of another, and prints how high its chain is.
-pub fn replay<'a, R: Files + AllocGlobal, W: Write>(
+pub fn replay<'a, R: Files + AllocGlobal + Threads + Sync, W: Write>(
     rt: &R,
     genesis: &'a str,
     log: &'a str,

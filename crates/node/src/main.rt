@@ -1,6 +1,7 @@
 //! The program `node`: runs a script on the chain database.
 #![tactic(auto)]
 
+mod clients;
 mod command_line;
 mod failure;
 mod genesis_file;

@@ -1,23 +1,24 @@
 //! What a simulation prints.
 
 ghost use Rattle.std.specs.Prelude.{◌≡◌, ◌-◌, ◌^◌, ◌++◌, OnOk, min, sum};
-ghost use Rattle.node.specs.Simulation.{heights_line, number_line, peer_line, peer_lines, summary_text, total_of};
+ghost use Rattle.node.specs.Simulation.{follower_lines, heights_line, number_line, peer_line, peer_lines};
+ghost use Rattle.node.specs.Simulation.{summary_text, total_of};
 
 use inbox::PEERS;
 use std::alloc::AllocError;
 use std::io::Write;
 
 /// What came of a simulation.
-#[derive(Clone, Copy, Debug)]
+#[derive(Debug, Drop)]
 pub struct Summary {
-    /// The height that the client read last.
+    /// The height that the first client read last.
     pub height: u64,
     /// How many arrivals of each peer stand in the journal.
     pub arrivals: [u64; PEERS],
-    /// Whether a height that was read was less than one that was read before.
+    /// Whether a height that a client read was less than one that it had read before.
     pub fell: bool,
-    /// How long the chain is that the follower was told.
-    pub told: u64,
+    /// How long the chain is that each client's follower was told.
+    pub told: Vec<u64>,
 }
 
 /// How many arrivals there are together; that count stands still at the largest number of 64 bits.
@@ -73,6 +74,16 @@ fn put_heights(lines: &mut Vec<u8>, fell: bool) -> Result<(), AllocError>
     }
 }
 
+/// Appends the line of each follower.
+fn put_followers(lines: &mut Vec<u8>, told: &[u64]) -> Result<(), AllocError>
+    ensures { OnOk result (lines.new.items ≡ lines.old.items ++ follower_lines told.now) }
+{
+    for blocks in told {
+        put_number(lines, b"follower", *blocks)?;
+    }
+    Ok(())
+}
+
 /// Appends the lines of a summary.
 pub fn put_summary(lines: &mut Vec<u8>, summary: &Summary) -> Result<(), AllocError>
     ensures { OnOk result (lines.new.items ≡ lines.old.items ++ summary_text summary.now) }
@@ -81,5 +92,5 @@ pub fn put_summary(lines: &mut Vec<u8>, summary: &Summary) -> Result<(), AllocEr
     put_number(lines, b"arrivals", total(&summary.arrivals))?;
     put_peers(lines, &summary.arrivals)?;
     put_heights(lines, summary.fell)?;
-    put_number(lines, b"follower", summary.told)
+    put_followers(lines, &summary.told)
 }

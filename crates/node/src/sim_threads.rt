@@ -12,17 +12,17 @@ use std::thread;
 use std::thread::Threads;
 use witness_pool::{Gate, OpenGate, TestScheme};
 
-/// The numbers under which a gate is told of the threads: the adder's, the first peer's, and the client's.
+/// The numbers under which a gate is told of the threads: the adder's, the first peer's, and the first client's.
 const ADDER: usize = 1;
 
 const FIRST_PEER: usize = ADDER + 1;
 
-const CLIENT: usize = FIRST_PEER + PEERS;
+const FIRST_CLIENT: usize = FIRST_PEER + PEERS;
 
 /// How often the adder tries to take an arrival before it looks whether more comes.
 const TURNS: u64 = 64;
 
-/// How often the client asks what is next and how high the chain is while others send.
+/// How often a client asks what is next and how high the chain is while others send.
 const ROUNDS: u64 = 1_000;
 
 /// Takes in what is sent until the peers have ended. Where memory runs out for an arrival, which then stays with the
@@ -138,7 +138,7 @@ impl<B: Room> Client<B> {
         shared: &Shared<TestScheme, B>,
         mut caller: Caller<B>,
     ) -> Result<Client<B>, AllocError> {
-        // The only follower of a new core, so its number is free: what is refused is memory.
+        // A new core has a number for more followers than there are clients: what is refused is memory.
         let Ok(follower) = shared.open(rt, &mut caller) else {
             return Err(AllocError);
         };
@@ -242,16 +242,18 @@ fn watch<B: Room, R: Wait>(
     Some(client)
 }
 
-/// What the client's thread does.
+/// What the thread of a client does. Its place among the clients is counted from 0.
 pub fn run_client<B: Room, R: Wait, G: Gate>(
     rt: &R,
     shared: &Shared<TestScheme, B>,
     course: &Course,
     gate: &G,
+    place: usize,
     caller: Caller<B>,
 ) -> Option<Client<B>> {
-    gate.start(CLIENT);
+    let number = FIRST_CLIENT.saturating_add(place);
+    gate.start(number);
     let client = watch(rt, shared, course, caller);
-    gate.done(CLIENT);
+    gate.done(number);
     client
 }

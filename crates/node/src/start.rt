@@ -5,6 +5,7 @@ ghost use Rattle.clap.specs.Words.{kind_of};
 ghost use Rattle.scenario.specs.Run.{script_network, EndsWell};
 ghost use Rattle.node.specs.Ending.{EndsBySome};
 
+use crate::clients::Clients;
 use crate::command_line::job;
 use crate::failure::Failure;
 use crate::genesis_file::{MAX_GENESIS_SIZE, NoGenesis, read_genesis};
@@ -98,11 +99,12 @@ fn run_files<'a, R: Files + AllocGlobal, W: Write>(
     run_file(rt, genesis, script, out)
 }
 
-/// Runs the simulation that the script of a file says, on a network of this genesis.
+/// Runs the simulation that the script of a file says, with so many clients, on a network of this genesis.
 fn sim_file<'a, R: Files + AllocGlobal + Threads + Wait + Sync, W: Write>(
     rt: &R,
     genesis: Genesis,
     path: &'a str,
+    clients: Clients,
     out: &mut W,
 ) -> Result<(), Failure<'a>> {
     let Ok(file) = File::open(rt, path) else {
@@ -113,21 +115,22 @@ fn sim_file<'a, R: Files + AllocGlobal + Threads + Wait + Sync, W: Write>(
     let Ok(mut reader) = BufReader::new(rt.alloc(), script) else {
         return Err(Failure::Scenario(ScenarioFault::OutOfMemory));
     };
-    match sim(rt, genesis, &mut reader, out, &OpenGate) {
+    match sim(rt, genesis, &mut reader, out, clients, &OpenGate) {
         Ok(()) => Ok(()),
         Err(fault) => Err(Failure::Scenario(fault)),
     }
 }
 
-/// Runs the simulation that the script of a file says, under the genesis of another.
+/// Runs the simulation that the script of a file says, with so many clients, under the genesis of another.
 fn sim_files<'a, R: Files + AllocGlobal + Threads + Wait + Sync, W: Write>(
     rt: &R,
     genesis: &'a str,
     script: &'a str,
+    clients: Clients,
     out: &mut W,
 ) -> Result<(), Failure<'a>> {
     let genesis = genesis_of_file(rt, genesis)?;
-    sim_file(rt, genesis, script, out)
+    sim_file(rt, genesis, script, clients, out)
 }
 
 /// Tells why a command line is no job, and answers the status.
@@ -175,7 +178,11 @@ fn do_job<R: Files + AllocGlobal + Threads + Wait + Sync, O: Write, E: Write>(
             script,
             log: Some(log),
         } => tell(run_logged(rt, *genesis, *script, *log, out), err),
-        Job::Sim { genesis, script } => tell(sim_files(rt, *genesis, *script, out), err),
+        Job::Sim {
+            genesis,
+            script,
+            clients,
+        } => tell(sim_files(rt, *genesis, *script, *clients, out), err),
         Job::Replay { genesis, log } => tell(replay(rt, *genesis, *log, out), err),
     }
 }

@@ -77,7 +77,7 @@ fn sends_of_lines<R: BufRead>(
 ///
 /// ```text
 /// let mut script = b"block A1 genesis 1\nsend 2 A1\n".as_slice();
-/// let sends = scenario::sends(alloc, &genesis, &mut script, 4)?; // by peer 2, the bytes of A1
+/// let sends = scenario::sends(alloc, &genesis, &mut script, 8)?; // by peer 2, the bytes of A1
 /// ```
 ///
 /// A line is read whole before it is looked at, as by [`run`](crate::run).

@@ -81,22 +81,24 @@ fn capacities(rt: HostRuntime) {
     }
 }
 
-/// What is left is taken with the peers lent, of whom two sent nothing.
+/// What is left is taken with the peers lent, of whom six sent nothing.
 fn taken_at_last<B: Mailroom, R: Wait + Abort + AllocGlobal>(rt: &R, opened: Opened)
     requires table { opened.table ≡ B.table }
     requires capacity { opened.capacity ≡ B.capacity }
 {
     let (mut peers, mut adder) = opened.named::<B>().expect(rt, MEMORY);
     assert!(rt; enters(rt, &mut peers[2], b"one"));
-    assert!(rt; enters(rt, &mut peers[3], b"two"));
+    assert!(rt; enters(rt, &mut peers[7], b"two"));
     let first = adder.take_last(rt, &mut peers).expect(rt, "the first");
     assert!(rt; first.peer == 3);
     let second = adder.take_last(rt, &mut peers).expect(rt, "the second");
+    assert!(rt; second.peer == 8);
     assert!(rt; second.bytes.as_slice() == b"two".as_slice());
     assert!(rt; adder.take_last(rt, &mut peers).is_none());
     let finished = finish(peers, adder);
     is_finished(rt, &finished, 2, 1);
-    is_finished(rt, &finished, 0, 0);
+    is_finished(rt, &finished, 7, 1);
+    is_finished(rt, &finished, 3, 0);
 }
 
 #[test]

@@ -1,6 +1,6 @@
 use Rattle.std.proofs.Common.{ap, ◌∙◌}
 use Rattle.model.specs.Signature.{test_verifies}
-use Rattle.flushing.specs.Texts.{texts_of}
+use Rattle.chain_core.specs.Immutable.{texts_of}
 use Rattle.flushing.proofs.ForCallers.{begins_on_opened}
 use Rattle.node.proofs.log_runs.run_on_log.Goals as goal
 

@@ -7,8 +7,8 @@ use Rattle.witness_pool.specs.contracts.test_scheme.TestSchemeSigScheme.TheImpl 
 use Rattle.shared.proofs.ForCallers.{Shared-sync, Caller-send}
 use Rattle.node.proofs.sim.fn.run_threads.scope.Goals as goal
 
-pub spawn-watching-requires-send-F : goal.spawn-watching-requires-send-F
-spawn-watching-requires-send-F g c κs within =
+pub spawn-watcher-requires-send-F : goal.spawn-watcher-requires-send-F
+spawn-watcher-requires-send-F g c κs within =
     let bounds = c.requires.1.1.1.1 in
     let rt = bounds.4 in
     let gate = bounds.5 in
