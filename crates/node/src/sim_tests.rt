@@ -140,7 +140,8 @@ fn forty_blocks(rt: &(impl Abort + AllocGlobal), peers: u64) -> String {
         write!(lines, "block N{number} N{parent} {number}\n").expect(rt, MEMORY);
     }
     for number in 1..41u64 {
-        let peer = 1 + (number - 1) % peers;
+        let turn = (number - 1).checked_rem(peers).unwrap_or(0);
+        let peer = turn.saturating_add(1);
         write!(lines, "send {peer} N{number}\n").expect(rt, MEMORY);
     }
     lines
