@@ -9,6 +9,7 @@
 #![tactic(auto)]
 
 mod copying;
+pub mod laws;
 mod sharing;
 
 pub use copying::{core_on, flush};

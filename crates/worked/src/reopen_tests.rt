@@ -20,12 +20,6 @@ fn opened_on(rt: &(impl Abort + AllocGlobal), texts: &[Vec<u8>]) -> Box<Core<Tes
     boxed(rt, core.expect(rt, "a chain"))
 }
 
-/// How high a core is that is opened on these texts.
-fn height_on(rt: &(impl Abort + AllocGlobal), genesis: Genesis, texts: &[Vec<u8>]) -> u64 {
-    let core = Core::<TestScheme>::reopen(rt.alloc(), genesis, texts);
-    boxed(rt, core.expect(rt, "memory again")).height()
-}
-
 /// No core is opened on these texts, for the block of this number.
 fn is_refused(rt: &(impl Abort + AllocGlobal), texts: &[Vec<u8>], number: u64) {
     let core = boxed(
@@ -151,22 +145,4 @@ fn first_invalid_block(rt: HostRuntime) {
         .expect(&rt, MEMORY);
     put(&rt, &mut texts, &a1);
     is_refused(&rt, &texts, 2);
-}
-
-// Where memory runs out no core is opened, and the same call then succeeds.
-#[test]
-fn opened_again_after_want_of_memory(rt: HostRuntime) {
-    let mut texts = boxed(&rt, Vec::new(rt.alloc()));
-    for made in boxed(&rt, chain_of(&rt, 3)).iter() {
-        put(&rt, &mut texts, made);
-    }
-    let genesis = small_genesis(&rt);
-    let again = small_genesis(&rt);
-    let first = Core::<TestScheme>::reopen(rt.alloc(), genesis, &texts);
-    let height = match first {
-        Ok(core) => core.height(),
-        Err(ReopenFault::InvalidBlock(_)) => 0,
-        Err(ReopenFault::OutOfMemory) => height_on(&rt, again, &texts),
-    };
-    same(&rt, "height", height, 3);
 }

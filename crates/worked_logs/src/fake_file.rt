@@ -1,12 +1,13 @@
 //! A file of no system.
 
-use std::alloc::Global;
+use std::alloc::{AllocError, Global};
 use std::cell::Cell;
 use std::fs::{Metadata, OpenFile};
 use std::io;
 use std::io::{Read, Seek, SeekFrom, Write};
 
-/// A file in memory. Of the calls on it one that is chosen fails.
+/// A file in memory. Of the calls on it one that is chosen fails; a write that does puts no byte there, or half of its
+/// bytes.
 #[derive(Drop)]
 pub struct FakeFile {
     bytes: Vec<u8>,
@@ -14,6 +15,7 @@ pub struct FakeFile {
     len: Cell<usize>,
     place: usize,
     calls_left: Cell<u64>,
+    is_torn: bool,
 }
 
 impl FakeFile {
@@ -24,7 +26,35 @@ impl FakeFile {
             len: Cell::new(0),
             place: 0,
             calls_left: Cell::new(calls),
+            is_torn: false,
         }
+    }
+
+    /// The same, of which a write that fails puts half of its bytes there.
+    pub fn torn(alloc: Global, calls: u64) -> FakeFile {
+        FakeFile {
+            is_torn: true,
+            ..FakeFile::new(alloc, calls)
+        }
+    }
+
+    /// The same file, which fails in the call after so many others.
+    pub fn failing_after(self, calls: u64) -> FakeFile {
+        FakeFile {
+            calls_left: Cell::new(calls),
+            ..self
+        }
+    }
+
+    /// Another file of the same bytes.
+    pub fn try_clone(&self) -> Result<FakeFile, AllocError> {
+        Ok(FakeFile {
+            bytes: self.bytes.clone()?,
+            len: Cell::new(self.len.get()),
+            place: self.place,
+            calls_left: Cell::new(self.calls_left.get()),
+            is_torn: self.is_torn,
+        })
     }
 
     /// Whether this call works.
@@ -47,6 +77,16 @@ impl FakeFile {
         self.place = self.place.saturating_add(1);
         Ok(())
     }
+
+    /// Puts the bytes there.
+    fn put_all(&mut self, bytes: &[u8]) -> io::Result<()> {
+        self.bytes.truncate(self.len.get());
+        for byte in bytes {
+            self.put(*byte)?;
+        }
+        self.len.set(self.bytes.len());
+        Ok(())
+    }
 }
 
 impl Read for FakeFile {
@@ -63,12 +103,13 @@ impl Read for FakeFile {
 
 impl Write for FakeFile {
     fn write(&mut self, buf: &[u8]) -> io::Result<usize> {
-        self.works()?;
-        self.bytes.truncate(self.len.get());
-        for byte in buf {
-            self.put(*byte)?;
+        if let Err(error) = self.works() {
+            if self.is_torn {
+                self.put_all(&buf[..buf.len() / 2])?;
+            }
+            return Err(error);
         }
-        self.len.set(self.bytes.len());
+        self.put_all(buf)?;
         Ok(buf.len())
     }
 

@@ -10,6 +10,15 @@ use std::alloc::{AllocError, Global};
 use std::test::Fail;
 use std::thread::Threads;
 
+/// How many blocks are put on, one after the other.
+const APPENDED: usize = 10;
+
+/// The first of the calls that change a file while a log is opened on it, and how many there are at most: those before
+/// make sure what it holds and read it.
+const CHANGING: u64 = 4;
+
+const CHANGES: u64 = 6;
+
 fn two_blocks(alloc: Global) -> Result<Vec<Vec<u8>>, AllocError>
     ensures { IfOk result (λ blocks. AllByRecursion IsLogBlock (lists_of blocks.items)) }
 {
@@ -61,4 +70,103 @@ fn each_device_call_fails_once(rt: HostRuntime) -> Result<(), Fail> {
         }
     }
     Ok(())
+}
+
+fn one_block(alloc: Global) -> Result<Vec<Vec<u8>>, AllocError>
+    ensures { IfOk result (λ blocks. AllByRecursion IsLogBlock (lists_of blocks.items)) }
+{
+    let block = b"one".to_vec(alloc)?;
+    let mut blocks = Vec::new(alloc);
+    blocks.push(block)?;
+    Ok(blocks)
+}
+
+/// What a program leaves that stopped while it put blocks onto a log: how many it told durable, and the file.
+#[derive(Drop)]
+struct Left {
+    durable: usize,
+    file: FakeFile,
+}
+
+/// What is left where a program stops at the failing call of this file. None where it stops before there is a log.
+fn left_on(alloc: Global, file: FakeFile) -> Option<Left> {
+    let block = one_block(alloc).ok()?;
+    let disk = FileDisk::open(alloc, file).ok()?;
+    let mut log = Log::create(alloc, disk).ok()?;
+    for _ in 0..APPENDED {
+        if log.append(&block).is_err() {
+            break;
+        }
+    }
+    let durable = log.durable();
+    let file = log.into_disk().into_file();
+    Some(Left { durable, file })
+}
+
+/// What another program leaves that opens the log of this file, and stops at its failing call.
+fn left_again(rt: &(impl Threads + Sync), alloc: Global, file: FakeFile) -> Option<FakeFile> {
+    // The opening of a disk changes no byte.
+    let same = file.try_clone().ok()?;
+    let Ok(disk) = FileDisk::open(alloc, file) else {
+        return Some(same);
+    };
+    match Log::open(rt, alloc, disk) {
+        Ok(log) => Some(log.into_disk().into_file()),
+        Err((_fault, disk)) => Some(disk.into_file()),
+    }
+}
+
+/// How many blocks the log of this file has.
+fn opened_on(rt: &(impl Threads + Sync), alloc: Global, file: FakeFile) -> Option<usize> {
+    let disk = FileDisk::open(alloc, file.failing_after(u64::MAX)).ok()?;
+    match Log::open(rt, alloc, disk) {
+        Ok(log) => Some(log.durable()),
+        Err(_) => None,
+    }
+}
+
+/// Counts how many blocks more are opened than were told durable, after a second program stopped in whichever call of
+/// its opening that changes the file: none, one, or something else.
+fn count_opened(
+    rt: &(impl Threads + Sync),
+    alloc: Global,
+    left: &Left,
+    counts: &mut [u64; 3],
+) -> Option<()> {
+    for calls in CHANGING..CHANGING + CHANGES {
+        let file = left.file.try_clone().ok()?;
+        let again = left_again(rt, alloc, file.failing_after(calls))?;
+        let more = opened_on(rt, alloc, again)?
+            .wrapping_sub(left.durable)
+            .min(2);
+        counts[more] = counts[more].saturating_add(1);
+    }
+    Some(())
+}
+
+/// Counts this for each call of ten appends in which the first program stops, torn writes or not.
+fn count_stops(rt: &(impl Threads + Sync), alloc: Global, torn: bool, counts: &mut [u64; 3]) {
+    for calls in 0..100 {
+        let file = FakeFile::new(alloc, calls);
+        let torn_file = FakeFile::torn(alloc, calls);
+        let stopped = left_on(alloc, if torn { torn_file } else { file });
+        if let Some(left) = stopped
+            && left.durable < APPENDED
+        {
+            if count_opened(rt, alloc, &left, counts).is_none() {
+                counts[2] = counts[2].saturating_add(1);
+            }
+        }
+    }
+}
+
+// An append makes six calls: a record and its gate are each sought, written and made sure. Where the last of them fails
+// the gate is open, and the block is opened that wasn't told durable; where one of the five others does, it isn't.
+#[test]
+fn stops_in_ten_appends(rt: HostRuntime) {
+    for torn in [false, true] {
+        let mut counts = [0; 3];
+        count_stops(&rt, rt.alloc(), torn, &mut counts);
+        assert!(rt; counts == [50 * CHANGES, 10 * CHANGES, 0]);
+    }
 }

@@ -1,9 +1,8 @@
 //! Documents that are a genesis, and what it is then.
 
-use crate::networks::{MEMORY, OUTPUT, document, genesis_of, same};
-use genesis::{Genesis, GenesisFault};
+use crate::networks::{MEMORY, OUTPUT, genesis_of, same};
+use genesis::Genesis;
 use ident::KeyHash;
-use std::alloc::Global;
 use std::process::Abort;
 use tx::{Address, Credential};
 
@@ -64,20 +63,4 @@ fn outputs_in_their_order(rt: HostRuntime) {
     let genesis = genesis_of(&rt, TWO);
     same(&rt, "supply", genesis.supply(), 12);
     has_coins(&rt, &genesis, &[7, 5]);
-}
-
-/// The supply of a text's genesis.
-fn supply(alloc: Global, text: &str) -> Result<u64, GenesisFault> {
-    Ok(Genesis::from_toml(alloc, text)?.supply())
-}
-
-// Under `rt try --test --fail-alloc N` the refused call says so, and then succeeds.
-#[test]
-fn read_again_after_want_of_memory(rt: HostRuntime) {
-    let text = document(&rt, OUTPUT);
-    let mut told = supply(rt.alloc(), text.as_str());
-    if told == Err(GenesisFault::OutOfMemory) {
-        told = supply(rt.alloc(), text.as_str());
-    }
-    assert!(rt; told == Ok(1200));
 }

@@ -1,10 +1,9 @@
 //! A ledger database on a genesis of one output of 1,200 lovelace.
 
-use crate::ledger_tests::opening;
-use crate::networks::{MEMORY, boxed, same};
+use crate::networks::{MEMORY, OUTPUT, boxed, genesis_of, same};
 use crate::payments::{blocks_of, names_of};
 use block::CheckedBlock;
-use ledger::BlockFault;
+use ledger::{BlockFault, LedgerState};
 use ledgerdb::{ForkFault, LedgerDb};
 use script::Names;
 use std::process::Abort;
@@ -12,7 +11,9 @@ use witness_pool::TestScheme;
 
 /// A database of the chain without a block.
 pub fn new_db(rt: &(impl Abort + AllocGlobal), k: u64) -> Box<LedgerDb> {
-    boxed(rt, LedgerDb::new(rt.alloc(), opening(rt), k))
+    let genesis = genesis_of(rt, OUTPUT);
+    let opening = LedgerState::new(rt.alloc(), &genesis).expect(rt, MEMORY);
+    boxed(rt, LedgerDb::new(rt.alloc(), opening, k))
 }
 
 /// What a fork that rolls so many blocks back is refused for, or None where it is put on.

@@ -12,8 +12,6 @@ mod fault_tests;
 #[cfg(test)]
 mod genesis_tests;
 #[cfg(test)]
-mod ledger_tests;
-#[cfg(test)]
 mod ledgerdb_tests;
 #[cfg(test)]
 mod mempool_tests;

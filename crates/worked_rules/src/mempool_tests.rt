@@ -2,12 +2,12 @@
 //! is submitted stands in files of cases.
 
 use crate::core_tests::new_core;
-use crate::networks::{MEMORY, boxed, same};
+use crate::networks::{MEMORY, boxed};
 use crate::payments::{bytes_of, hash_of, names_of, payment_of};
-use chain_core::{Core, FollowerId, ForgeFault, RawEvent, Reply};
+use chain_core::{Core, FollowerId, RawEvent, Reply};
 use mempool::SubmitReply;
 use script::Names;
-use std::alloc::{AllocError, Global};
+use std::alloc::Global;
 use std::process::Abort;
 use witness_pool::TestScheme;
 
@@ -45,52 +45,6 @@ fn submitted_with_verdicts(rt: HostRuntime) {
     let mut core = new_core(&rt);
     let reply = core.submit_checked(tx).expect(&rt, MEMORY);
     assert!(rt; reply == SubmitReply::Added);
-}
-
-/// The answer to bytes that are submitted. It promises nothing, which keeps the proof of the test short.
-fn try_answer(core: &mut Core<TestScheme>, bytes: &[u8]) -> Result<SubmitReply, AllocError> {
-    core.submit(bytes)
-}
-
-/// The payment is submitted, once more where memory ran out, and waits then. Nothing had waited before that worked.
-fn added_at_last(rt: &impl Abort, core: &mut Core<TestScheme>, bytes: &[u8]) {
-    match try_answer(core, bytes) {
-        Ok(reply) => assert!(rt; reply == SubmitReply::Added),
-        Err(AllocError) => {
-            assert!(rt; core.mempool().is_empty());
-            assert!(rt; answer(rt, core, bytes) == SubmitReply::Added);
-        }
-    }
-    same(rt, "waiting", core.mempool().len() as u64, 1);
-    same(rt, "their bytes", core.mempool().bytes(), 190);
-}
-
-/// How many bytes the block of slot 5 has.
-fn forged_size(core: &Core<TestScheme>) -> Result<usize, ForgeFault> {
-    Ok(core.forge(5)?.bytes.len())
-}
-
-/// The same, asked once more where memory ran out.
-fn forged_at_last(rt: &impl Abort, core: &Core<TestScheme>) -> usize {
-    match forged_size(core) {
-        Ok(size) => size,
-        Err(fault) => {
-            assert!(rt; fault == ForgeFault::OutOfMemory);
-            forged_size(core).expect(rt, MEMORY)
-        }
-    }
-}
-
-// Under `rt try --test --fail-alloc N` the refused submission, or the refused forging, says so and changes nothing, and
-// then succeeds. The block has a header of 38 bytes, the heads of block and body, and the payment of 190.
-#[test]
-fn submitted_and_forged_again_after_want_of_memory(rt: HostRuntime) {
-    let names = names_of(&rt, "");
-    let text = good_text(&rt, &names);
-    let mut core = new_core(&rt);
-    added_at_last(&rt, &mut core, &text);
-    same(&rt, "forged bytes", forged_at_last(&rt, &core) as u64, 230);
-    same(&rt, "waiting", core.mempool().len() as u64, 1);
 }
 
 /// A payment twice, a block with it, and a follower that is told of it.

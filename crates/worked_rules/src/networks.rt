@@ -28,7 +28,7 @@ coin = 1200
 ";
 
 /// The document of the nine numbers and these outputs.
-pub fn document(rt: &(impl Abort + AllocGlobal), outputs: &str) -> String {
+fn document(rt: &(impl Abort + AllocGlobal), outputs: &str) -> String {
     format!(in rt.alloc(); "{NUMBERS}{outputs}").expect(rt, MEMORY)
 }
 

@@ -1,4 +1,4 @@
-//! Payments that are judged where an output stands in the place of their own, or beside want of memory.
+//! Payments that are judged where an output stands in the place of their own, and one that spends a thousand outputs.
 
 use crate::networks::{MEMORY, same};
 use crate::payments::{names_of, obey, payment_of};
@@ -106,35 +106,4 @@ fn a_thousand_inputs(rt: HostRuntime) {
     same(&rt, "its own", coin_at(&utxo, &first_of(&tx)), 9000);
     let coin = utxo.coin().expect(&rt, MEMORY);
     assert!(rt; coin == 9000);
-}
-
-/// The UTXO has the output of the genesis and no other.
-fn is_opening(rt: &impl Abort, utxo: &Utxo) {
-    same(rt, "outputs before", utxo.len() as u64, 1);
-    same(rt, "of the genesis", coin_at(utxo, &genesis(0)), 1200);
-}
-
-/// Puts the transaction into effect, once more where memory ran out. Nothing had changed before it worked.
-fn apply_at_last(rt: &impl Abort, utxo: &mut Utxo, tx: &CheckedTx<TestScheme>) {
-    is_opening(rt, utxo);
-    if apply(utxo, tx.tx()).is_err() {
-        is_opening(rt, utxo);
-        apply(utxo, tx.tx()).expect(rt, MEMORY);
-    }
-    same(rt, "outputs after", utxo.len() as u64, 1);
-    same(rt, "its own", coin_at(utxo, &first_of(tx)), 800);
-}
-
-// Under `rt try --test --fail-alloc N` the refused call says so and changes nothing, and then succeeds.
-#[test]
-fn judged_again_after_want_of_memory(rt: HostRuntime) {
-    let names = names_of(&rt, "");
-    let tx = payment_of(&rt, &names, "Minting");
-    let mut utxo = opening(&rt, 1, 1200);
-    let mut number = told(rt.alloc(), &PARAMS, &utxo, &tx);
-    if number == 15 {
-        number = told(rt.alloc(), &PARAMS, &utxo, &tx);
-    }
-    same(&rt, "told", number, 0);
-    apply_at_last(&rt, &mut utxo, &tx);
 }

@@ -1,6 +1,6 @@
 //! Blocks that arrive in bytes at one core, and seen at another: the same replies and the same chain.
 
-use crate::core_tests::{arrive, is_seen, kept, new_core};
+use crate::core_tests::{arrive, is_seen, new_core};
 use crate::networks::MEMORY;
 use crate::payments::{bytes_of, names_of};
 use block::Seen;
@@ -89,19 +89,4 @@ const LONGER: &[Row] = &[
 fn bytes_that_are_no_block(rt: HostRuntime) {
     let names = names_of(&rt, "block A1 genesis 1 Good");
     are_told(&rt, &names, LONGER, 1, 910, 290);
-}
-
-// Under `rt try --test --fail-alloc N` the refused arrival says so and changes nothing, and then succeeds.
-#[test]
-fn seen_again_after_want_of_memory(rt: HostRuntime) {
-    let names = names_of(&rt, "block A1 genesis 1 Good");
-    let bytes = bytes_of(&rt, &names, "A1");
-    let mut core = new_core(&rt);
-    let mut reply = arrive_seen(rt.alloc(), &mut core, bytes);
-    if reply.is_err() {
-        is_seen(&rt, &core, 0, 1200, 0);
-        reply = arrive_seen(rt.alloc(), &mut core, bytes);
-    }
-    assert!(rt; reply == Ok(kept(0, 1)));
-    is_seen(&rt, &core, 1, 910, 290);
 }

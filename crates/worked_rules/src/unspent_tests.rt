@@ -2,7 +2,6 @@
 
 use crate::networks::{MEMORY, boxed, same};
 use ident::{KeyHash, TxId};
-use std::alloc::{AllocError, Global};
 use std::process::Abort;
 use tx::{Address, Credential, Input, Output};
 use utxo_rules::{Entries, Utxo};
@@ -71,35 +70,6 @@ fn put_in_and_spent(rt: HostRuntime) {
     utxo.remove(&input(2)).expect(&rt, MEMORY);
     holds(&rt, &utxo, 1, 0, 0, 80);
     holds(&rt, &before, 2, 0, 910, 90);
-}
-
-/// Puts an output of so much lovelace at index 0, where so many stand, of this lovelace, once more where memory ran
-/// out.
-/// Nothing had changed before that worked.
-fn put_at_last(
-    rt: &(impl Abort + AllocGlobal),
-    utxo: &mut Utxo,
-    count: u64,
-    stood: u64,
-    coin: u64,
-) {
-    holds(rt, utxo, count, stood, 0, 0);
-    let output = output(rt, coin);
-    if utxo.insert(&input(0), output).is_err() {
-        holds(rt, utxo, count, stood, 0, 0);
-        put_unspent(rt, utxo, &input(0), coin);
-    }
-    holds(rt, utxo, 1, coin, 0, 0);
-}
-
-// Under `rt try --test --fail-alloc N` the refused call answers Err and changes nothing, and then succeeds.
-#[test]
-fn again_after_want_of_memory(rt: HostRuntime) {
-    let mut utxo = no_outputs(&rt);
-    put_at_last(&rt, &mut utxo, 0, 0, 1);
-    let before = copy_of(&rt, &utxo);
-    put_at_last(&rt, &mut utxo, 1, 1, 2);
-    holds(&rt, &before, 1, 1, 0, 0);
 }
 
 /// The next output that is met stands at this index, of as much lovelace.

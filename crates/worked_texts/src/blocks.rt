@@ -135,16 +135,3 @@ pub fn has_no_beginning(rt: &(impl Abort + AllocGlobal), text: &[u8]) {
 fn cut_bytes(rt: HostRuntime) {
     has_no_beginning(&rt, &FIRST);
 }
-
-// Under `rt try --test --fail-alloc 1`, and 2, the first call has no memory, and the second answers.
-#[test]
-fn read_again_after_want_of_memory(rt: HostRuntime) {
-    let block = match read(rt.alloc(), &FIRST) {
-        Ok(block) => boxed(&rt, block),
-        Err(fault) => {
-            check(&rt, "memory", fault == ReadFault::OutOfMemory);
-            block_of(&rt, &FIRST)
-        }
-    };
-    check(&rt, "read", block.bytes() == FIRST.as_slice());
-}

@@ -116,18 +116,14 @@ const PARTS: &[(Part, bool)] = &[
     (Part::Supply(1), true),
 ];
 
-/// Adds a part, once more where memory ran out: then nothing was added. Whether it is added.
+/// Adds a part. Whether it is added.
 fn is_added(rt: &(impl Abort + AllocGlobal), draft: &mut Draft, part: Part) -> bool {
-    let mut added = add(rt, draft, part);
-    if added == Err(DraftFault::OutOfMemory) {
-        added = add(rt, draft, part);
-    }
+    let added = add(rt, draft, part);
     check(rt, "memory", added != Err(DraftFault::OutOfMemory));
     added.is_ok()
 }
 
-// Two outputs are there before the others. Under `rt try --test --fail-alloc N` with the number of an allocation of one
-// of the first calls the same call succeeds then.
+// Two outputs are there before the others.
 #[test]
 fn parts_of_drafts(rt: HostRuntime) {
     let mut draft = boxed(&rt, Draft::new(rt.alloc()));

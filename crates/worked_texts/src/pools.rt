@@ -72,16 +72,6 @@ fn numbers_of_workers(rt: HostRuntime) {
     }
 }
 
-// Under `rt try --test --fail-alloc N` the refused call says so, and then succeeds.
-#[test]
-fn checked_again_after_want_of_memory(rt: HostRuntime) {
-    let mut count = count_by(&rt, 2, 3);
-    if count == Err(PoolFault::OutOfMemory) {
-        count = count_by(&rt, 2, 3);
-    }
-    check(&rt, "three", count == Ok(3));
-}
-
 /// A gate at which each of the first two jobs waits for the other to begin.
 #[derive(Drop)]
 struct Meeting {

@@ -3,7 +3,6 @@
 use super::fixture::{MEMORY, boxed, check};
 use super::values::{mint_of, value_of};
 use ident::ScriptHash;
-use std::alloc::AllocError;
 use std::process::Abort;
 use std::slice::Iter;
 use value::{Amounts, Mint, Totals, Value};
@@ -116,21 +115,22 @@ fn mints(rt: &(impl Abort + AllocGlobal)) -> Vec<Mint> {
     mints
 }
 
-/// Makes a change. The sums are as they were where memory runs out.
+/// Makes a change.
 fn make_change(
     rt: &impl Abort,
     totals: &mut Totals,
     values: &[Value],
     mints: &[Mint],
     change: Change,
-) -> Result<(), AllocError> {
+) {
     // Sums have room for 2^62 values.
     assert!(rt; totals.values() < 99);
-    match change {
+    let made = match change {
         Change::Add(place) => values.get(place).expect(rt, "a value").add_to(totals),
         Change::Take(place) => values.get(place).expect(rt, "a value").take_from(totals),
         Change::Mint(place) => mints.get(place).expect(rt, "a mint").add_to(totals),
-    }
+    };
+    made.expect(rt, MEMORY);
 }
 
 /// The sums are balanced so, with these sums of lovelace and of the empty name.
@@ -142,8 +142,6 @@ fn are_so(rt: &impl Abort, totals: &Totals, balanced: bool, coin: i128, unnamed:
     check(rt, "balanced", totals.is_balanced() == balanced);
 }
 
-// Under `rt try --test --fail-alloc N` with the number of an allocation of a change nothing has changed, and the same
-// call succeeds then.
 #[test]
 fn sums_behind_changes(rt: HostRuntime) {
     let values = boxed(&rt, values(&rt));
@@ -151,9 +149,7 @@ fn sums_behind_changes(rt: HostRuntime) {
     let mut totals = boxed(&rt, Totals::new(rt.alloc()));
     are_so(&rt, &totals, true, 0, 0);
     for (change, balanced, coin, unnamed) in CHANGES {
-        if make_change(&rt, &mut totals, &values, &mints, *change).is_err() {
-            make_change(&rt, &mut totals, &values, &mints, *change).expect(&rt, MEMORY);
-        }
+        make_change(&rt, &mut totals, &values, &mints, *change);
         are_so(&rt, &totals, *balanced, *coin, *unnamed);
     }
     check(&rt, "changes", totals.values() == 24);
@@ -178,16 +174,13 @@ fn are_listed(rt: &impl Abort, totals: &Totals, sums: &[Listed]) {
     check(rt, "all listed", sums.next().is_none());
 }
 
-// Under `rt try --test --fail-alloc N` with the number of an allocation of a change the same call succeeds then.
 #[test]
 fn listed_behind_changes(rt: HostRuntime) {
     let values = boxed(&rt, values(&rt));
     let mints = boxed(&rt, mints(&rt));
     let mut totals = boxed(&rt, Totals::new(rt.alloc()));
     for (change, listed) in LISTED {
-        if make_change(&rt, &mut totals, &values, &mints, *change).is_err() {
-            make_change(&rt, &mut totals, &values, &mints, *change).expect(&rt, MEMORY);
-        }
+        make_change(&rt, &mut totals, &values, &mints, *change);
         are_listed(&rt, &totals, *listed);
     }
 }

@@ -233,22 +233,3 @@ fn coin_alone_and_nothing_minted(rt: HostRuntime) {
     let nothing = boxed(&rt, Mint::nothing(rt.alloc()));
     check(&rt, "nothing", *made == *nothing);
 }
-
-/// How many policies the value of the sorted assets has, or why there is none.
-fn policies_of_both(rt: &(impl Abort + AllocGlobal)) -> Result<usize, AssetFault> {
-    match value_of(rt, 1, ONE_ORDER) {
-        Ok(value) => Ok(value.assets().len()),
-        Err(fault) => Err(fault),
-    }
-}
-
-/// With an allocation refused (`rt try --test --fail-alloc N`) the answer is OutOfMemory, and the next call makes
-/// the value.
-#[test]
-fn refused_memory(rt: HostRuntime) {
-    let mut policies = policies_of_both(&rt);
-    if policies == Err(AssetFault::OutOfMemory) {
-        policies = policies_of_both(&rt);
-    }
-    check(&rt, "made", policies == Ok(2));
-}

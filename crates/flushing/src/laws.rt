@@ -1,0 +1,23 @@
+//! Laws of a log beside a core.
+
+ghost use Rattle.std.specs.Prelude.{◌≡◌, ℕ, List};
+ghost use Rattle.model.specs.Signature.{Verifies};
+ghost use Rattle.model.specs.History.{State, Event, Reply};
+ghost use Rattle.chain_core.specs.Held.{Held, Stands};
+ghost use Rattle.chain_core.specs.Immutable.{immutable_texts};
+ghost use Rattle.chain_core.specs.Steps.{Steps};
+ghost use Rattle.flushing.specs.Courses.{Act, IsCourse};
+ghost use Rattle.flushing.specs.Texts.{Begins};
+
+/// What [`crate::flush`] asks for stays: the blocks that are never rolled back only grow.
+pub fn flush_may_come_again()
+    // Whatever event comes to a core that stands for a state, as every core does,
+    ensures event { (verifies : Verifies) (before after : Held) (state : State) (event : Event) (reply : Reply)
+        (log : List (List ℕ)) → Stands before state → Steps verifies before event reply after
+        → after.genesis ≡ before.genesis → after.opened ≡ before.opened
+        → Begins log (immutable_texts verifies before) → Begins log (immutable_texts verifies after) }
+    // and through every list of events and flushes.
+    ensures course { (verifies : Verifies) (before after : Held) (state : State) (acts : List Act)
+        (log left : List (List ℕ)) → Stands before state → IsCourse verifies before log acts after left
+        → Begins log (immutable_texts verifies before) → Begins left (immutable_texts verifies after) }
+{}
