@@ -63,7 +63,7 @@ impl Plan {
 }
 
 /// A core that nothing has come to. In a box it is dropped by a call, which keeps the proofs of what owns it short.
-fn open(alloc: Global) -> Option<Box<Core<TestScheme>>> {
+pub fn open(alloc: Global) -> Option<Box<Core<TestScheme>>> {
     let core = Core::new(alloc, genesis(alloc, FAR_BACK)?).ok()?;
     Box::new(alloc, core).ok()
 }
@@ -78,7 +78,7 @@ fn are_open(core: &mut Core<TestScheme>, followers: u64) -> bool {
 }
 
 /// Has a block arrive, and answers whether it is kept.
-fn is_kept(core: &mut Core<TestScheme>, text: &[u8]) -> bool {
+pub fn is_kept(core: &mut Core<TestScheme>, text: &[u8]) -> bool {
     match core.arrive(text) {
         Ok(ArriveReply::Kept { .. }) => true,
         _ => false,

@@ -20,20 +20,20 @@ const BLOCKS: [(&str, u16); 3] = [
 ];
 
 /// The state of the genesis. In a box it is dropped by a call, which keeps the proofs of what owns it short.
-fn opening(alloc: Global) -> Option<Box<LedgerState>> {
+pub fn opening(alloc: Global) -> Option<Box<LedgerState>> {
     let genesis = genesis(alloc, NEAR)?;
     let state = LedgerState::new(alloc, &genesis).ok();
     Box::new(alloc, state?).ok()
 }
 
 /// The block of a text.
-fn block_of(alloc: Global, text: &[u8]) -> Option<Box<CheckedBlock<TestScheme>>> {
+pub fn block_of(alloc: Global, text: &[u8]) -> Option<Box<CheckedBlock<TestScheme>>> {
     let block = CheckedBlock::read(alloc, text).ok()?;
     Box::new(alloc, block).ok()
 }
 
 /// The state after a block.
-fn after(
+pub fn after(
     alloc: Global,
     state: &LedgerState,
     block: &CheckedBlock<TestScheme>,
@@ -48,7 +48,7 @@ fn is_applied(state: &LedgerState, block: &CheckedBlock<TestScheme>) -> bool {
 }
 
 /// Applies a block of one transaction that makes outputs.
-fn grow(alloc: Global, growing: &mut Growing, state: &LedgerState) -> Option<Box<LedgerState>> {
+pub fn grow(alloc: Global, growing: &mut Growing, state: &LedgerState) -> Option<Box<LedgerState>> {
     let text = growing.next_text(alloc);
     let block = block_of(alloc, &text)?;
     after(alloc, state, &block)

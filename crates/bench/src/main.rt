@@ -8,7 +8,10 @@ mod cores;
 mod following;
 mod keys;
 mod ledger_states;
+mod load;
+mod logs;
 mod maps;
+mod memory;
 mod networks;
 mod peers;
 mod pools;
@@ -27,13 +30,18 @@ enum Asked {
     Maps,
     Blocks,
     Ledger,
+    Logs,
     Scripts,
     Arrivals,
     Followers,
     Mempool,
+    Memory,
     Reopening,
     Pools,
     Peers,
+    Load,
+    /// Blocks are put onto a log until the program is killed.
+    Appending,
     /// What is measured once, to see that it can be.
     Names,
 }
@@ -44,13 +52,17 @@ fn asked_by(word: &str) -> Option<Asked> {
         "persistent_map" => Some(Asked::Maps),
         "blocks" => Some(Asked::Blocks),
         "ledger" => Some(Asked::Ledger),
+        "log" => Some(Asked::Logs),
         "scripts" => Some(Asked::Scripts),
         "arrivals" => Some(Asked::Arrivals),
         "followers" => Some(Asked::Followers),
         "mempool" => Some(Asked::Mempool),
+        "memory" => Some(Asked::Memory),
         "reopen" => Some(Asked::Reopening),
         "pools" => Some(Asked::Pools),
         "peers" => Some(Asked::Peers),
+        "load" => Some(Asked::Load),
+        "append" => Some(Asked::Appending),
         _ => None,
     }
 }
@@ -76,20 +88,24 @@ fn main(rt: HostRuntime) -> io::Result<()> {
         Asked::Maps => maps::measure(&rt),
         Asked::Blocks => blocks::measure(&rt, Telling::Times),
         Asked::Ledger => ledger_states::measure(&rt),
+        Asked::Logs => logs::measure(&rt),
         Asked::Scripts => scripts::measure(&rt),
         Asked::Arrivals => arrivals::measure(&rt),
         Asked::Followers => following::measure(&rt),
         Asked::Mempool => waiting::measure(&rt),
+        Asked::Memory => memory::measure(&rt),
         Asked::Reopening => reopening::measure(&rt),
         Asked::Pools => pools::measure(&rt, rt.alloc(), Telling::Times),
         Asked::Peers => peers::measure(&rt, rt.alloc(), Telling::Times),
+        Asked::Load => load::measure(&rt, rt.alloc()),
+        Asked::Appending => logs::append(&rt),
         Asked::Names => {
             blocks::measure(&rt, Telling::Names)?;
             pools::measure(&rt, rt.alloc(), Telling::Names)?;
             peers::measure(&rt, rt.alloc(), Telling::Names)?;
             println!(rt;
                 "to measure: bench persistent_map, bench blocks, bench ledger, bench scripts, bench pools, \
-bench peers, bench arrivals, bench followers, bench mempool, bench reopen"
+bench peers, bench arrivals, bench followers, bench mempool, bench reopen, bench log, bench load, bench memory"
             )
         }
     }

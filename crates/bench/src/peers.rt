@@ -1,4 +1,5 @@
-//! Blocks that peers send, brought to a shared core by an adder, while one caller reads the height.
+//! Blocks that peers send from threads of their own, brought to a shared core by an adder, while one caller reads the
+//! height.
 
 ghost use Rattle.std.specs.Prelude.{◌≡◌};
 ghost use Rattle.witness_pool.specs.Workers.{AreWorkers};
@@ -9,15 +10,16 @@ use crate::timing::{Telling, nanos_if, now, print};
 use inbox::{Mailroom, PEERS, PeerEnd};
 use shared::{Adder, Caller, Room, Shared};
 use std::alloc::Global;
-use std::io;
 use std::marker::Brand;
 use std::rt::Clock;
 use std::sync::Wait;
-use std::thread::{self, Threads, join};
+use std::sync::atomic::{AtomicBool, Ordering};
+use std::thread::Threads;
+use std::{io, thread};
 use witness_pool::{OpenGate, Pool, TestScheme};
 
-/// How many places the inbox has: all blocks lie in it before the adder begins.
-const PLACES: usize = inbox::MAX_CAPACITY;
+/// How many places the inbox has.
+const PLACES: usize = 64;
 
 /// How often the adder tries to take before it looks how many it has brought.
 const TURNS: u64 = 64;
@@ -27,9 +29,9 @@ const MOST_READS: u64 = 1_000_000_000;
 
 /// How many calls a thread made, and how long they took together.
 #[derive(Clone, Copy)]
-struct Work {
-    calls: u64,
-    nanos: Option<u128>,
+pub struct Work {
+    pub calls: u64,
+    pub nanos: Option<u128>,
 }
 
 /// What was done by the adder, and by the one who watched.
@@ -39,19 +41,48 @@ struct Measured {
     watched: Work,
 }
 
-/// The peers send these blocks in turns, each the next one. So they come in the order of the chain.
-fn send_all<M: Mailroom, R: Wait>(
-    rt: &R,
-    peers: &mut [PeerEnd<M>; PEERS],
+/// A peer with what it sends.
+#[derive(Drop)]
+pub struct Sender<M: Mailroom> {
+    end: PeerEnd<M>,
     texts: Vec<Vec<u8>>,
-) -> u64 {
-    let mut sent = 0u64;
-    for (n, bytes) in texts.into_iter().enumerate() {
-        if peers[n % PEERS].send(rt, bytes).is_ok() {
-            sent = sent.saturating_add(1);
+}
+
+/// Sends each of the texts, and tries again where the inbox is full, until all is to end.
+pub fn send_each<M: Mailroom, R: Wait>(rt: &R, sender: Sender<M>, ended: &AtomicBool) {
+    let Sender { mut end, texts } = sender;
+    for text in texts {
+        let mut unsent = text;
+        'tries: for _ in rt.forever() {
+            match end.send(rt, unsent) {
+                Ok(()) => break 'tries,
+                Err(full) => unsent = full.bytes,
+            }
+            if ended.load(Ordering::SeqCst) {
+                return;
+            }
+            thread::yield_now();
         }
     }
-    sent
+}
+
+/// The first so many peers, each with every so manieth of the blocks.
+pub fn dealt<M: Mailroom>(
+    alloc: Global,
+    ends: [PeerEnd<M>; PEERS],
+    many: usize,
+    texts: Vec<Vec<u8>>,
+) -> Option<Vec<Sender<M>>> {
+    let mut senders = Vec::new(alloc);
+    for end in Vec::from_array(alloc, ends).ok()? {
+        let texts = Vec::new(alloc);
+        senders.push(Sender { end, texts }).ok()?;
+    }
+    for (n, text) in texts.into_iter().enumerate() {
+        let place = n.checked_rem(many)?;
+        senders.get_mut(place)?.texts.push(text).ok()?;
+    }
+    Some(senders)
 }
 
 /// Brings so many blocks, however often it has to be tried. Where memory runs out it is tried again.
@@ -74,46 +105,50 @@ fn bring_all<B: Room, M: Mailroom, R: Threads + Wait + Sync>(
     }
 }
 
-/// Brings all blocks, and tells how long that took.
-fn bring<B: Room, M: Mailroom, R: Threads + Wait + Clock + Sync>(
+/// Brings all blocks, and tells how long that took. Whoever watches is then to end.
+pub fn bring<B: Room, M: Mailroom, R: Threads + Wait + Clock + Sync>(
     rt: &R,
     shared: &Shared<TestScheme, B>,
-    mut adder: Adder<OpenGate, B, M>,
+    adder: &mut Adder<OpenGate, B, M>,
     blocks: u64,
+    ended: &AtomicBool,
 ) -> Work {
     let start = now(rt);
-    bring_all(rt, shared, &mut adder, blocks);
+    bring_all(rt, shared, adder, blocks);
+    let nanos = nanos_if(rt, start, true);
+    ended.store(true, Ordering::SeqCst);
     Work {
         calls: blocks,
-        nanos: nanos_if(rt, start, true),
+        nanos,
     }
 }
 
-/// Reads the height until it is this one, and tells how often.
+/// Reads the height until it is told to end, and tells how often.
 fn watch_until<B: Room>(
     shared: &Shared<TestScheme, B>,
     caller: &mut Caller<B>,
-    height: u64,
+    ended: &AtomicBool,
 ) -> u64 {
     let mut calls = 0u64;
     for _ in 0..MOST_READS {
-        calls = calls.saturating_add(1);
-        if shared.height(caller) >= height {
+        if ended.load(Ordering::SeqCst) {
             break;
         }
+        shared.height(caller);
+        calls = calls.saturating_add(1);
     }
     calls
 }
 
-/// Reads the height until it is this one, and tells how long that took.
+/// Reads the height until it is told to end, and tells how long that took.
 fn watch<R: Clock, B: Room>(
     rt: &R,
     shared: &Shared<TestScheme, B>,
     mut caller: Caller<B>,
-    height: u64,
+    ended: &AtomicBool,
 ) -> Work {
     let start = now(rt);
-    let calls = watch_until(shared, &mut caller, height);
+    let calls = watch_until(shared, &mut caller, ended);
     Work {
         calls,
         nanos: nanos_if(rt, start, true),
@@ -127,20 +162,40 @@ fn two_of<B: Room>(callers: &mut Vec<Caller<B>>) -> Option<(Caller<B>, Caller<B>
     Some((one, other))
 }
 
-/// One thread brings so many blocks, and one reads the height until it has seen them all.
-fn run_both<B: Room + Send + Sync, M: Mailroom + Send + Sync, R: Threads + Wait + Clock + Sync>(
+/// Each peer sends from a thread of its own what this thread brings, while another reads the height. None where a
+/// thread couldn't be started.
+fn run_all<B: Room + Send + Sync, M: Mailroom + Send + Sync, R: Threads + Wait + Clock + Sync>(
     rt: &R,
     shared: &Shared<TestScheme, B>,
-    adder: Adder<OpenGate, B, M>,
+    mut adder: Adder<OpenGate, B, M>,
+    senders: Vec<Sender<M>>,
     watcher: Caller<B>,
     blocks: u64,
-) -> Measured {
-    let (watched, brought) = join(
-        rt,
-        || -> Work { watch(rt, shared, watcher, blocks) },
-        || -> Work { bring(rt, shared, adder, blocks) },
-    );
-    Measured { brought, watched }
+) -> Option<Measured> {
+    let ended = AtomicBool::new(false);
+    let ended = &ended;
+    thread::scope(thread::scope_env(), rt, move |scope| -> Option<Measured> {
+        let watching = scope.spawn(move || watch(rt, shared, watcher, ended));
+        let mut all = true;
+        for sender in senders {
+            all &= scope.spawn(move || send_each(rt, sender, ended)).is_ok();
+        }
+        if !all {
+            ended.store(true, Ordering::SeqCst);
+            return None;
+        }
+        let brought = bring(rt, shared, &mut adder, blocks, ended);
+        let watched = watching.ok()?.join(rt);
+        Some(Measured { brought, watched })
+    })
+}
+
+/// What is run: blocks, which so many peers send, and whose transactions so many workers check.
+#[derive(Drop)]
+struct Load {
+    texts: Vec<Vec<u8>>,
+    peers: usize,
+    workers: usize,
 }
 
 /// Opens the inbox under a name, and runs the measurement. None where it can't be made.
@@ -150,18 +205,18 @@ fn run_inbox<B: Room + Send + Sync, M: Mailroom + Send + Sync, R: Threads + Wait
     shared: &Shared<TestScheme, B>,
     callers: &mut Vec<Caller<B>>,
     inbox: inbox::Opened,
-    texts: Vec<Vec<u8>>,
-    workers: usize,
+    load: Load,
 ) -> Option<Measured>
     requires queue { inbox.table ≡ M.table }
     requires capacity { inbox.capacity ≡ M.capacity }
-    requires workers { AreWorkers workers }
+    requires workers { AreWorkers load.workers }
 {
     let (watcher, caller) = two_of(callers)?;
-    let (mut peers, end) = inbox.named::<M>().ok()?;
-    let adder = Adder::new(alloc, end, caller, Pool::new(OpenGate), workers);
-    let blocks = send_all(rt, &mut peers, texts);
-    Some(run_both(rt, shared, adder, watcher, blocks))
+    let (ends, end) = inbox.named::<M>().ok()?;
+    let blocks = load.texts.len() as u64;
+    let senders = dealt(alloc, ends, load.peers, load.texts)?;
+    let adder = Adder::new(alloc, end, caller, Pool::new(OpenGate), load.workers);
+    run_all(rt, shared, adder, senders, watcher, blocks)
 }
 
 /// Opens the core under a name, and runs the measurement. None where it can't be made.
@@ -170,48 +225,41 @@ fn run_core<B: Room + Send + Sync, R: Threads + Wait + Clock + Sync>(
     alloc: Global,
     opened: shared::Opened<TestScheme>,
     inbox: inbox::Opened,
-    texts: Vec<Vec<u8>>,
-    workers: usize,
+    load: Load,
 ) -> Option<Measured>
     requires table { opened.table ≡ B.table }
     requires genesis { opened.genesis ≡ B.genesis }
-    requires workers { AreWorkers workers }
+    requires workers { AreWorkers load.workers }
 {
     let (shared, mut callers) = opened.named::<B>().ok()?;
-    run_inbox::<B, Brand, R>(rt, alloc, &shared, &mut callers, inbox, texts, workers)
+    run_inbox::<B, Brand, R>(rt, alloc, &shared, &mut callers, inbox, load)
 }
 
-/// Runs the measurement on these blocks. None where it can't be made.
-fn time<R: Threads + Wait + Clock + Sync>(
-    rt: &R,
-    alloc: Global,
-    texts: Vec<Vec<u8>>,
-    workers: usize,
-) -> Option<Measured>
-    requires { AreWorkers workers }
+/// Runs the measurement. None where it can't be made.
+fn time<R: Threads + Wait + Clock + Sync>(rt: &R, alloc: Global, load: Load) -> Option<Measured>
+    requires { AreWorkers load.workers }
 {
-    let opened = shared::Opened::new(alloc, genesis(alloc, FAR_BACK)?, 2).ok()?;
     let inbox = inbox::Opened::new(alloc, PLACES).ok()?;
-    run_core::<Brand, R>(rt, alloc, opened, inbox, texts, workers)
+    let opened = shared::Opened::new(alloc, genesis(alloc, FAR_BACK)?, 2).ok()?;
+    run_core::<Brand, R>(rt, alloc, opened, inbox, load)
 }
 
-/// Runs the measurement on these blocks, and prints its names, or what it took a block and a look at the height.
-fn measure_blocks<R: Threads + Wait + Clock + Print + Sync>(
+/// Runs the measurement, and prints its names, or what it took a block and a look at the height.
+fn measure_load<R: Threads + Wait + Clock + Print + Sync>(
     rt: &R,
     alloc: Global,
     telling: Telling,
     name: &str,
-    texts: Vec<Vec<u8>>,
-    workers: usize,
+    load: Load,
 ) -> io::Result<()>
-    requires { AreWorkers workers }
+    requires { AreWorkers load.workers }
 {
-    let blocks = texts.len() as u64;
+    let blocks = load.texts.len() as u64;
     let none = Work {
         calls: 0,
         nanos: None,
     };
-    let (brought, watched) = match time(rt, alloc, texts, workers) {
+    let (brought, watched) = match time(rt, alloc, load) {
         Some(Measured { brought, watched }) => (brought, watched),
         None => (none, none),
     };
@@ -226,6 +274,46 @@ fn measure_blocks<R: Threads + Wait + Clock + Print + Sync>(
     )
 }
 
+/// Runs the measurement of so many blocks without transactions, from 1, 2, 4 and all peers.
+fn measure_empty<R: Threads + Wait + Clock + Print + Sync>(
+    rt: &R,
+    alloc: Global,
+    telling: Telling,
+    blocks: u64,
+) -> io::Result<()> {
+    for (name, peers) in [
+        ("Adder::run, 1 peer", 1),
+        ("Adder::run, 2 peers", 2),
+        ("Adder::run, 4 peers", 4),
+        ("Adder::run, all peers", PEERS),
+    ] {
+        let load = Load {
+            texts: empty_blocks(alloc, blocks),
+            peers,
+            workers: 1,
+        };
+        measure_load(rt, alloc, telling, name, load)?;
+    }
+    Ok(())
+}
+
+/// Runs the measurement of blocks of a hundred payments, from 4 peers.
+fn measure_paying<R: Threads + Wait + Clock + Print + Sync>(
+    rt: &R,
+    alloc: Global,
+    name: &str,
+    workers: usize,
+) -> io::Result<()>
+    requires { AreWorkers workers }
+{
+    let load = Load {
+        texts: paying_blocks(alloc, 100),
+        peers: 4,
+        workers,
+    };
+    measure_load(rt, alloc, Telling::Times, name, load)
+}
+
 /// Runs each measurement, and prints what it took; where names are asked for, one of a few blocks.
 pub fn measure<R: Threads + Wait + Clock + Print + Sync>(
     rt: &R,
@@ -233,42 +321,10 @@ pub fn measure<R: Threads + Wait + Clock + Print + Sync>(
     telling: Telling,
 ) -> io::Result<()> {
     if telling == Telling::Names {
-        return measure_blocks(
-            rt,
-            alloc,
-            telling,
-            "Adder::run",
-            empty_blocks(alloc, 300),
-            2,
-        );
+        return measure_empty(rt, alloc, telling, 100);
     }
-    let empty = empty_blocks(alloc, 4_000);
-    measure_blocks(rt, alloc, telling, "Adder::run on empty blocks", empty, 1)?;
-    let paying = paying_blocks(alloc, 100);
-    measure_blocks(
-        rt,
-        alloc,
-        telling,
-        "Adder::run on payments, 1 worker",
-        paying,
-        1,
-    )?;
-    let paying = paying_blocks(alloc, 100);
-    measure_blocks(
-        rt,
-        alloc,
-        telling,
-        "Adder::run on payments, 2 workers",
-        paying,
-        2,
-    )?;
-    let paying = paying_blocks(alloc, 100);
-    measure_blocks(
-        rt,
-        alloc,
-        telling,
-        "Adder::run on payments, 4 workers",
-        paying,
-        4,
-    )
+    measure_empty(rt, alloc, telling, 100_000)?;
+    measure_paying(rt, alloc, "Adder::run on payments, 1 worker", 1)?;
+    measure_paying(rt, alloc, "Adder::run on payments, 2 workers", 2)?;
+    measure_paying(rt, alloc, "Adder::run on payments, 4 workers", 4)
 }

@@ -10,7 +10,7 @@ use std::io;
 use witness_pool::TestScheme;
 
 /// How many payments a block has.
-const PAYMENTS: usize = 100;
+pub const PAYMENTS: usize = 100;
 
 /// The texts of so many blocks without transactions.
 pub fn empty_blocks(alloc: Global, blocks: u64) -> Vec<Vec<u8>> {

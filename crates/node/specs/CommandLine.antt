@@ -3,7 +3,7 @@ use Rattle.std.specs.Prelude.{true, [], ◌∷◌, Some, codes}
 use Rattle.clap.specs.declared.builder.action.ArgAction.TheVariants.{Set}
 use Rattle.clap.specs.declared.builder.value_parser.ValueParser.TheVariants.{Unsigned}
 use Rattle.clap.specs.Words.{Text, Rule, Shape, App, new_rule, new_app, with_rule, with_subcommand}
-use Rattle.node.specs.Clients.{clients_limit}
+use Rattle.simulation.specs.Clients.{clients_limit}
 
 -- an option with one value
 abbrev pub option_rule : Text → Rule

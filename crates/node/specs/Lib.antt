@@ -1,6 +1,4 @@
-pub mod Clients
 pub mod CommandLine
 pub mod JobView
 pub mod Ending
 pub mod GenesisFile
-pub mod Simulation

@@ -7,11 +7,11 @@ ghost use Rattle.node.specs.CommandLine.{option_rule, required_rule, clients_rul
 ghost use Rattle.node.specs.CommandLine.{bare_app, script_app, node_app};
 ghost use Rattle.node.specs.JobView.{IsJobOf, IsRunJob, IsSimJob, IsReplayJob};
 
-use crate::clients::{Clients, MAX_CLIENTS};
 use crate::jobs::Job;
 use clap::builder::ValueParser;
 use clap::error::ErrorKind;
 use clap::{Arg, ArgAction, ArgMatches, Command, Error};
+use simulation::{Clients, MAX_CLIENTS};
 use std::alloc::{AllocError, Global};
 
 /// An option with the path of a file.

@@ -1,6 +1,6 @@
 //! What the program can do.
 
-use crate::clients::Clients;
+use simulation::Clients;
 
 /// What the program is to do.
 #[derive(Debug, Drop)]

@@ -1,6 +1,6 @@
 //! Runs on a log, and what a log has.
 
-ghost use Rattle.std.specs.Prelude.{◌≡◌, false, OnOk, IfOk, length};
+ghost use Rattle.std.specs.Prelude.{◌≡◌, false, IsOk, OnOk, IfOk, length};
 ghost use Rattle.model.specs.Signature.{test_verifies};
 ghost use Rattle.model.specs.Disk.{LeavesSince};
 ghost use Rattle.model.specs.Log.{OpensToBeginning};
@@ -14,7 +14,7 @@ use chain_core::Core;
 use file_disk::FileDisk;
 use flushing::{core_on, flush};
 use genesis::Genesis;
-use immlog::{Disk, Log};
+use immlog::{AppendFault, Disk, Log};
 use scenario::ScenarioFault;
 use std::alloc::Global;
 use std::fs::{File, OpenOptions};
@@ -71,21 +71,39 @@ fn log_of_file<'a, R: Files + AllocGlobal + Threads + Sync>(
     }
 }
 
-/// The core on a log's blocks.
+/// The core on a log's blocks. In a box it is dropped by a call, which keeps the proofs of what owns it short.
 fn core_of<'a, D: Disk>(
     alloc: Global,
     genesis: &Genesis,
     log: &Log<D>,
-) -> Result<Core<TestScheme>, Failure<'a>>
-    ensures genesis { IfOk result (λ core. core.genesis ≡ genesis.now) }
-    ensures blocks { IfOk result (λ core. texts_of core.opened ≡ log.now.blocks) }
+) -> Result<Box<Core<TestScheme>>, Failure<'a>>
+    ensures genesis { IfOk result (λ core. core.value.genesis ≡ genesis.now) }
+    ensures blocks { IfOk result (λ core. texts_of core.value.opened ≡ log.now.blocks) }
 {
     let Ok(copy) = genesis.try_clone() else {
         return Err(Failure::Scenario(ScenarioFault::OutOfMemory));
     };
-    match core_on(alloc, copy, log) {
+    let core = match core_on(alloc, copy, log) {
+        Ok(core) => Box::new(alloc, core),
+        Err(fault) => return Err(fault.into()),
+    };
+    match core {
         Ok(core) => Ok(core),
-        Err(fault) => Err(fault.into()),
+        Err(_) => Err(Failure::Scenario(ScenarioFault::OutOfMemory)),
+    }
+}
+
+/// How a run ended that was followed by a flush: the script's fault is told first.
+fn ended<'a>(
+    ran: Result<(), ScenarioFault>,
+    flushed: Result<(), AppendFault>,
+) -> Result<(), Failure<'a>>
+    ensures { OnOk result (IsOk flushed) }
+{
+    match (ran, flushed) {
+        (Err(fault), _) => Err(fault.into()),
+        (Ok(()), Err(fault)) => Err(fault.into()),
+        (Ok(()), Ok(())) => Ok(()),
     }
 }
 
@@ -114,11 +132,7 @@ fn run_on_log<'a, D: Disk, R: Read, W: Write>(
     // What it was opened on begins its immutable blocks: a clause of this call.
     let _immutable = core.immutable();
     let flushed = flush(log, &core);
-    match (ran, flushed) {
-        (Err(fault), _) => Err(fault.into()),
-        (Ok(()), Err(fault)) => Err(fault.into()),
-        (Ok(()), Ok(())) => Ok(()),
-    }
+    ended(ran, flushed)
 }
 
 /// Runs the script of a file on a core that was opened on the log's blocks.
@@ -140,6 +154,7 @@ fn run_script<'a, D: Disk, R: Files + AllocGlobal, W: Write>(
     let Ok(mut reader) = BufReader::new(rt.alloc(), script) else {
         return Err(Failure::Scenario(ScenarioFault::OutOfMemory));
     };
+    let core = Box::into_inner(core);
     run_on_log(rt.alloc(), genesis, core, log, &mut reader, out)
 }
 

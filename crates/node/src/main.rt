@@ -1,16 +1,11 @@
 //! The program `node`: runs a script on the chain database.
 #![tactic(auto)]
 
-mod clients;
 mod command_line;
 mod failure;
 mod genesis_file;
 mod jobs;
 mod log_runs;
-mod sim;
-mod sim_course;
-mod sim_summary;
-mod sim_threads;
 mod start;
 
 use std::process::ExitCode;

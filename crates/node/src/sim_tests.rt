@@ -1,61 +1,6 @@
-//! Simulations: peers that send from threads of their own.
+//! Simulations of files.
 
-use crate::clients::Clients;
-use crate::sim::sim;
-use crate::tests::{GENESIS, MEMORY, ends, own_folder, remove, write_file};
-use genesis::Genesis;
-use inbox::PEERS;
-use scenario::{LineFault, ScenarioFault};
-use std::process::Abort;
-use std::sync::Wait;
-use std::sync::atomic::{AtomicBool, AtomicU64, Ordering};
-use std::thread;
-use std::thread::Threads;
-use witness_pool::{Gate, OpenGate};
-
-/// How many threads a simulation of so many clients has: the adder's, the peers', and the clients'.
-fn threads_of(clients: usize) -> usize {
-    clients.saturating_add(PEERS + 1)
-}
-
-/// A block that arrives twice, and one that is none.
-const REPEATED: &str = "block A1 genesis 1
-raw Z 82840101f65820000000000000000000000000000000000000000000000000000000000000000080
-send 1 A1
-send 2 Z
-send 3 A1
-";
-
-const REPEATED_TOLD: &str = "height 1
-arrivals 3
-peer 1 1
-peer 2 1
-peer 3 1
-peer 4 0
-peer 5 0
-peer 6 0
-peer 7 0
-peer 8 0
-heights ok
-follower 1
-";
-
-/// The same with three clients.
-const REPEATED_TOLD_TO_THREE: &str = "height 1
-arrivals 3
-peer 1 1
-peer 2 1
-peer 3 1
-peer 4 0
-peer 5 0
-peer 6 0
-peer 7 0
-peer 8 0
-heights ok
-follower 1
-follower 1
-follower 1
-";
+use crate::tests::{GENESIS, ends, own_folder, remove, write_file};
 
 /// What comes of one block from the last peer.
 const LAST_TOLD: &str = "height 1
@@ -72,213 +17,29 @@ heights ok
 follower 1
 ";
 
-/// What comes of 40 blocks of one chain, ten from each of the first four peers.
-const FORTY_OF_FOUR_TOLD: &str = "height 40
-arrivals 40
-peer 1 10
-peer 2 10
-peer 3 10
-peer 4 10
+/// The same with three clients.
+const LAST_TOLD_TO_THREE: &str = "height 1
+arrivals 1
+peer 1 0
+peer 2 0
+peer 3 0
+peer 4 0
 peer 5 0
 peer 6 0
 peer 7 0
-peer 8 0
+peer 8 1
 heights ok
-follower 40
+follower 1
+follower 1
+follower 1
 ";
 
-/// The same, five from each peer.
-const FORTY_TOLD: &str = "height 40
-arrivals 40
-peer 1 5
-peer 2 5
-peer 3 5
-peer 4 5
-peer 5 5
-peer 6 5
-peer 7 5
-peer 8 5
-heights ok
-follower 40
-";
-
-/// The same with three clients.
-const FORTY_TOLD_TO_THREE: &str = "height 40
-arrivals 40
-peer 1 5
-peer 2 5
-peer 3 5
-peer 4 5
-peer 5 5
-peer 6 5
-peer 7 5
-peer 8 5
-heights ok
-follower 40
-follower 40
-follower 40
-";
-
-/// The genesis of these numbers, with room for a chain of so many blocks that may be rolled back.
-fn genesis_of(rt: &(impl Abort + AllocGlobal), deepest: &str) -> Genesis {
-    let mut text = String::new(rt.alloc());
-    for part in GENESIS {
-        text.push_str(*part).expect(rt, MEMORY);
-    }
-    let text = text
-        .replace(rt.alloc(), "k = 2\n", deepest)
-        .expect(rt, MEMORY);
-    Genesis::from_toml(rt.alloc(), text.as_str()).expect(rt, "a genesis")
-}
-
-/// A chain of 40 blocks, which so many peers send in turn: the first one the first block, and so on.
-fn forty_blocks(rt: &(impl Abort + AllocGlobal), peers: u64) -> String {
-    let mut lines = String::new(rt.alloc());
-    lines.push_str("block N1 genesis 1\n").expect(rt, MEMORY);
-    for number in 2..41u64 {
-        let parent = number - 1;
-        write!(lines, "block N{number} N{parent} {number}\n").expect(rt, MEMORY);
-    }
-    for number in 1..41u64 {
-        let turn = (number - 1).checked_rem(peers).unwrap_or(0);
-        let peer = turn.saturating_add(1);
-        write!(lines, "send {peer} N{number}\n").expect(rt, MEMORY);
-    }
-    lines
-}
-
-/// A simulation of this script with so many clients prints this.
-fn simulates<G: Gate>(
-    rt: &(impl Abort + Threads + Wait + Sync + AllocGlobal),
-    script: &str,
-    clients: usize,
-    gate: &G,
-    told: &str,
-) {
-    let genesis = genesis_of(rt, "k = 50\n");
-    let clients = Clients::new(clients).expect(rt, "1 to 8 clients");
-    let mut reader = script.as_bytes();
-    let mut out = Vec::new(rt.alloc());
-    assert!(rt; sim(rt, genesis, &mut reader, &mut out, clients, gate) == Ok(()));
-    assert!(rt; out.as_slice() == told.as_bytes());
-}
-
-// Whatever the schedule.
-#[test]
-fn forty_blocks_from_eight_peers(rt: HostRuntime) {
-    let script = forty_blocks(&rt, 8);
-    for _ in 0..50u64 {
-        simulates(&rt, &script, 1, &OpenGate, FORTY_TOLD);
-    }
-}
-
-#[test]
-fn forty_blocks_from_four_peers(rt: HostRuntime) {
-    let script = forty_blocks(&rt, 4);
-    for _ in 0..50u64 {
-        simulates(&rt, &script, 1, &OpenGate, FORTY_OF_FOUR_TOLD);
-    }
-}
-
-#[test]
-fn forty_blocks_told_to_three_clients(rt: HostRuntime) {
-    let script = forty_blocks(&rt, 8);
-    for _ in 0..50u64 {
-        simulates(&rt, &script, 3, &OpenGate, FORTY_TOLD_TO_THREE);
-    }
-}
-
-#[test]
-fn repeated_arrivals(rt: HostRuntime) {
-    for _ in 0..50u64 {
-        simulates(&rt, REPEATED, 1, &OpenGate, REPEATED_TOLD);
-    }
-}
-
-/// A gate at which each thread waits for all the others to begin.
-#[derive(Drop)]
-struct Gathering {
-    begun: Vec<AtomicBool>,
-    gathered: AtomicU64,
-    ended: AtomicU64,
-}
-
-impl Gathering {
-    /// None of so many threads has begun.
-    fn new(rt: &(impl Abort + AllocGlobal), threads: usize) -> Gathering {
-        let mut begun = Vec::new(rt.alloc());
-        for _ in 0..threads {
-            begun.push(AtomicBool::new(false)).expect(rt, MEMORY);
-        }
-        Gathering {
-            begun,
-            gathered: AtomicU64::new(0),
-            ended: AtomicU64::new(0),
-        }
-    }
-
-    /// Whether all threads have begun.
-    fn is_complete(&self) -> bool {
-        self.begun.iter().all(|begun| begun.load(Ordering::SeqCst))
-    }
-}
-
-impl Gate for Gathering {
-    fn start(&self, job: usize) {
-        if let Some(begun) = self.begun.get(job.wrapping_sub(1)) {
-            begun.store(true, Ordering::SeqCst);
-        }
-        for _ in 0..1_000_000u32 {
-            if self.is_complete() {
-                self.gathered.fetch_add(1, Ordering::SeqCst);
-                return;
-            }
-            thread::yield_now();
-        }
-    }
-
-    fn done(&self, _job: usize) {
-        self.ended.fetch_add(1, Ordering::SeqCst);
-    }
-}
-
-/// All threads of a simulation with so many clients begin before any of them goes on.
-fn gathers(rt: &(impl Abort + Threads + Wait + Sync + AllocGlobal), clients: usize, told: &str) {
-    let threads = threads_of(clients);
-    let gate = Gathering::new(rt, threads);
-    simulates(rt, REPEATED, clients, &gate, told);
-    assert!(rt; gate.gathered.load(Ordering::SeqCst) == threads as u64);
-    assert!(rt; gate.ended.load(Ordering::SeqCst) == threads as u64);
-}
-
-#[test]
-fn all_threads_start(rt: HostRuntime) {
-    gathers(&rt, 1, REPEATED_TOLD);
-    gathers(&rt, 3, REPEATED_TOLD_TO_THREE);
-}
-
-// The fault of a script is told before any thread starts.
-#[test]
-fn fault_before_any_thread(rt: HostRuntime) {
-    let gate = Gathering::new(&rt, threads_of(1));
-    let clients = Clients::new(1).expect(&rt, "one client");
-    let genesis = genesis_of(&rt, "k = 2\n");
-    let mut reader = b"block A1 genesis 1\nsend 1 A1\narrive A1\n".as_slice();
-    let mut out = Vec::new(rt.alloc());
-    let fault = ScenarioFault::Line {
-        number: 3,
-        fault: LineFault::BadLine,
-    };
-    assert!(&rt; sim(&rt, genesis, &mut reader, &mut out, clients, &gate) == Err(fault));
-    assert!(&rt; out.is_empty());
-    assert!(&rt; !gate.is_complete());
-    assert!(&rt; gate.ended.load(Ordering::SeqCst) == 0);
-}
+/// A script with one block, which the last peer sends.
+const LAST: &str = "block A1 genesis 1\nsend 8 A1\n";
 
 /// Scripts of files with the status, what is printed and what is told.
 const SCRIPTS: &[(&str, (u8, &str, &str))] = &[
-    (REPEATED, (0, REPEATED_TOLD, "")),
-    ("block A1 genesis 1\nsend 8 A1\n", (0, LAST_TOLD, "")),
+    (LAST, (0, LAST_TOLD, "")),
     (
         "block A1 genesis 1\nsend 9 A1\n",
         (1, "", "line 2: BadLine\n"),
@@ -296,7 +57,7 @@ fn simulations_of_files(rt: HostRuntime) {
         let words = ["node", "sim", "--script", &script, "--genesis", &genesis];
         ends(&rt, words.as_slice(), *status, *printed, *told);
     }
-    let script = write_file(&rt, &folder, "some.script", &[REPEATED]);
+    let script = write_file(&rt, &folder, "some.script", &[LAST]);
     let words = [
         "node",
         "sim",
@@ -307,7 +68,7 @@ fn simulations_of_files(rt: HostRuntime) {
         "--clients",
         "3",
     ];
-    ends(&rt, words.as_slice(), 0, REPEATED_TOLD_TO_THREE, "");
+    ends(&rt, words.as_slice(), 0, LAST_TOLD_TO_THREE, "");
     let words = ["node", "sim", "--script", "no/such", "--genesis", &genesis];
     ends(&rt, words.as_slice(), 1, "", "cannot read no/such\n");
     let words = ["node", "sim", "--script", "s", "--genesis", "no/such"];

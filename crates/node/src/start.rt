@@ -5,17 +5,16 @@ ghost use Rattle.clap.specs.Words.{kind_of};
 ghost use Rattle.scenario.specs.Run.{script_network, EndsWell};
 ghost use Rattle.node.specs.Ending.{EndsBySome};
 
-use crate::clients::Clients;
 use crate::command_line::job;
 use crate::failure::Failure;
 use crate::genesis_file::{MAX_GENESIS_SIZE, NoGenesis, read_genesis};
 use crate::jobs::Job;
 use crate::log_runs::{replay, run_logged};
-use crate::sim::sim;
 use clap::Error;
 use clap::error::ErrorKind;
 use genesis::Genesis;
 use scenario::ScenarioFault;
+use simulation::{Clients, sim};
 use std::alloc::{AllocError, Global};
 use std::fs::File;
 use std::io::{BufReader, Read, Write};

@@ -18,7 +18,7 @@ use witness_pool::{Gate, Pool, TestScheme};
 pub const MEMORY: &str = "memory";
 
 /// The genesis of a network where 2 blocks may be rolled back and 100 live ones are kept.
-const SMALL_NETWORK: &str = "network = 0
+pub const SMALL_NETWORK: &str = "network = 0
 k = 2
 min_fee_a = 1
 min_fee_b = 100

@@ -1,4 +1,4 @@
-//! What data can't say of a shared core: its callers and its adder, on one thread and on several.
+//! What data can't say of a shared core: its callers and its adder, on one thread and on several, and simulations.
 #![tactic(auto)]
 
 #[cfg(test)]
@@ -13,3 +13,5 @@ mod gated_file;
 mod log_tests;
 #[cfg(test)]
 mod pool_tests;
+#[cfg(test)]
+mod simulation_tests;

@@ -177,8 +177,8 @@ fn submits<B: Room, R: Wait + Abort>(
     crossing.answer();
 }
 
-/// All blocks are journaled. Then those that are never rolled back go onto a log, and while the disk is written, another
-/// caller is answered.
+/// All blocks are journaled. Then those that are never rolled back go onto a log, and while the disk is written,
+/// another caller is answered.
 fn writes_outside<
     B: Room + Send + Sync,
     M: Mailroom,

@@ -1,4 +1,0 @@
-use Rattle.node.proofs.sim.simulate_sends.Given as goal
-
-abbrev pub ghosts-simulate : goal.ghosts-simulate
-ghosts-simulate g a = record { table = a.core.table; genesis = a.core.genesis }

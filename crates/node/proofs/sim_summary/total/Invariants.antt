@@ -1,7 +1,0 @@
-use Rattle.std.proofs.Common.{◌≡◌, take}
-use Rattle.node.specs.Simulation.{total_of}
-use Rattle.node.proofs.sim_summary.total.Given as goal
-
--- what was added up so far
-abbrev pub invariant-loop-count : goal.invariant-loop-count
-invariant-loop-count l = l.total ≡ total_of (take l.count-index l.arrivals)

@@ -1,0 +1,37 @@
+-- What a simulation prints.
+use Rattle.std.specs.Prelude.{ℕ, ◌+◌, ◌-◌, ◌^◌, Bool, List, [], ◌∷◌, ◌++◌, codes, decimal, min, sum, if◌then◌else◌}
+use Rattle.simulation.specs.declared.summary.Summary.{Summary}
+
+-- how many there are together, as far as 64 bits go
+abbrev pub total_of : List ℕ → ℕ
+total_of counts = min (sum counts) (2 ^ 64 - 1)
+
+-- a word and a number
+abbrev pub number_line : List ℕ → ℕ → List ℕ
+number_line word number = word ++ codes " " ++ decimal number ++ 10 ∷ []
+
+-- how many arrivals of the peer of this number stand in the journal
+abbrev pub peer_line : (number count : ℕ) → List ℕ
+peer_line number count = codes "peer " ++ decimal number ++ codes " " ++ decimal count ++ 10 ∷ []
+
+-- the same of each peer, from this number on
+abbrev pub peer_lines : (number : ℕ) → List ℕ → List ℕ
+peer_lines number [] = []
+peer_lines number (count ∷ counts) = peer_line number count ++ peer_lines (number + 1) counts
+
+-- whether heights fell
+abbrev pub heights_line : Bool → List ℕ
+heights_line fell = if fell then codes "heights bad" ++ 10 ∷ [] else codes "heights ok" ++ 10 ∷ []
+
+-- how long the chain is that each follower was told
+abbrev pub follower_lines : List ℕ → List ℕ
+follower_lines [] = []
+follower_lines (told ∷ rest) = number_line (codes "follower") told ++ follower_lines rest
+
+-- the height that the first client read last, the arrivals together and of each peer, whether heights fell, and what
+-- each client's follower was told
+abbrev pub summary_text : Summary → List ℕ
+summary_text s =
+    number_line (codes "height") s.height
+    ++ (number_line (codes "arrivals") (total_of s.arrivals)
+    ++ (peer_lines 1 s.arrivals ++ (heights_line s.fell ++ follower_lines s.told.items)))

@@ -1,0 +1,17 @@
+//! Simulations: peers send blocks to a core that clients follow, each in a thread of its own.
+//!
+//! ```text
+//! let clients = Clients::new(3).expect(rt, "1 to 8 clients");
+//! sim(rt, genesis, &mut script, &mut out, clients, &OpenGate)?; // waits for all threads that it starts
+//! ```
+#![tactic(auto)]
+
+mod clients;
+mod course;
+mod simulations;
+mod summary;
+mod threads;
+
+pub use clients::{Clients, MAX_CLIENTS};
+pub use simulations::sim;
+pub use summary::Summary;

@@ -1,0 +1,394 @@
+//! Simulations: peers send blocks to a core that clients follow, each in a thread of its own.
+
+ghost use Rattle.std.specs.Prelude.{◌≡◌, ◌+◌, ◌⊎◌, length, IfErr, IfOk, OnOk};
+ghost use Rattle.std.specs.Io.KnownBytes.{Appends};
+ghost use Rattle.inbox.specs.Arrivals.{no_intake};
+ghost use Rattle.simulation.specs.declared.summary.Summary.{Summary};
+ghost use Rattle.simulation.specs.Simulation.{summary_text};
+
+use crate::clients::Clients;
+use crate::course::Course;
+use crate::summary::{Summary, put_summary};
+use crate::threads::{Client, Peer, run_adder, run_client, run_peer};
+use genesis::Genesis;
+use inbox::{AdderEnd, Mailroom, PEERS, PeerEnd};
+use scenario::{ScenarioFault, Sending};
+use shared::{Adder, Caller, Room, Shared};
+use std::alloc::{AllocError, Global};
+use std::io::{BufRead, Write};
+use std::marker::Brand;
+use std::sync::Wait;
+use std::thread;
+use std::thread::{JoinHandle, Threads};
+use witness_pool::{Gate, OpenGate, Pool, TestScheme};
+
+/// How many places the inbox has.
+const PLACES: usize = 8;
+
+/// How many workers check transactions for the adder.
+const WORKERS: usize = 4;
+
+/// The peers, who have nothing to send yet.
+fn peers_of<M: Mailroom>(
+    alloc: Global,
+    ends: [PeerEnd<M>; PEERS],
+) -> Result<Vec<Peer<M>>, AllocError> {
+    let mut peers = Vec::with_capacity(alloc, PEERS)?;
+    for end in Vec::from_array(alloc, ends)? {
+        peers.push(Peer {
+            end,
+            texts: Vec::new(alloc),
+        })?;
+    }
+    Ok(peers)
+}
+
+/// Gives each peer what it sends, in this order.
+fn deal<M: Mailroom>(peers: &mut Vec<Peer<M>>, sends: Vec<Sending>) -> Result<(), AllocError> {
+    for Sending { peer, bytes } in sends {
+        let place = (peer as usize).wrapping_sub(1);
+        if let Some(peer) = peers.get_mut(place) {
+            peer.texts.push(bytes)?;
+        }
+    }
+    Ok(())
+}
+
+/// Those who act in a simulation.
+#[derive(Drop)]
+struct Cast<B: Room, M: Mailroom> {
+    adder: Adder<OpenGate, B, M>,
+    peers: Vec<Peer<M>>,
+    clients: Vec<Caller<B>>,
+}
+
+/// Those who have done their part.
+#[derive(Drop)]
+struct Ended<B: Room, M: Mailroom> {
+    adder: Adder<OpenGate, B, M>,
+    peers: Vec<PeerEnd<M>>,
+    clients: Vec<Client<B>>,
+}
+
+/// Keeps a thread, where it was started. Where it wasn't, or memory runs out, all threads are told to end.
+fn keep<T: Drop>(
+    course: &Course,
+    threads: &mut Vec<JoinHandle<T>>,
+    started: Option<JoinHandle<T>>,
+) {
+    let is_kept = match started {
+        Some(thread) => threads.push(thread).is_ok(),
+        None => false,
+    };
+    if !is_kept {
+        course.stop();
+    }
+}
+
+/// Waits for these threads. Where memory runs out, all threads are told to end.
+fn join_all<T: Drop, R: Threads>(
+    rt: &R,
+    alloc: Global,
+    course: &Course,
+    threads: Vec<JoinHandle<T>>,
+) -> Vec<T> {
+    let mut ended = Vec::new(alloc);
+    for thread in threads {
+        let end = thread.join(rt);
+        if ended.push(end).is_err() {
+            course.stop();
+        }
+    }
+    ended
+}
+
+/// The clients that these threads gave back. Err where one gave none.
+fn clients_of<B: Room>(
+    alloc: Global,
+    found: Vec<Option<Client<B>>>,
+) -> Result<Vec<Client<B>>, AllocError> {
+    let mut clients = Vec::with_capacity(alloc, found.len())?;
+    for client in found {
+        match client {
+            Some(client) => clients.push(client)?,
+            None => return Err(AllocError),
+        }
+    }
+    Ok(clients)
+}
+
+/// Waits for the threads of the peers and of the clients, and answers who has done their part: all, unless the threads
+/// were told to end.
+fn all_ended<B: Room, M: Mailroom, R: Threads>(
+    rt: &R,
+    alloc: Global,
+    course: &Course,
+    adder: Adder<OpenGate, B, M>,
+    sending: Vec<JoinHandle<PeerEnd<M>>>,
+    watching: Vec<JoinHandle<Option<Client<B>>>>,
+) -> Result<Ended<B, M>, AllocError> {
+    let peers = join_all(rt, alloc, course, sending);
+    let found = join_all(rt, alloc, course, watching);
+    match clients_of(alloc, found) {
+        Ok(clients) if !course.is_stopped() => Ok(Ended {
+            adder,
+            peers,
+            clients,
+        }),
+        _ => Err(AllocError),
+    }
+}
+
+/// Runs all threads, the adder on this one beside the others, and answers who has done their part once they have ended.
+/// Err where a thread can't be started, or memory runs out: those that run are then told to end.
+fn run_threads<B: Room + Send + Sync, M: Mailroom + Send + Sync, R: Threads + Wait + Sync, G: Gate>(
+    rt: &R,
+    alloc: Global,
+    shared: &Shared<TestScheme, B>,
+    cast: Cast<B, M>,
+    gate: &G,
+) -> Result<Ended<B, M>, AllocError> {
+    let course = Course::new();
+    let course = &course;
+    let Cast {
+        adder,
+        peers,
+        clients,
+    } = cast;
+    thread::scope(
+        thread::scope_env(),
+        rt,
+        move |scope| -> Result<Ended<B, M>, AllocError> {
+            let mut sending = Vec::new(alloc);
+            for (place, peer) in peers.into_iter().enumerate() {
+                let sender = scope.spawn(move || run_peer(rt, course, gate, place, peer));
+                keep(course, &mut sending, sender.ok());
+            }
+            let mut watching = Vec::new(alloc);
+            for (place, caller) in clients.into_iter().enumerate() {
+                let watcher = scope.spawn(move || run_client(
+                    rt, shared, course, gate, place, caller,
+                ));
+                keep(course, &mut watching, watcher.ok());
+            }
+            let adder = run_adder(rt, shared, course, gate, adder);
+            all_ended(rt, alloc, course, adder, sending, watching)
+        },
+    )
+}
+
+/// The first client meets the adder, and then each of the others meets the first.
+fn meet_all<B: Room, M: Mailroom, R: Wait>(
+    rt: &R,
+    shared: &Shared<TestScheme, B>,
+    adder: &mut Adder<OpenGate, B, M>,
+    first: &mut Client<B>,
+    others: &mut [Client<B>],
+)
+    ensures { length others.new ≡ length others.old }
+{
+    adder.meet(rt, shared, &mut first.caller);
+    for place in 0..others.len() {
+        shared.meet(rt, &mut first.caller, &mut others[place].caller);
+    }
+}
+
+/// Each client's follower is told all that is left. Answers how long the chains are that they were told.
+fn ask_all<B: Room, R: Wait>(
+    rt: &R,
+    alloc: Global,
+    shared: &Shared<TestScheme, B>,
+    first: &mut Client<B>,
+    others: &mut [Client<B>],
+) -> Result<Vec<u64>, AllocError>
+    ensures { IfOk result (λ told. length told.items ≡ length others.old + 1) }
+{
+    let mut told = Vec::with_capacity(alloc, others.len())?;
+    first.ask_all(rt, shared)?;
+    told.push(first.told())?;
+    for place in 0..others.len() {
+        let client = &mut others[place];
+        client.ask_all(rt, shared)?;
+        told.push(client.told())?;
+    }
+    Ok(told)
+}
+
+/// What comes of it once the threads have ended: what the inbox still has is added, and the clients learn of all.
+fn summed_up<B: Room, M: Mailroom, R: Threads + Wait + Sync>(
+    rt: &R,
+    alloc: Global,
+    shared: &Shared<TestScheme, B>,
+    adder: &mut Adder<OpenGate, B, M>,
+    peers: &mut [PeerEnd<M>],
+    first: &mut Client<B>,
+    others: &mut [Client<B>],
+) -> Result<Summary, AllocError>
+    ensures { IfOk result (λ summary. length summary.told.items ≡ length others.old + 1) }
+{
+    adder.drain(rt, shared, peers)?;
+    meet_all(rt, shared, adder, first, others);
+    let told = ask_all(rt, alloc, shared, first, others)?;
+    let height = first.read_height(shared);
+    let fell = first.fell() || others.iter().any(|client| client.fell());
+    Ok(Summary {
+        height,
+        arrivals: adder.counts(),
+        fell,
+        told,
+    })
+}
+
+/// The same of all of them, where there is a client.
+fn summary_of<B: Room, M: Mailroom, R: Threads + Wait + Sync>(
+    rt: &R,
+    alloc: Global,
+    shared: &Shared<TestScheme, B>,
+    ended: Ended<B, M>,
+) -> Result<Summary, AllocError>
+    ensures { IfOk result (λ summary. length summary.told.items ≡ length ended.clients.items) }
+{
+    let Ended {
+        mut adder,
+        mut peers,
+        mut clients,
+    } = ended;
+    match clients.split_first_mut() {
+        Some((first, others)) => {
+            summed_up(rt, alloc, shared, &mut adder, &mut peers, first, others)
+        }
+        None => Err(AllocError),
+    }
+}
+
+/// Those who act: the callers of the core, of whom the last one is the adder, and the ends of the inbox, with what is
+/// sent.
+fn cast_of<B: Room, M: Mailroom>(
+    alloc: Global,
+    mut callers: Vec<Caller<B>>,
+    ends: ([PeerEnd<M>; PEERS], AdderEnd<M>),
+    sends: Vec<Sending>,
+) -> Result<Cast<B, M>, AllocError>
+    requires { ends.1 ≡ no_intake }
+    ensures { IfOk result (λ cast. length cast.clients.items + 1 ≡ length callers.items) }
+{
+    let (ends, end) = ends;
+    let mut peers = peers_of(alloc, ends)?;
+    deal(&mut peers, sends)?;
+    let Some(adding) = callers.pop() else {
+        return Err(AllocError);
+    };
+    Ok(Cast {
+        adder: Adder::new(alloc, end, adding, Pool::new(OpenGate), WORKERS),
+        peers,
+        clients: callers,
+    })
+}
+
+/// Runs a simulation on a shared core with these callers, through an inbox that was opened for it.
+fn simulate_on<
+    B: Room + Send + Sync,
+    M: Mailroom + Send + Sync,
+    R: Threads + Wait + Sync + AllocGlobal,
+    G: Gate,
+>(
+    rt: &R,
+    shared: &Shared<TestScheme, B>,
+    callers: Vec<Caller<B>>,
+    inbox: inbox::Opened,
+    sends: Vec<Sending>,
+    gate: &G,
+) -> Result<Summary, AllocError>
+    requires table { inbox.table ≡ M.table }
+    requires capacity { inbox.capacity ≡ M.capacity }
+    ensures { IfOk result (λ summary. length summary.told.items + 1 ≡ length callers.items) }
+{
+    let ends = inbox.named::<M>()?;
+    let cast = cast_of(rt.alloc(), callers, ends, sends)?;
+    let many = cast.clients.len();
+    let ended = run_threads(rt, rt.alloc(), shared, cast, gate)?;
+    if ended.clients.len() != many {
+        return Err(AllocError);
+    }
+    summary_of(rt, rt.alloc(), shared, ended)
+}
+
+/// Runs a simulation on a core and through an inbox that were opened for it.
+#[tactic(auto, using(crate::proofs::Newcomers::newcomers_length))]
+fn simulate<B: Room + Send + Sync, R: Threads + Wait + Sync + AllocGlobal, G: Gate>(
+    rt: &R,
+    core: shared::Opened<TestScheme>,
+    inbox: inbox::Opened,
+    sends: Vec<Sending>,
+    gate: &G,
+) -> Result<Summary, AllocError>
+    requires table { core.table ≡ B.table }
+    requires genesis { core.genesis ≡ B.genesis }
+    ensures { IfOk result (λ summary. length summary.told.items + 1 ≡ core.callers) }
+{
+    let (shared, callers) = core.named::<B>()?;
+    simulate_on::<B, Brand, R, G>(rt, &shared, callers, inbox, sends, gate)
+}
+
+/// Opens a core, for the clients and the adder, and an inbox, and runs a simulation on them.
+fn simulate_sends<R: Threads + Wait + Sync + AllocGlobal, G: Gate>(
+    rt: &R,
+    genesis: Genesis,
+    sends: Vec<Sending>,
+    clients: Clients,
+    gate: &G,
+) -> Result<Summary, AllocError>
+    ensures { IfOk result (λ summary. length summary.told.items ≡ clients.many) }
+{
+    let callers = clients.many + 1;
+    let inbox = inbox::Opened::new(rt.alloc(), PLACES).map_err(|_| AllocError)?;
+    // The core is made last: what has much to drop is then not dropped at another end.
+    let core = shared::Opened::new(rt.alloc(), genesis, callers).map_err(|_| AllocError)?;
+    simulate::<Brand, R, G>(rt, core, inbox, sends, gate)
+}
+
+/// Writes what came of a simulation. Where memory runs out nothing is written.
+fn print<W: Write>(alloc: Global, writer: &mut W, summary: &Summary) -> Result<(), ScenarioFault>
+    ensures ok { OnOk result (Appends (W.contents writer.old) (W.contents writer.new) (summary_text summary.now)) }
+    ensures silent { IfErr result (λ why. (why ≡ ScenarioFault.WriteFailed) ⊎ (writer.new ≡ writer.old)) }
+{
+    let mut lines = Vec::new(alloc);
+    if put_summary(&mut lines, summary).is_err() {
+        return Err(ScenarioFault::OutOfMemory);
+    }
+    match writer.write_all(&lines) {
+        Ok(()) => Ok(()),
+        Err(_) => Err(ScenarioFault::WriteFailed),
+    }
+}
+
+/// Runs the simulation that a script says, on a new core of this genesis: each peer sends what the script has it send
+/// through an inbox of 8 places, from a thread of its own; the thread that calls adds what they send to the core, with
+/// 4 workers; and each of so many clients follows the chain and reads its height, from a thread of its own. When the
+/// peers have ended, what is left in the inbox is added, and the clients learn of all. Then it is written how high the
+/// chain is, how many arrivals there were, and what each client was told. The gate is told of each thread, on that
+/// thread, before its first act and after its last: of the adder by the number 1, of the peers by those from 2 on, and
+/// of the clients by those that come next.
+///
+/// The script is read before any thread starts. Where memory runs out, or a thread can't be started, those that run are
+/// told to end, and `OutOfMemory` is answered once they have. Waits for all threads that it starts.
+pub fn sim<R: Threads + Wait + Sync + AllocGlobal, I: BufRead, W: Write, G: Gate>(
+    rt: &R,
+    genesis: Genesis,
+    reader: &mut I,
+    writer: &mut W,
+    clients: Clients,
+    gate: &G,
+) -> Result<(), ScenarioFault>
+    // Lines are written of some summary, with a follower for each client, and nothing else.
+    ensures ok { OnOk result ((summary : Summary) × (length summary.told.items ≡ clients.many)
+        × Appends (W.contents writer.old) (W.contents writer.new) (summary_text summary)) }
+    // Nothing is written where the script has a fault, isn't read, or memory runs out.
+    ensures silent { IfErr result (λ why. (why ≡ ScenarioFault.WriteFailed) ⊎ (writer.new ≡ writer.old)) }
+{
+    let sends = scenario::sends(rt.alloc(), &genesis, reader, PEERS as u64)?;
+    let Ok(summary) = simulate_sends(rt, genesis, sends, clients, gate) else {
+        return Err(ScenarioFault::OutOfMemory);
+    };
+    print(rt.alloc(), writer, &summary)
+}
