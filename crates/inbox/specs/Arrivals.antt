@@ -28,13 +28,13 @@ abbrev pub no_intake : Intake
 no_intake = record { taken = []; told = [] }
 
 abbrev pub with_arrival : Intake → Arrival → Intake
-with_arrival i arrival = record { taken = i.taken ++ arrival ∷ []; told = i.told }
+with_arrival i arrival = record i { taken = i.taken ++ arrival ∷ [] }
 
 abbrev pub with_told : Intake → List SentBy → Intake
-with_told i peers = record { taken = i.taken; told = i.told ++ peers }
+with_told i peers = record i { told = i.told ++ peers }
 
 abbrev pub with_bytes : SentBy → List ℕ → SentBy
-with_bytes s bytes = record { peer = s.peer; sent = s.sent ++ bytes ∷ [] }
+with_bytes s bytes = record s { sent = s.sent ++ bytes ∷ [] }
 
 -- the bytes of one peer among the arrivals, in order
 abbrev pub came_of : ℕ → List Arrival → List (List ℕ)

@@ -37,12 +37,10 @@ abbrev pub first_view : PassView
 first_view = fresh_view (Takes 1)
 
 abbrev pub with_sent : PassView → List ℕ → PassView
-with_sent v bytes =
-    record { role = v.role; sent = v.sent ++ bytes ∷ []; taken = v.taken; told = v.told; heard = v.heard }
+with_sent v bytes = record v { sent = v.sent ++ bytes ∷ [] }
 
 abbrev pub with_taken : PassView → Arrival → PassView
-with_taken v arrival =
-    record { role = v.role; sent = v.sent; taken = v.taken ++ arrival ∷ []; told = v.told; heard = v.heard }
+with_taken v arrival = record v { taken = v.taken ++ arrival ∷ [] }
 
 -- ---- how peers get their numbers
 
@@ -52,7 +50,7 @@ next_role role = role
 
 -- the pass that has given a number
 abbrev pub has_dealt : PassView → PassView
-has_dealt v = record { role = next_role v.role; sent = v.sent; taken = v.taken; told = v.told; heard = v.heard }
+has_dealt v = record v { role = next_role v.role }
 
 abbrev pub dealt_role : Role → Role
 dealt_role (Takes next) = Sends next
@@ -77,8 +75,7 @@ as_it_is v = v
 
 -- the pass that takes a note in
 abbrev pub with_note : PassView → PassView → PassView
-with_note v note =
-    record { role = v.role; sent = v.sent; taken = v.taken; told = v.told ++ note.told; heard = note.heard }
+with_note v note = record v { told = v.told ++ note.told; heard = note.heard }
 
 -- the note that was taken in
 abbrev pub spent_view : PassView
