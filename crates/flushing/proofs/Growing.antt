@@ -1,5 +1,5 @@
 -- The texts of a core's blocks that are never rolled back only grow.
-use Rattle.std.proofs.Common.{◌≡◌, ℕ, List, [], ◌∷◌, ◌++◌, length, drop, sym, ap, subst, ◌∙◌, append_assoc}
+use Rattle.std.proofs.Common.{◌≡◌, ℕ, List, [], ◌∷◌, ◌++◌, length, drop, sym, ap, subst, ◌∙◌, append_assoc, append-nil}
 use Rattle.std.proofs.lemmas.List.{map-append, take-append-drop}
 use Rattle.model.specs.Signature.{Verifies}
 use Rattle.model.specs.Block.{Block, block_text}
@@ -61,4 +61,19 @@ begins_through verifies before after state (Came event reply ∷ acts) log left 
     let steps = course.1 in
     begins_through verifies next after (steps state stands).0 acts log left (steps state stands).2 course.4 (begins_after verifies before next state event reply log stands steps course.2 course.3 begins)
 begins_through verifies before after state (Flushed texts ∷ acts) log left stands course begins =
-    begins_through verifies before after state acts texts left stands course.2 course.1
+    begins_through verifies before after state acts texts left stands course.1 (course.0 begins).1
+
+-- the texts themselves, through every list of events and flushes
+pub grows_through : (verifies : Verifies) (before after : Held) (state : State) (acts : List Act) (log left : List (List ℕ)) → Stands before state → IsCourse verifies before log acts after left → Begins (immutable_texts verifies before) (immutable_texts verifies after)
+grows_through verifies before after state [] log left stands course = record {
+  later = [];
+  are = ap (immutable_texts verifies) course.0 ∙ sym (append-nil (immutable_texts verifies before));
+}
+grows_through verifies before after state (Came event reply ∷ acts) log left stands course =
+    let next = course.0 in
+    let steps = course.1 in
+    let longer : Begins (immutable_texts verifies before) (immutable_texts verifies next) = grows verifies before next state event reply stands steps course.2 course.3 in
+    let longest : Begins (immutable_texts verifies next) (immutable_texts verifies after) = grows_through verifies next after (steps state stands).0 acts log left (steps state stands).2 course.4 in
+    begins_further (immutable_texts verifies before) (immutable_texts verifies next) (immutable_texts verifies after) longer longest
+grows_through verifies before after state (Flushed texts ∷ acts) log left stands course =
+    grows_through verifies before after state acts texts left stands course.1

@@ -14,9 +14,9 @@ pub with_the_rest : (first all : List (List ℕ)) (from : ℕ) → Begins first 
 with_the_rest first all from begins count =
     ap (λ (n : ℕ). first ++ drop n all) count ∙ (ap (λ (l : List (List ℕ)). first ++ drop (length first) l) begins.are ∙ (ap (λ (l : List (List ℕ)). first ++ l) (drop_front first begins.later) ∙ sym begins.are))
 
--- ---- where nothing was put onto it
+-- ---- of more blocks
 
-opens_to_more : (least : ℕ) (first all : List (List ℕ)) (bytes : List ℕ) → Begins first all → OpensToBeginning least first bytes → OpensToBeginning least all bytes
+pub opens_to_more : (least : ℕ) (first all : List (List ℕ)) (bytes : List ℕ) → Begins first all → OpensToBeginning least first bytes → OpensToBeginning least all bytes
 opens_to_more least first all bytes begins p = record {
   opened = p.opened;
   next = p.next ++ begins.later;
@@ -25,6 +25,8 @@ opens_to_more least first all bytes begins p = record {
   enough = p.enough;
   sound = p.sound;
 }
+
+-- ---- where nothing was put onto it
 
 -- a crash leaves a beginning of all, where it leaves those that are there
 pub left_as_it_was : (least : ℕ) (first all : List (List ℕ)) (m : Moment) → Begins first all → Leaves (IsLogOf least first) m → Leaves (OpensToBeginning least all) m

@@ -12,8 +12,9 @@ pub data Act : Type 0 where
   Came : Event → Reply → Act
   Flushed : List (List ℕ) → Act
 
--- These acts lead a core and the texts of a log beside it to others: an event is a step of the core, and a flush leaves
--- the log with the first of the core's texts that are never rolled back, all or some, those that it had among them.
+-- These acts lead a core and the texts of a log beside it to others. An event is a step of the core, which stays one of
+-- the same genesis that was opened on the same chain. A flush of a log with the first of the core's texts that are never
+-- rolled back leaves it with the first of these, all, some or none more, those that it had among them.
 abbrev pub IsCourse : Verifies → Held → List (List ℕ) → List Act → Held → List (List ℕ) → Type 0
 IsCourse verifies held log [] end left = (end ≡ held) × (left ≡ log)
 IsCourse verifies held log (Came event reply ∷ acts) end left = (next : Held)
@@ -21,4 +22,5 @@ IsCourse verifies held log (Came event reply ∷ acts) end left = (next : Held)
     × (next.genesis ≡ held.genesis) × (next.opened ≡ held.opened)
     × IsCourse verifies next log acts end left
 IsCourse verifies held log (Flushed texts ∷ acts) end left =
-    Begins log texts × Begins texts (immutable_texts verifies held) × IsCourse verifies held texts acts end left
+    (Begins log (immutable_texts verifies held) → Begins log texts × Begins texts (immutable_texts verifies held))
+    × IsCourse verifies held texts acts end left

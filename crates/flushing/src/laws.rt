@@ -3,6 +3,7 @@
 ghost use Rattle.std.specs.Prelude.{◌≡◌, ℕ, List};
 ghost use Rattle.model.specs.Signature.{Verifies};
 ghost use Rattle.model.specs.History.{State, Event, Reply};
+ghost use Rattle.model.specs.Log.{OpensToBeginning};
 ghost use Rattle.chain_core.specs.Held.{Held, Stands};
 ghost use Rattle.chain_core.specs.Immutable.{immutable_texts};
 ghost use Rattle.chain_core.specs.Steps.{Steps};
@@ -20,4 +21,17 @@ pub fn flush_may_come_again()
     ensures course { (verifies : Verifies) (before after : Held) (state : State) (acts : List Act)
         (log left : List (List ℕ)) → Stands before state → IsCourse verifies before log acts after left
         → Begins log (immutable_texts verifies before) → Begins left (immutable_texts verifies after) }
+{}
+
+/// The blocks of a core that are never rolled back only grow, through every list of events and flushes: what was said of
+/// a crash when some of them were put onto a log holds of those that there are later.
+pub fn immutable_blocks_grow()
+    ensures grow { (verifies : Verifies) (before after : Held) (state : State) (acts : List Act)
+        (log left : List (List ℕ)) → Stands before state → IsCourse verifies before log acts after left
+        → Begins (immutable_texts verifies before) (immutable_texts verifies after) }
+    // What is a log of a beginning of them stays one.
+    ensures crash { (verifies : Verifies) (before after : Held) (state : State) (acts : List Act)
+        (log left : List (List ℕ)) (least : ℕ) (bytes : List ℕ) → Stands before state
+        → IsCourse verifies before log acts after left → OpensToBeginning least (immutable_texts verifies before) bytes
+        → OpensToBeginning least (immutable_texts verifies after) bytes }
 {}

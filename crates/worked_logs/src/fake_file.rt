@@ -6,8 +6,11 @@ use std::fs::{Metadata, OpenFile};
 use std::io;
 use std::io::{Read, Seek, SeekFrom, Write};
 
-/// A file in memory. Of the calls on it one that is chosen fails; a write that does puts no byte there, or half of its
-/// bytes.
+/// What a torn write of one byte leaves: half of a byte there isn't, but another byte.
+const TORN: u8 = 2;
+
+/// A file in memory. Of the calls on it, those for its size and `flush` aside, one that is chosen fails; a write that
+/// does puts no byte there, or half of its bytes.
 #[derive(Drop)]
 pub struct FakeFile {
     bytes: Vec<u8>,
@@ -30,7 +33,7 @@ impl FakeFile {
         }
     }
 
-    /// The same, of which a write that fails puts half of its bytes there.
+    /// The same, of which a write that fails puts half of its bytes there, or 2 in place of one byte.
     pub fn torn(alloc: Global, calls: u64) -> FakeFile {
         FakeFile {
             is_torn: true,
@@ -87,6 +90,14 @@ impl FakeFile {
         self.len.set(self.bytes.len());
         Ok(())
     }
+
+    /// Puts there what a torn write of these bytes leaves.
+    fn put_torn(&mut self, bytes: &[u8]) -> io::Result<()> {
+        if bytes.len() == 1 {
+            return self.put_all(&[TORN]);
+        }
+        self.put_all(&bytes[..bytes.len() / 2])
+    }
 }
 
 impl Read for FakeFile {
@@ -105,7 +116,7 @@ impl Write for FakeFile {
     fn write(&mut self, buf: &[u8]) -> io::Result<usize> {
         if let Err(error) = self.works() {
             if self.is_torn {
-                self.put_all(&buf[..buf.len() / 2])?;
+                self.put_torn(buf)?;
             }
             return Err(error);
         }
