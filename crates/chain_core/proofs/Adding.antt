@@ -14,7 +14,7 @@ use Rattle.model.specs.Chain.{HaveDistinctHashes, immutable_length, immutable_pa
 use Rattle.std.specs.Global.{Vec}
 use Rattle.model.specs.Rules.{Params}
 use Rattle.model.specs.Applying.{LedgerState, IsStateOf}
-use Rattle.model.specs.Mempool.{SubmitReply, revalidated}
+use Rattle.model.specs.Mempool.{SubmitReply}
 use Rattle.model.specs.History.{IsChange}
 use Rattle.model.proofs.Lists.{all_of_member, all_from_members, all_take, contains_first, contains_later, contains_cases}
 use Rattle.model.proofs.MappedLists.{contains_map, contains_before}
@@ -22,7 +22,6 @@ use Rattle.model.proofs.Chains.{one_with_hash}
 use Rattle.model.proofs.Selections.{selection_not_shorter}
 use Rattle.ident.specs.Kinds.{BlockHash}
 use Rattle.blockstore.specs.Stored.{Stored, Store, unmarked, HasBlock, blocks_of}
-use Rattle.blockstore.specs.Live.{HoldsLive}
 use Rattle.ledgerdb.specs.Values.{Database, depth, count}
 use Rattle.ledgerdb.specs.Chains.{without_last, IsDatabaseOf, IsPreparedOf}
 use Rattle.ledgerdb.proofs.ForCallers.{prepared_count}
@@ -116,51 +115,45 @@ module _ (network : Network) (chain : List Block) (store : Store) (db : Database
     marks = λ s member marked. marks s ((cut.cut.members s).0 member).0 marked;
   }
 
--- the same mempool beside the same chain
-pool_same : (network : Network) (a b : List Block) (p q : Pool) → b ≡ a → q ≡ p → IsPoolOf network a p → IsPoolOf network b q
-pool_same network a b p q chain pool is = subst (λ (c : List Block). IsPoolOf network c q) (sym chain) (subst (IsPoolOf network a) (sym pool) is)
-
 -- where the chain, the store and the states stay it is settled still
 settled_same : {S : Type 0} (network : Network) (old new : ChainDb S) → new.chain.items ≡ old.chain.items → new.store ≡ old.store → new.db ≡ old.db → IsWhole network old → IsSettled network new.chain.items new.store new.db
 settled_same network old new chain store db whole =
     subst (λ (c : List Block). IsSettled network c new.store new.db) (sym chain)
     (subst (λ (x : Store). IsSettled network old.chain.items x new.db) (sym store) (subst (λ (d : Database). IsSettled network old.chain.items old.store d) (sym db) whole.settled))
 
--- and whole, with a mempool beside the chain
-whole_with : {S : Type 0} (network : Network) (old new : ChainDb S) → new.opened ≡ old.opened → new.chain.items ≡ old.chain.items → new.store ≡ old.store → new.db ≡ old.db → IsPoolOf network old.chain.items new.mempool
+-- and whole, where the mempool stays and no hash is forgotten
+pub whole_same : {S : Type 0} (network : Network) (old new : ChainDb S) → new.opened ≡ old.opened → new.chain.items ≡ old.chain.items → new.store ≡ old.store → new.db ≡ old.db → new.mempool ≡ old.mempool
     → ((hash : List ℕ) → IsNoted old.past hash → IsNoted new.past hash) → IsWhole network old → IsWhole network new
-whole_with network old new opened chain store db pool grows whole = record {
+whole_same network old new opened chain store db mempool grows whole = record {
   opened = opened ∙ whole.opened;
   settled = settled_same network old new chain store db whole;
   k = ap (λ (d : Database). d.k) db ∙ whole.k;
   capacity = ap (λ (x : Store). x.capacity) store ∙ whole.capacity;
-  pool = subst (λ (c : List Block). IsPoolOf network c new.mempool) (sym chain) pool;
+  pool = subst (λ (c : List Block). IsPoolOf network c new.mempool) (sym chain) (subst (IsPoolOf network old.chain.items) (sym mempool) whole.pool);
   past = subst (λ (c : List Block). AllByRecursion (IsBlockNoted new.past) (immutable_part network c)) (sym chain) (blocks_keep old.past new.past grows (immutable_part network old.chain.items) whole.past);
 }
 
--- where nothing of it changes but that more hashes are noted it is whole still
-pub whole_same : {S : Type 0} (network : Network) (old new : ChainDb S) → new.opened ≡ old.opened → new.chain.items ≡ old.chain.items → new.store ≡ old.store → new.db ≡ old.db → new.mempool ≡ old.mempool
-    → ((hash : List ℕ) → IsNoted old.past hash → IsNoted new.past hash) → IsWhole network old → IsWhole network new
-whole_same network old new opened chain store db mempool grows whole = whole_with network old new opened chain store db (subst (IsPoolOf network old.chain.items) (sym mempool) whole.pool) grows whole
+-- ---- a submission, which leaves another mempool and nothing else
 
--- where the hashes are the same no fewer are noted
-pub same_noted : (old new : BTreeSet (List ℕ)) → new ≡ old → (hash : List ℕ) → IsNoted old hash → IsNoted new hash
-same_noted old new same hash was = subst (λ (past : BTreeSet (List ℕ)). IsNoted past hash) (sym same) was
-
--- ---- a submission
-
-pub taken : {S : Type 0} (network : Network) (old new : ChainDb S) (state : LedgerState) (params : Params) (slot : ℕ) (bytes : List ℕ) (reply : SubmitReply) → IsWhole network old → IsStateOf network old.chain.items state → params ≡ state.params → slot ≡ state.tip.slot
-    → IsSubmission network.verifies params (slot + 1) old.mempool bytes reply new.mempool → new.opened ≡ old.opened → new.chain ≡ old.chain → new.store ≡ old.store → new.db ≡ old.db → new.past ≡ old.past → IsTaken network old bytes reply new
-taken network old new state params slot bytes reply whole is params_is slot_is submission opened chain store db past = record {
-  submits = submits network old.chain.items state is old.mempool new.mempool whole.pool params slot bytes reply params_is slot_is submission;
-  whole = whole_with network old new opened (ap (λ (v : Vec Block). v.items) chain) store db (pool_after network old.chain.items state is old.mempool new.mempool whole.pool params slot bytes reply params_is slot_is submission) (same_noted old.past new.past past) whole;
+pub taken : {S : Type 0} (network : Network) (old : ChainDb S) (pool : Pool) (state : LedgerState) (params : Params) (slot : ℕ) (bytes : List ℕ) (reply : SubmitReply) → IsWhole network old → IsStateOf network old.chain.items state → params ≡ state.params → slot ≡ state.tip.slot
+    → IsSubmission network.verifies params (slot + 1) old.mempool bytes reply pool → IsTaken network old bytes reply (record old { mempool = pool })
+taken network old pool state params slot bytes reply whole is params_is slot_is submission = record {
+  submits = submits network old.chain.items state is old.mempool pool whole.pool params slot bytes reply params_is slot_is submission;
+  whole = record {
+    opened = whole.opened;
+    settled = whole.settled;
+    k = whole.k;
+    capacity = whole.capacity;
+    pool = pool_after network old.chain.items state is old.mempool pool whole.pool params slot bytes reply params_is slot_is submission;
+    past = whole.past;
+  };
 }
 
 -- so it is whole after a submission, whatever is answered
-pub whole_after : {S : Type 0} (network : Network) (old new : ChainDb S) (bytes : List ℕ) (result : Result CodeReply AllocError) → IfOk result (λ reply. IsTaken network old bytes (reply_of reply) new) → new.opened ≡ old.opened → new.chain ≡ old.chain → new.store ≡ old.store → new.db ≡ old.db
-    → new.past ≡ old.past → OnErr result (new.mempool ≡ old.mempool) → IsWhole network old → IsWhole network new
-whole_after network old new bytes (Ok reply) ok opened chain store db past err whole = ok.whole
-whole_after network old new bytes (Err e) ok opened chain store db past err whole = whole_same network old new opened (ap (λ (v : Vec Block). v.items) chain) store db err (same_noted old.past new.past past) whole
+pub whole_after : {S : Type 0} (network : Network) (old : ChainDb S) (pool : Pool) (bytes : List ℕ) (result : Result CodeReply AllocError) → IfOk result (λ reply. IsTaken network old bytes (reply_of reply) (record old { mempool = pool })) → OnErr result (pool ≡ old.mempool)
+    → IsWhole network old → IsWhole network (record old { mempool = pool })
+whole_after network old pool bytes (Ok reply) ok err whole = ok.whole
+whole_after network old pool bytes (Err e) ok err whole = subst (λ (p : Pool). IsWhole network (record old { mempool = p })) (sym err) whole
 
 -- ---- hashes that are noted at a switch
 
@@ -207,28 +200,24 @@ switch_noted network old whole switch chain noted next k same within k_is stays 
 module _ {S : Type 0} (network : Network) (old : ChainDb S) (new : Block) (whole : IsWhole network old) (ready : IsReady network old.chain.items old.store old.db new) (invalid : List BlockHash)
     (found : AllByRecursion (IsFoundDead network old.chain.items (new ∷ blocks_of old.store)) invalid) where
   -- the chain stays
-  pub added_kept : (next : ChainDb S) (told : Change) → IsTakenIn old.store new invalid next.store → next.chain.items ≡ old.chain.items → next.db ≡ old.db → next.mempool ≡ old.mempool → next.past ≡ old.past → next.opened ≡ old.opened → told.back ≡ 0 → told.added ≡ 0
-      → IsSelected network old.store old.chain.items new old.chain.items → IsAdded network old new next told
-  added_kept next told taken same_chain same_db same_pool same_past same_opened no_back none_added selected = record {
-    selected = subst (IsSelected network old.store old.chain.items new) (sym same_chain) selected;
-    change = subst (λ (c : List Block). IsChange old.chain.items c told.back told.added) (sym same_chain) (no_change old.chain.items told.back told.added no_back none_added);
-    live = λ kept holds. subst (λ (c : List Block). HoldsLive network (new ∷ kept) c next.store) (sym same_chain)
-        (taken.marked.live network (new ∷ kept) old.chain.items (taken.gains network kept old.chain.items holds ready.past));
-    mempool = ap (λ (p : Pool). p.waiting.txs) same_pool ∙ (sym whole.pool.valid ∙ ap (λ (c : List Block). revalidated network c old.mempool.waiting.txs) (sym same_chain));
+  pub added_kept : (next : ChainDb S) (told : Change) → IsTakenIn old.store new invalid next.store → next ≡ record old { store = next.store } → told.back ≡ 0 → told.added ≡ 0 → IsSelected network old.store old.chain.items new old.chain.items
+      → IsAdded network old new next told
+  added_kept next told taken frame no_back none_added selected = subst (λ (a : ChainDb S). IsAdded network old new a told) (sym frame) (record {
+    selected = selected;
+    change = no_change old.chain.items told.back told.added no_back none_added;
+    live = λ kept holds. taken.marked.live network (new ∷ kept) old.chain.items (taken.gains network kept old.chain.items holds ready.past);
+    mempool = sym whole.pool.valid;
     whole = record {
-      opened = same_opened ∙ whole.opened;
-      settled = subst (λ (d : Database). IsSettled network next.chain.items next.store d) (sym same_db)
-          (subst (λ (c : List Block). IsSettled network c next.store old.db) (sym same_chain)
-          (settled_again network old.chain.items old.store old.db new ready old.chain.items next.store old.db selected
+      opened = whole.opened;
+      settled = settled_again network old.chain.items old.store old.db new ready old.chain.items next.store old.db selected
           (all_from_members (Contains (at_hand old.chain.items old.store new)) old.chain.items (λ b member. Contains-append_right (new ∷ blocks_of old.store) old.chain.items b member))
-          (kept_store network old.chain.items old.store old.db new ready invalid found next.store taken) ready.settled.database ready.settled.depth));
-      k = ap (λ (d : Database). d.k) same_db ∙ whole.k;
+          (kept_store network old.chain.items old.store old.db new ready invalid found next.store taken) ready.settled.database ready.settled.depth;
+      k = whole.k;
       capacity = taken.marked.capacity ∙ (taken.inserted.capacity ∙ whole.capacity);
-      pool = pool_same network old.chain.items next.chain.items old.mempool next.mempool same_chain same_pool whole.pool;
-      past = subst (λ (c : List Block). AllByRecursion (IsBlockNoted next.past) (immutable_part network c)) (sym same_chain)
-          (subst (λ (p : BTreeSet (List ℕ)). AllByRecursion (IsBlockNoted p) (immutable_part network old.chain.items)) (sym same_past) whole.past);
+      pool = whole.pool;
+      past = whole.past;
     };
-  }
+  })
     where
       no_change : (c : List Block) (back added : ℕ) → back ≡ 0 → added ≡ 0 → IsChange c c back added
       no_change c back added b a = record {

@@ -13,16 +13,17 @@ use Rattle.model.specs.Mempool.{Submits, revalidated}
 use Rattle.followers.specs.Places.{Places, moved_places}
 use Rattle.followers.specs.Standing.{ArePlacesOf}
 use Rattle.followers.proofs.ForCallers.{the_lengths}
-use Rattle.model.specs.History.{State, Refusal, TooOld, Known, Clash, Applies, Arrive, Submit, Kept, Refused, IsChange, Keeps, Step}
+use Rattle.model.specs.History.{State, Refusal, TooOld, Known, Clash, VolatileFull, Applies, Arrive, Submit, Kept, Refused, IsChange, Keeps, Step}
 use Rattle.model.proofs.Lists.{all_from_members, all_weaker, contains_later}
 use Rattle.std.specs.Prelude.{IfOk, OnErr}
-use Rattle.std.specs.Global.{Vec}
 use Rattle.std.specs.declared.alloc.AllocError.{AllocError}
 use Rattle.mempool.specs.Pool.{Pool}
 use Rattle.mempool.specs.View.{reply_of as answer_of}
 use Rattle.mempool.specs.declared.reply.SubmitReply.{SubmitReply}
-use Rattle.blockstore.specs.Stored.{Stored, Store, blocks_of}
+use Rattle.blockstore.specs.Stored.{Stored, blocks_of}
+use Rattle.blockstore.specs.Insertion.{IsFull}
 use Rattle.blockstore.specs.Live.{HoldsLive}
+use Rattle.blockstore.proofs.ForCallers.{full_over}
 use Rattle.chainsel.specs.Ready.{IsReady}
 use Rattle.chainsel.proofs.ForCallers.{settled_live}
 use Rattle.chain_core.specs.declared.chain_db.ChainDb.{ChainDb}
@@ -41,7 +42,7 @@ at_rest a = record { kept = blocks_of a.store; chain = a.chain.items; mempool = 
 pub rests : {S : Type 0} (network : Network) (a : ChainDb S) → IsWhole network a → HasState network a (at_rest a)
 rests network a whole = record { chain = refl; live = settled_live network a.chain.items a.store a.db whole.settled }
 
-pub is_ready : {S : Type 0} (network : Network) (a : ChainDb S) (b : Block) (bytes : List ℕ) → IsWhole network a → IsRead b bytes → IsJudged network (at_rest a) b None → IsReady network a.chain.items a.store a.db b
+is_ready : {S : Type 0} (network : Network) (a : ChainDb S) (b : Block) (bytes : List ℕ) → IsWhole network a → IsRead b bytes → IsJudged network (at_rest a) b None → IsReady network a.chain.items a.store a.db b
 is_ready network a b bytes whole read judged =
     let none : (r : Refusal) → Applies network (at_rest a) bytes r → ⊥ = judged bytes read in
     let live = (rests network a whole).live in
@@ -51,6 +52,13 @@ is_ready network a b bytes whole read judged =
       alone = all_from_members (λ c. block_hash_of c ≢ block_hash_of b) (blocks_of a.store)
           (λ c member same. none Clash (b, read.read, (c, inl ((live.members c).0 member), same, λ text. none Known (c, (live.members c).0 member, text))));
     }
+
+-- and there is room for it
+pub may_be_added : {S : Type 0} (network : Network) (a : ChainDb S) (b : Block) (bytes : List ℕ) → IsWhole network a → IsRead b bytes → IsJudged network (at_rest a) b None → IsReady network a.chain.items a.store a.db b × (IsFull a.store → ⊥)
+may_be_added network a b bytes whole read judged = (
+  is_ready network a b bytes whole read judged,
+  λ full. judged bytes read VolatileFull ((full_over network (at_rest a) a.store bytes (record { live = (rests network a whole).live; capacity = whole.capacity })).0 full),
+)
 
 -- ---- steps of each state that the core stands for
 
@@ -131,18 +139,13 @@ SubmitSteps network new followers bytes now result = (s : State) → Stands now 
     × Stands (held_of network.genesis network.opened (blocks_of new.store) new.chain.items new.mempool.waiting.txs followers) t
 
 pub submitted : {S : Type 0} (network : Network) (old new : ChainDb S) (followers : Places) (now : Held) (bytes : List ℕ) (result : Result SubmitReply AllocError) → held_of network.genesis network.opened (blocks_of old.store) old.chain.items old.mempool.waiting.txs followers ≡ now → IsWhole network old
-    → IfOk result (λ reply. (genesis : Genesis) (opened : List Block) → IsWhole (network_on genesis network.verifies opened) old → IsTaken (network_on genesis network.verifies opened) old bytes (answer_of reply) new) → new.chain ≡ old.chain → new.store ≡ old.store → OnErr result (new.mempool ≡ old.mempool)
+    → IfOk result (λ reply. (genesis : Genesis) (opened : List Block) → IsWhole (network_on genesis network.verifies opened) old → IsTaken (network_on genesis network.verifies opened) old bytes (answer_of reply) new) → new ≡ record old { mempool = new.mempool } → OnErr result (new.mempool ≡ old.mempool)
     → SubmitSteps network new followers bytes now result
-submitted {S} network old new followers now bytes (Err e) view whole ok chain store err =
+submitted {S} network old new followers now bytes (Err e) view whole ok frame err =
+    let same : new ≡ old = frame ∙ ap (λ (p : Pool). record old { mempool = p }) err in
     subst (λ (h : Held). SubmitSteps network new followers bytes h (Err e)) view
-    (λ s stands. (
-      s,
-      refl,
-      subst (λ (m : List Transaction). Stands (held_of network.genesis network.opened (blocks_of new.store) new.chain.items m followers) s) (sym (ap (λ (p : Pool). p.waiting.txs) err))
-          (subst (λ (c : Vec Block). Stands (held_of network.genesis network.opened (blocks_of new.store) c.items old.mempool.waiting.txs followers) s) (sym chain)
-          (subst (λ (x : Store). Stands (held_of network.genesis network.opened (blocks_of x) old.chain.items old.mempool.waiting.txs followers) s) (sym store) stands)),
-    ))
-submitted {S} network old new followers now bytes (Ok reply) view whole ok chain store err =
+    (λ s stands. (s, refl, subst (λ (a : ChainDb S). Stands (held_of network.genesis network.opened (blocks_of a.store) a.chain.items a.mempool.waiting.txs followers) s) (sym same) stands))
+submitted {S} network old new followers now bytes (Ok reply) view whole ok frame err =
     subst (λ (h : Held). SubmitSteps network new followers bytes h (Ok reply)) view each
   where
     each : SubmitSteps network new followers bytes (held_of network.genesis network.opened (blocks_of old.store) old.chain.items old.mempool.waiting.txs followers) (Ok reply)
@@ -156,7 +159,6 @@ submitted {S} network old new followers now bytes (Ok reply) view whole ok chain
                 (subst (λ (m : List Transaction). Submits network old.chain.items m bytes (answer_of reply) new.mempool.waiting.txs) stands.mempool is.submits);
             after = refl;
           },
-          subst (λ (c : Vec Block). Stands (held_of network.genesis network.opened (blocks_of new.store) c.items new.mempool.waiting.txs followers) t) (sym chain)
-              (subst (λ (x : Store). Stands (held_of network.genesis network.opened (blocks_of x) old.chain.items new.mempool.waiting.txs followers) t) (sym store)
-              (record { chain = stands.chain; mempool = refl; followers = stands.followers; members = stands.members; count = stands.count; chain_kept = stands.chain_kept })),
+          subst (λ (a : ChainDb S). Stands (held_of network.genesis network.opened (blocks_of a.store) a.chain.items a.mempool.waiting.txs followers) t) (sym frame)
+              (record { chain = stands.chain; mempool = refl; followers = stands.followers; members = stands.members; count = stands.count; chain_kept = stands.chain_kept }),
         )

@@ -1,18 +1,19 @@
 //! The selected chain with what selection stands on.
 
 ghost use Rattle.std.specs.Prelude.{◌≡◌, ◌≤◌, ◌<◌, ◌+◌, ◌-◌, ◌^◌, ◌++◌, [], List, ℕ, length, take, IfOk, OnOk, OnErr};
-ghost use Rattle.std.specs.Prelude.{vec_capacity};
+ghost use Rattle.std.specs.Prelude.{◌≢◌, vec_capacity};
 ghost use Rattle.std.specs.List.{AllByRecursion};
 ghost use Rattle.model.specs.Genesis.{Genesis};
 ghost use Rattle.model.specs.Cbor.{text_of};
 ghost use Rattle.model.specs.Transaction.{Transaction, SpellsTransaction, item_of_transaction};
 ghost use Rattle.tx.specs.Bare.{IsBare};
 ghost use Rattle.mempool.specs.View.{reply_of};
-ghost use Rattle.model.specs.Block.{Block, SpellsBlock, block_text};
+ghost use Rattle.model.specs.Block.{Block, SpellsBlock, block_text, block_hash_of};
 ghost use Rattle.model.specs.Ledger.{Network, network_on};
 ghost use Rattle.model.specs.Chain.{immutable_length};
 ghost use Rattle.model.specs.Applying.{IsStateOf};
-ghost use Rattle.blockstore.specs.Stored.{IsSet};
+ghost use Rattle.blockstore.specs.Stored.{IsSet, blocks_of};
+ghost use Rattle.blockstore.specs.Insertion.{IsFull};
 ghost use Rattle.chainsel.specs.Ready.{IsReady};
 ghost use Rattle.ledgerdb.specs.Values.{depth};
 ghost use Rattle.ledgerdb.specs.Chains.{without_last, IsDatabaseOf, IsPreparedOf};
@@ -24,7 +25,7 @@ ghost use Rattle.chain_core.specs.Pools.{IsBroughtTo, IsWantOf};
 use crate::past::{Bytes, note_all};
 use crate::reopening::OpenedChain;
 use block::CheckedBlock;
-use blockstore::BlockStore;
+use blockstore::{BlockStore, InsertFault};
 use chainsel::{Choice, Selection, Switch, select};
 use genesis::Genesis;
 use ident::BlockHash;
@@ -105,7 +106,7 @@ impl<S: SigScheme> ChainDb<S> {
         ensures immutable { (network : Network) → IsWhole network self.now
             → result ≡ immutable_length network self.now.chain.items }
     {
-        self.chain.len().saturating_sub(self.db.depth())
+        chainsel::immutable(&self.chain, &self.db)
     }
 
     /// The state of the chain. Takes no memory.
@@ -116,8 +117,8 @@ impl<S: SigScheme> ChainDb<S> {
         self.db.state()
     }
 
-    /// Keeps the block, selects the chain anew, and brings the mempool up to date with it. Where memory runs out
-    /// nothing changes.
+    /// Keeps the block, for which there is room, selects the chain anew, and brings the mempool up to date with it.
+    /// Where memory runs out nothing changes.
     pub fn add(
         &mut self,
         alloc: Global,
@@ -127,6 +128,7 @@ impl<S: SigScheme> ChainDb<S> {
         requires whole { IsWhole (network_db genesis.now S.verifies self.old) self.old }
         requires ready { IsReady (network_db genesis.now S.verifies self.old) self.old.chain.items
             self.old.store self.old.db block }
+        requires room { IsFull self.old.store → ⊥ }
         ensures ok { IfOk result (λ change.
             IsAdded (network_db genesis.now S.verifies self.old) self.old block self.new change) }
         ensures chain { OnErr result (self.new.chain.items ≡ self.old.chain.items) }
@@ -185,11 +187,7 @@ impl<S: SigScheme> ChainDb<S> {
             AllByRecursion (IsBlockNoted self.new.past)
             (take (length self.old.chain.items - switch.now.back + length switch.now.blocks.items - k)
             (without_last switch.now.back self.old.chain.items ++ switch.now.blocks.items))) }
-        ensures chain { self.new.chain ≡ self.old.chain }
-        ensures opened { self.new.opened ≡ self.old.opened }
-        ensures store { self.new.store ≡ self.old.store }
-        ensures db { self.new.db ≡ self.old.db }
-        ensures mempool { self.new.mempool ≡ self.old.mempool }
+        ensures frame { self.new ≡ record self.old { past = self.new.past } }
     {
         let stays = self.chain.len() - switch.back;
         let past = (stays + switch.blocks.len()).saturating_sub(k as usize);
@@ -199,21 +197,24 @@ impl<S: SigScheme> ChainDb<S> {
         note_all(&mut self.past, &switch.blocks[..more])
     }
 
-    /// Takes the block into the store, and marks the blocks of these hashes. Where memory runs out nothing changes.
+    /// Takes the block into the store, where nothing is said against it, and marks the blocks of these hashes. Where
+    /// memory runs out nothing changes.
     fn insert(&mut self, block: CheckedBlock<S>, invalid: &[BlockHash]) -> Result<(), AllocError>
+        requires alone { AllByRecursion (λ b. block_hash_of b ≢ block_hash_of block) (blocks_of self.old.store) }
+        requires room { IsFull self.old.store → ⊥ }
         ensures ok { OnOk result (IsTakenIn self.old.store block invalid.now self.new.store) }
-        ensures chain { self.new.chain ≡ self.old.chain }
-        ensures opened { self.new.opened ≡ self.old.opened }
-        ensures db { self.new.db ≡ self.old.db }
-        ensures mempool { self.new.mempool ≡ self.old.mempool }
-        ensures past { self.new.past ≡ self.old.past }
+        ensures frame { self.new ≡ record self.old { store = self.new.store } }
         ensures err { OnErr result (self.new.store ≡ self.old.store) }
     {
-        if self.store.insert(block).is_err() {
-            return Err(AllocError);
+        match self.store.insert(block) {
+            Ok(()) => {
+                mark_all(&mut self.store, invalid);
+                Ok(())
+            }
+            Err(InsertFault::OutOfMemory) => Err(AllocError),
+            Err(InsertFault::Known | InsertFault::Clash | InsertFault::VolatileFull) =>
+                unreachable!(),
         }
-        mark_all(&mut self.store, invalid);
-        Ok(())
     }
 
     /// Rolls back and puts on what the switch says, for which there is room.
@@ -228,9 +229,11 @@ impl<S: SigScheme> ChainDb<S> {
             (length self.new.chain.items - depth self.new.db) self.new.store) }
         ensures change { IfOk result (λ change.
             (change.back ≡ switch.back) × (change.added ≡ length switch.blocks.items)) }
-        ensures mempool { self.new.mempool ≡ self.old.mempool }
-        ensures past { self.new.past ≡ self.old.past }
-        ensures opened { self.new.opened ≡ self.old.opened }
+        ensures frame { self.new ≡ record self.old {
+          chain = self.new.chain;
+          store = self.new.store;
+          db = self.new.db;
+        } }
         ensures err { OnErr result ⊥ }
     {
         let mut blocks = switch.blocks;
@@ -255,10 +258,7 @@ impl<S: SigScheme> ChainDb<S> {
         ensures whole { (genesis : Genesis) (opened : List Block) →
             IsWhole (network_on genesis S.verifies opened) self.old →
             IsWhole (network_on genesis S.verifies opened) self.new }
-        ensures chain { self.new.chain ≡ self.old.chain }
-        ensures opened { self.new.opened ≡ self.old.opened }
-        ensures store { self.new.store ≡ self.old.store }
-        ensures db { self.new.db ≡ self.old.db }
+        ensures frame { self.new ≡ record self.old { mempool = self.new.mempool } }
         ensures err { OnErr result (self.new.mempool ≡ self.old.mempool) }
         ensures memory { OnErr result ((t : Transaction) → SpellsTransaction t bytes.now → IsBare t → ⊥) }
     {
@@ -276,10 +276,7 @@ impl<S: SigScheme> ChainDb<S> {
             IsWhole (network_on genesis S.verifies opened) self.old →
             IsWhole (network_on genesis S.verifies opened) self.new }
         ensures spelled { SpellsTransaction tx (text_of (item_of_transaction tx)) }
-        ensures chain { self.new.chain ≡ self.old.chain }
-        ensures opened { self.new.opened ≡ self.old.opened }
-        ensures store { self.new.store ≡ self.old.store }
-        ensures db { self.new.db ≡ self.old.db }
+        ensures frame { self.new ≡ record self.old { mempool = self.new.mempool } }
         ensures err { OnErr result (self.new.mempool ≡ self.old.mempool) }
         ensures memory { OnErr result ((genesis : Genesis) (opened : List Block) →
             IsWhole (network_on genesis S.verifies opened) self.old →

@@ -14,5 +14,6 @@ pub mod Nexts
 pub mod Leasts
 pub mod Turns
 pub mod Explaining
+pub mod Answering
 pub mod Settling
 pub mod ForCallers

@@ -1,9 +1,9 @@
 -- Linked blocks in their places: where a hash and a number have one block, one list leads to a block.
-use Rattle.std.proofs.Common.{◌≡◌, ℕ, ◌+◌, ◌<◌, ◌≤◌, List, [], ◌∷◌, ◌++◌, length, Contains, refl, sym, ap, ◌∙◌, arith, inl, inr}
+use Rattle.std.proofs.Common.{◌≡◌, ℕ, ◌+◌, ◌<◌, List, [], ◌∷◌, ◌++◌, length, Contains, refl, sym, ap, ◌∙◌, arith, inl, inr}
 use Rattle.std.specs.List.{AllByRecursion}
 use Rattle.model.specs.Block.{Block, block_hash_of}
 use Rattle.model.specs.Chain.{Tip, tip_at, tip_after, IsLinked, HaveDistinctHashes}
-use Rattle.model.proofs.Lists.{all_of_member, all_weaker, contains_cases}
+use Rattle.model.proofs.Lists.{all_of_member, contains_cases}
 use Rattle.model.proofs.Chains.{tip_after-append, tip_number, numbers_past, one_with_hash}
 use Rattle.model.proofs.LedgerSteps.{Some_same}
 use Rattle.chainsel.specs.Dead.{HaveOnePlace}

@@ -8,7 +8,7 @@ use Rattle.std.proofs.lemmas.List.Elements.{Contains-append_left, Contains-appen
 use Rattle.model.specs.Block.{Block}
 use Rattle.model.specs.Ledger.{Network}
 use Rattle.model.specs.Chain.{genesis_tip, IsLinked, IsOpening, IsSelection, BeginsWith, NoneLonger, HaveDistinctHashes, immutable_length, immutable_part, live_blocks}
-use Rattle.model.proofs.Lists.{all_of_member, all_from_members, all_weaker, all_both, all_append, all_take, contains_first, contains_later, contains_cases, nothing_contained}
+use Rattle.model.proofs.Lists.{all_of_member, all_from_members, all_weaker, all_both, all_append, all_take, contains_first, contains_later, contains_cases}
 use Rattle.model.proofs.Chains.{linked_front, length_immutable, begins_with_whole}
 use Rattle.model.proofs.FollowerSteps.{begins_fewer, begins_not_longer}
 use Rattle.model.proofs.LegalHistories.{numbers_within, none_longer_than_all}

@@ -4,8 +4,10 @@ use Rattle.std.specs.List.{AllByRecursion}
 use Rattle.std.specs.Ordering.{nat_cmp}
 use Rattle.std.specs.declared.cmp.Ordering.TheVariants.{Greater}
 use Rattle.std.specs.Cmp.Lexicographic.{slice_cmp}
+use Rattle.model.specs.Genesis.{Genesis}
+use Rattle.model.specs.Signature.{Verifies}
 use Rattle.model.specs.Block.{Block, block_hash_of}
-use Rattle.model.specs.Ledger.{Network}
+use Rattle.model.specs.Ledger.{Network, network_on}
 use Rattle.model.specs.Chain.{genesis_tip, tip_after, tip_hash, immutable_length, IsLinked, IsSelection}
 use Rattle.model.specs.History.{IsChange}
 use Rattle.ident.specs.Kinds.{BlockHash}
@@ -15,8 +17,10 @@ use Rattle.ledgerdb.specs.Values.{Database, depth, count}
 use Rattle.ledgerdb.specs.Chains.{without_last, IsPreparedOf}
 use Rattle.chainsel.specs.Dead.{IsDead}
 use Rattle.chainsel.specs.Paths.{IsStep}
+use Rattle.chainsel.specs.Ready.{IsReady}
 use Rattle.chainsel.specs.declared.choice.Choice.{Choice}
 use Rattle.chainsel.specs.declared.choice.Choice.TheVariants as choice
+use Rattle.chainsel.specs.declared.choice.Selection.{Selection}
 use Rattle.chainsel.specs.declared.choice.Switch.{Switch}
 
 -- The selection rule makes this chain of the selected one when the block is kept, beside whatever was kept: the blocks
@@ -92,3 +96,20 @@ IsExplained network chain store new told choice.Keep =
 IsExplained network chain store new told (choice.Switch switch) =
     (keep : ℕ) (path : List Block) → IsOpenPath network chain store new told keep path
     → IsNoBetter (without_last switch.back chain ++ switch.blocks.items) (take keep chain ++ path)
+
+-- Of every network in which all was ready the answer is that of the selection rule, whatever was kept. What was found
+-- dead is so, whatever comes later, and explains the choice by links alone: nothing found dead that it rests on is kept
+-- back. Whatever it was asked with, a switch can be made: the database can commit what is prepared.
+pub record IsAnswer {S : Type 0} (verifies : Verifies) (chain : List Block) (store : Store) (db : Database)
+    (new : Block) (selection : Selection S) : Type 0 where
+  pub choice : (genesis : Genesis) (opened : List Block)
+      → IsReady (network_on genesis verifies opened) chain store db new
+      → IsChoice (network_on genesis verifies opened) chain store db new selection.choice
+  pub invalid : (genesis : Genesis) (opened : List Block)
+      → IsReady (network_on genesis verifies opened) chain store db new
+      → AllByRecursion (IsFoundDead (network_on genesis verifies opened) chain (new ∷ blocks_of store))
+      selection.invalid.items
+  pub told : (genesis : Genesis) (opened : List Block)
+      → IsReady (network_on genesis verifies opened) chain store db new
+      → IsExplained (network_on genesis verifies opened) chain store new selection.invalid.items selection.choice
+  pub switch : IsPossible chain db selection.choice

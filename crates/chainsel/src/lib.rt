@@ -21,4 +21,4 @@ mod selection;
 mod way;
 
 pub use choice::{Choice, Selection, Switch};
-pub use selection::select;
+pub use selection::{immutable, select};

@@ -1,13 +1,8 @@
 //! The search for the longest way through a block that came.
 
-ghost use Rattle.std.specs.Prelude.{◌≡◌, ◌∷◌, List, IfOk};
-ghost use Rattle.std.specs.List.{AllByRecursion};
-ghost use Rattle.model.specs.Genesis.{Genesis};
-ghost use Rattle.model.specs.Block.{Block};
-ghost use Rattle.model.specs.Ledger.{network_on};
-ghost use Rattle.blockstore.specs.Stored.{blocks_of};
-ghost use Rattle.chainsel.specs.Ready.{IsReady};
-ghost use Rattle.chainsel.specs.Choices.{IsChoice, IsFoundDead, IsExplained, IsPossible};
+ghost use Rattle.std.specs.Prelude.{◌≡◌, ◌-◌, length, IfOk};
+ghost use Rattle.ledgerdb.specs.Values.{depth};
+ghost use Rattle.chainsel.specs.Choices.{IsAnswer};
 
 use crate::choice::{Choice, Selection, Switch};
 use crate::furthest::furthest;
@@ -19,7 +14,8 @@ use ledgerdb::{ForkFault, LedgerDb};
 use std::alloc::{AllocError, Global};
 use witness_pool::SigScheme;
 
-/// What becomes of the selected chain when this block comes to the live ones, where a way leads to it from the chain.
+/// What becomes of the selected chain when this block comes to the live ones, where a way leads to it from the chain,
+/// of which the first `immutable` blocks stay.
 ///
 /// Takes a look-up of successors for each block that goes on from the new one, a look-up for each on the way to it, and
 /// the time to judge the longest path; all of that once more for each block found dead. Err where memory runs out.
@@ -28,27 +24,13 @@ pub fn search<S: SigScheme>(
     store: &BlockStore<S>,
     db: &LedgerDb,
     chain: &[CheckedBlock<S>],
+    immutable: usize,
     new: &CheckedBlock<S>,
 ) -> Result<Selection<S>, AllocError>
-    // The answer is that of the selection rule, whatever was kept.
-    ensures choice { IfOk result (λ selection. (genesis : Genesis) (opened : List Block) →
-        IsReady (network_on genesis S.verifies opened) chain.now store.now db.now new.now →
-        IsChoice (network_on genesis S.verifies opened) chain.now store.now db.now new.now selection.choice) }
-    // What was found dead is so, whatever comes later.
-    ensures invalid { IfOk result (λ selection. (genesis : Genesis) (opened : List Block) →
-        IsReady (network_on genesis S.verifies opened) chain.now store.now db.now new.now →
-        AllByRecursion (IsFoundDead (network_on genesis S.verifies opened) chain.now (new.now ∷ blocks_of store.now))
-        selection.invalid.items) }
-    // What is told explains the choice by links alone: nothing found dead that it rests on is kept back.
-    ensures told { IfOk result (λ selection. (genesis : Genesis) (opened : List Block) →
-        IsReady (network_on genesis S.verifies opened) chain.now store.now db.now new.now →
-        IsExplained (network_on genesis S.verifies opened) chain.now store.now new.now selection.invalid.items
-        selection.choice) }
-    // Whatever it was asked with, a switch can be made: the database can commit what is prepared.
-    ensures switch { IfOk result (λ selection. IsPossible chain.now db.now selection.choice) }
+    requires { immutable ≡ length chain.now - depth db.now }
+    ensures { IfOk result (IsAnswer S.verifies chain.now store.now db.now new.now) }
 {
     let mut invalid = Vec::new(alloc);
-    let immutable = chain.len().saturating_sub(db.depth());
     loop {
         let end = furthest(alloc, store, &invalid, new)?;
         if end.number() <= chain.len() as u64 {

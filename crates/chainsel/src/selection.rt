@@ -1,13 +1,12 @@
 //! The selection rule when a block comes.
 
-ghost use Rattle.std.specs.Prelude.{◌≡◌, ◌∷◌, List, IfOk};
-ghost use Rattle.std.specs.List.{AllByRecursion};
-ghost use Rattle.model.specs.Genesis.{Genesis};
-ghost use Rattle.model.specs.Block.{Block};
-ghost use Rattle.model.specs.Ledger.{network_on};
-ghost use Rattle.blockstore.specs.Stored.{blocks_of};
-ghost use Rattle.chainsel.specs.Ready.{IsReady};
-ghost use Rattle.chainsel.specs.Choices.{IsChoice, IsFoundDead, IsExplained, IsPossible};
+ghost use Rattle.std.specs.Prelude.{◌≡◌, ◌-◌, length, IfOk};
+ghost use Rattle.model.specs.Ledger.{Network};
+ghost use Rattle.model.specs.Chain.{immutable_length};
+ghost use Rattle.blockstore.specs.Stored.{Store};
+ghost use Rattle.ledgerdb.specs.Values.{depth};
+ghost use Rattle.chainsel.specs.Ready.{IsSettled};
+ghost use Rattle.chainsel.specs.Choices.{IsAnswer};
 
 use crate::choice::Selection;
 use crate::search::{keep, search};
@@ -17,6 +16,15 @@ use blockstore::BlockStore;
 use ledgerdb::LedgerDb;
 use std::alloc::{AllocError, Global};
 use witness_pool::SigScheme;
+
+/// How many blocks of the chain are never rolled back: all but as many as the database can. Takes no memory.
+pub fn immutable<S: SigScheme>(chain: &[CheckedBlock<S>], db: &LedgerDb) -> usize
+    ensures count { result ≡ length chain.now - depth db.now }
+    ensures immutable { (network : Network) (store : Store) → IsSettled network chain.now store db.now
+        → result ≡ immutable_length network chain.now }
+{
+    chain.len().saturating_sub(db.depth())
+}
 
 /// What becomes of the selected chain when this block comes to the live ones (the Consensus and Storage Layer report,
 /// chain selection). Nothing changes: the caller marks what was found dead, and switches.
@@ -35,27 +43,12 @@ pub fn select<S: SigScheme>(
     chain: &[CheckedBlock<S>],
     new: &CheckedBlock<S>,
 ) -> Result<Selection<S>, AllocError>
-    // The answer is that of the selection rule, whatever was kept.
-    ensures choice { IfOk result (λ selection. (genesis : Genesis) (opened : List Block) →
-        IsReady (network_on genesis S.verifies opened) chain.now store.now db.now new.now →
-        IsChoice (network_on genesis S.verifies opened) chain.now store.now db.now new.now selection.choice) }
-    // What was found dead is so, whatever comes later.
-    ensures invalid { IfOk result (λ selection. (genesis : Genesis) (opened : List Block) →
-        IsReady (network_on genesis S.verifies opened) chain.now store.now db.now new.now →
-        AllByRecursion (IsFoundDead (network_on genesis S.verifies opened) chain.now (new.now ∷ blocks_of store.now))
-        selection.invalid.items) }
-    // What is told explains the choice by links alone: nothing found dead that it rests on is kept back.
-    ensures told { IfOk result (λ selection. (genesis : Genesis) (opened : List Block) →
-        IsReady (network_on genesis S.verifies opened) chain.now store.now db.now new.now →
-        IsExplained (network_on genesis S.verifies opened) chain.now store.now new.now selection.invalid.items
-        selection.choice) }
-    // Whatever it was asked with, a switch can be made: the database can commit what is prepared.
-    ensures switch { IfOk result (λ selection. IsPossible chain.now db.now selection.choice) }
+    ensures { IfOk result (IsAnswer S.verifies chain.now store.now db.now new.now) }
 {
     let invalid = Vec::new(alloc);
-    let immutable = chain.len().saturating_sub(db.depth());
+    let immutable = immutable(chain, db);
     if way_to(alloc, store, &invalid, chain, immutable, new, new)?.is_none() {
         return Ok(keep(invalid));
     }
-    search(alloc, store, db, chain, new)
+    search(alloc, store, db, chain, immutable, new)
 }

@@ -1,4 +1,4 @@
-use Rattle.std.proofs.Common.{ℕ, List, ◌∷◌, take, refl, ap, subst, ◌∙◌, sym}
+use Rattle.std.proofs.Common.{◌≡◌, ℕ, List, ◌∷◌, take, refl, ap, subst, ◌∙◌, sym}
 use Rattle.std.specs.List.{AllByRecursion}
 use Rattle.model.specs.Block.{Block}
 use Rattle.ledgerdb.specs.Chains.{without_last, IsPreparedOf}
@@ -6,7 +6,7 @@ use Rattle.ident.specs.Kinds.{BlockHash}
 use Rattle.blockstore.specs.Stored.{Store, blocks_of}
 use Rattle.chainsel.specs.Ready.{IsReady}
 use Rattle.chainsel.specs.Choices.{IsSelected, IsChoice, IsSwitch, IsFoundDead}
-use Rattle.mempool.specs.Pool.{Pool}
+use Rattle.chain_core.specs.declared.chain_db.ChainDb.{ChainDb}
 use Rattle.chain_core.specs.ChainDbs.{IsTakenIn, network_db}
 use Rattle.chain_core.proofs.Adding.{added_kept, added_at_switch, switch_noted}
 use Rattle.chain_core.proofs.chain_db.ChainDb.add.Goals as goal
@@ -22,7 +22,7 @@ returns-in-Keep-clause-ok g c =
     let selected = subst (λ (bs : List Block). IsSelected network old.store bs new bs) c.deref.ensures.value choice in
     let found = subst (λ (bs : List Block). AllByRecursion (IsFoundDead network bs (new ∷ blocks_of old.store)) c.in_ok-choice.field-0.invalid.items) c.deref.ensures.value (c.in_ok-choice.ensures.invalid c.args.genesis.now opened ready) in
     let taken = subst (λ (hs : List BlockHash). IsTakenIn old.store new hs c.insert.new.self.store) c.deref-in-Keep.ensures.value c.in_ok-insert-in-Keep.ensures.ok in
-    added_kept network old new c.requires.whole c.requires.ready c.in_ok-choice.field-0.invalid.items found c.insert.new.self (record { back = 0; added = 0 }) taken (ap (λ v. v.items) c.insert.ensures.chain) c.insert.ensures.db c.insert.ensures.mempool c.insert.ensures.past c.insert.ensures.opened refl refl selected
+    added_kept network old new c.requires.whole c.requires.ready c.in_ok-choice.field-0.invalid.items found c.insert.new.self (record { back = 0; added = 0 }) taken c.insert.ensures.frame refl refl selected
 
 pub returns-clause-ok : goal.returns-clause-ok
 returns-clause-ok g c =
@@ -34,11 +34,14 @@ returns-clause-ok g c =
     let choice = subst (IsChoice network c.deref.result.now old.store old.db new) c.in-Switch.is (c.in_ok-choice.ensures.choice c.args.genesis.now opened ready) in
     let is = subst (λ (bs : List Block). IsSwitch network bs old.store old.db new c.in-Switch.switch) c.deref.ensures.value choice in
     let found = subst (λ (bs : List Block). AllByRecursion (IsFoundDead network bs (new ∷ blocks_of old.store)) c.in_ok-choice.field-0.invalid.items) c.deref.ensures.value (c.in_ok-choice.ensures.invalid c.args.genesis.now opened ready) in
-    let taken = subst (λ (x : Store). IsTakenIn x new c.in_ok-choice.field-0.invalid.items c.insert-in-Switch.new.self.store) c.note_past.ensures.store
+    let frame : c.insert-in-Switch.new.self ≡ record old { chain = c.reserve.new.self; store = c.insert-in-Switch.new.self.store; past = c.note_past.new.self.past } =
+    subst (λ (a : ChainDb g.row.S.Denot). c.insert-in-Switch.new.self ≡ record a { store = c.insert-in-Switch.new.self.store }) c.note_past.ensures.frame c.insert-in-Switch.ensures.frame in
+    let taken = subst (λ (x : Store). IsTakenIn x new c.in_ok-choice.field-0.invalid.items c.insert-in-Switch.new.self.store) (ap (λ (a : ChainDb g.row.S.Denot). a.store) c.note_past.ensures.frame)
     (subst (λ (hs : List BlockHash). IsTakenIn c.note_past.new.self.store new hs c.insert-in-Switch.new.self.store) c.deref-in-Switch.ensures.value c.in_ok-insert-in-Switch.ensures.ok) in
     let noted = switch_noted network old c.requires.whole c.in-Switch.switch c.reserve.new.self c.note_past.new.self.past c.switch_to.new.self.past c.k.result c.reserve.ensures.items is.within c.k.ensures.k
-    (c.switch_to.ensures.past ∙ c.insert-in-Switch.ensures.past) c.note_past.ensures.kept c.in_ok-note_past-in-Switch.ensures.noted in
+    (ap (λ (a : ChainDb g.row.S.Denot). a.past) c.switch_to.ensures.frame ∙ ap (λ (a : ChainDb g.row.S.Denot). a.past) frame) c.note_past.ensures.kept c.in_ok-note_past-in-Switch.ensures.noted in
     added_at_switch network old new c.requires.whole c.requires.ready c.in_ok-choice.field-0.invalid.items found c.in-Switch.switch c.insert-in-Switch.new.self c.switch_to.new.self c.switch_to.result is taken
-    (ap (λ v. v.items) (c.insert-in-Switch.ensures.chain ∙ c.note_past.ensures.chain) ∙ c.reserve.ensures.items) (c.insert-in-Switch.ensures.db ∙ c.note_past.ensures.db) c.switch_to.ensures.chain c.switch_to.ensures.db c.switch_to.ensures.store
-    c.in_ok-resynced-in-Switch.resynced (c.in_ok-resynced-in-Switch.ensures c.args.genesis.now opened old.chain.items c.in-Switch.switch.blocks.items c.requires.whole.settled.database (subst (λ (n : ℕ). IsPreparedOf network (without_last n old.chain.items) c.in-Switch.switch.blocks.items c.in-Switch.switch.prepared) (sym is.back) is.prepared)) (c.switch_to.ensures.mempool ∙ (c.put.ensures ∙ ap (λ (p : Pool). record p { waiting = c.in_ok-resynced-in-Switch.resynced }) (c.insert-in-Switch.ensures.mempool ∙ c.note_past.ensures.mempool)))
-    noted (c.switch_to.ensures.opened ∙ (c.insert-in-Switch.ensures.opened ∙ c.note_past.ensures.opened)) c.switch_to.ensures.change
+    (ap (λ (a : ChainDb g.row.S.Denot). a.chain.items) frame ∙ c.reserve.ensures.items) (ap (λ (a : ChainDb g.row.S.Denot). a.db) frame) c.switch_to.ensures.chain c.switch_to.ensures.db c.switch_to.ensures.store
+    c.in_ok-resynced-in-Switch.resynced (c.in_ok-resynced-in-Switch.ensures c.args.genesis.now opened old.chain.items c.in-Switch.switch.blocks.items c.requires.whole.settled.database (subst (λ (n : ℕ). IsPreparedOf network (without_last n old.chain.items) c.in-Switch.switch.blocks.items c.in-Switch.switch.prepared) (sym is.back) is.prepared))
+    (ap (λ (a : ChainDb g.row.S.Denot). a.mempool) c.switch_to.ensures.frame ∙ (c.put.ensures ∙ ap (λ (a : ChainDb g.row.S.Denot). record a.mempool { waiting = c.in_ok-resynced-in-Switch.resynced }) frame))
+    noted (ap (λ (a : ChainDb g.row.S.Denot). a.opened) c.switch_to.ensures.frame ∙ ap (λ (a : ChainDb g.row.S.Denot). a.opened) frame) c.switch_to.ensures.change

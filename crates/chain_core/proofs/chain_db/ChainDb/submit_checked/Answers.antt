@@ -1,4 +1,4 @@
-use Rattle.std.proofs.Common.{◌+◌, ℕ, List, refl}
+use Rattle.std.proofs.Common.{◌+◌, ℕ, List}
 use Rattle.std.proofs.lemmas.Result.{IfOk-weaker, on_err_weaker}
 use Rattle.model.specs.Block.{Block}
 use Rattle.model.specs.Genesis.{Genesis}
@@ -18,11 +18,11 @@ pub returns-clause-ok : goal.returns-clause-ok
 returns-clause-ok g c =
     let verifies = g.S.SigScheme.verifies in
     let old = c.args.self.now in
-    let new : ChainDb g.row.S.Denot = record { chain = old.chain; store = old.store; db = old.db; mempool = c.submit_checked.new.self; past = old.past; opened = old.opened } in
+    let new : ChainDb g.row.S.Denot = record old { mempool = c.submit_checked.new.self } in
     IfOk-weaker c.submit_checked.result (λ reply. IsSubmissionOf verifies (params_of c.params.result.now) (c.slot.result + 1) old.mempool c.args.tx (reply_of reply) c.submit_checked.new.self)
     (λ reply. (genesis : Genesis) (opened : List Block) → IsWhole (network_on genesis verifies opened) old → (bytes : List ℕ) → SpellsTransaction c.args.tx bytes → IsTaken (network_on genesis verifies opened) old bytes (reply_of reply) new)
-    (λ reply p. λ genesis opened whole bytes spelled. taken (network_on genesis verifies opened) old new c.state-state.result.now (params_of c.params.result.now) c.slot.result bytes (reply_of reply) whole
-    (c.state-state.ensures.chain (network_on genesis verifies opened) old.chain.items whole.settled.database) c.params.ensures c.slot.ensures.slot (p bytes spelled) refl refl refl refl refl)
+    (λ reply p. λ genesis opened whole bytes spelled. taken (network_on genesis verifies opened) old c.submit_checked.new.self c.state-state.result.now (params_of c.params.result.now) c.slot.result bytes (reply_of reply) whole
+    (c.state-state.ensures.chain (network_on genesis verifies opened) old.chain.items whole.settled.database) c.params.ensures c.slot.ensures.slot (p bytes spelled))
     c.submit_checked.ensures.ok
 
 pub returns-clause-whole : goal.returns-clause-whole
@@ -30,10 +30,10 @@ returns-clause-whole g c = λ genesis opened whole.
     let verifies = g.S.SigScheme.verifies in
     let old = c.args.self.now in
     let text = text_of (item_of_transaction c.args.tx) in
-    let new : ChainDb g.row.S.Denot = record { chain = old.chain; store = old.store; db = old.db; mempool = c.submit_checked.new.self; past = old.past; opened = old.opened } in
-    whole_after (network_on genesis verifies opened) old new text c.submit_checked.result
+    let new : ChainDb g.row.S.Denot = record old { mempool = c.submit_checked.new.self } in
+    whole_after (network_on genesis verifies opened) old c.submit_checked.new.self text c.submit_checked.result
     (IfOk-weaker c.submit_checked.result (λ reply. (genesis : Genesis) (opened : List Block) → IsWhole (network_on genesis verifies opened) old → (bytes : List ℕ) → SpellsTransaction c.args.tx bytes → IsTaken (network_on genesis verifies opened) old bytes (reply_of reply) new)
-    (λ reply. IsTaken (network_on genesis verifies opened) old text (reply_of reply) new) (λ reply p. p genesis opened whole text c.submit_checked.ensures.spelled) (returns-clause-ok g c)) refl refl refl refl refl c.submit_checked.ensures.err whole
+    (λ reply. IsTaken (network_on genesis verifies opened) old text (reply_of reply) new) (λ reply p. p genesis opened whole text c.submit_checked.ensures.spelled) (returns-clause-ok g c)) c.submit_checked.ensures.err whole
 
 pub returns-clause-memory : goal.returns-clause-memory
 returns-clause-memory g c =

@@ -3,30 +3,41 @@ use Rattle.block.specs.Read.{IsRead}
 use Rattle.model.specs.Block.{Block}
 use Rattle.model.specs.Chain.{IsOpening}
 use Rattle.model.specs.Ledger.{network_on}
+use Rattle.blockstore.specs.Insertion.{IsFull}
 use Rattle.blockstore.specs.Stored.{blocks_of}
+use Rattle.chainsel.specs.Ready.{IsReady}
 use Rattle.chain_core.specs.Steps.{IsReached}
 use Rattle.model.specs.History.{State, Arrive, Kept}
 use Rattle.followers.specs.Places.{moved_places}
 use Rattle.chain_core.specs.ChainDbs.{IsWhole, HasState}
 use Rattle.chain_core.specs.Views.{refusal_of}
 use Rattle.chain_core.specs.Held.{held_of, network_held}
-use Rattle.chain_core.proofs.Arrivals.{at_rest, rests, is_ready, IsJudgedAt, refused_arrival, none_applies, kept_arrival}
+use Rattle.chain_core.proofs.Arrivals.{at_rest, rests, may_be_added, IsJudgedAt, refused_arrival, none_applies, kept_arrival}
 use Rattle.chain_core.specs.Inside.{held}
 use Rattle.chain_core.proofs.Adding.{whole_same}
 use Rattle.chain_core.proofs.Reached.{opened_is, reached_on, reached_still, steps_on}
 use Rattle.chain_core.proofs.Results.{on_err}
+use Rattle.chain_core.proofs.node_core.Core.arrive.Given as given
 use Rattle.chain_core.proofs.node_core.Core.arrive.Goals as goal
+use Rattle.chain_core.proofs.node_core.Core.arrive.Goals.{In_ok-block}
 
 pub returns-in-Some-clause-step : goal.returns-in-Some-clause-step
 returns-in-Some-clause-step g c =
     refused_arrival (network_held (held c.self.inside) g.S.SigScheme.verifies) c.self.inside.chain_db c.self.inside.followers c.args.self.now c.args.bytes.now c.in-Ok.found (refusal_of c.in-Some.refusal) c.self.view_is c.in-Ok.ensures.ok
     (λ s has. c.in-Some.ensures (network_held (held c.self.inside) g.S.SigScheme.verifies) s c.in-Ok.found c.self.invariant.whole has c.bytes.ensures (c.point.ensures.number, c.point.ensures.hash))
 
-pub add-requires-clause-ready : goal.add-requires-clause-ready
-add-requires-clause-ready g c =
+-- the block may be put in
+fits : (g : given.Over) (c : In_ok-block g) → IsReady (network_held (held c.self.inside) g.S.SigScheme.verifies) c.self.inside.chain_db.chain.items c.self.inside.chain_db.store c.self.inside.chain_db.db c.in_ok-block.block × (IsFull c.self.inside.chain_db.store → ⊥)
+fits g c =
     let judged : IsJudgedAt (network_held (held c.self.inside) g.S.SigScheme.verifies) c.self.inside.chain_db c.in_ok-block.block None = subst (λ (b : Block). IsJudgedAt (network_held (held c.self.inside) g.S.SigScheme.verifies) c.self.inside.chain_db b None) (sym c.in_ok-block.ensures) (λ (s : State) (has : HasState (network_held (held c.self.inside) g.S.SigScheme.verifies) c.self.inside.chain_db s). c.in_default.ensures (network_held (held c.self.inside) g.S.SigScheme.verifies) s c.in-Ok.found c.self.invariant.whole has c.bytes.ensures (c.point.ensures.number, c.point.ensures.hash)) in
     let read : IsRead c.in_ok-block.block c.args.bytes.now = subst (λ (b : Block). IsRead b c.args.bytes.now) (sym c.in_ok-block.ensures) c.in-Ok.ensures.ok in
-    is_ready (network_held (held c.self.inside) g.S.SigScheme.verifies) c.self.inside.chain_db c.in_ok-block.block c.args.bytes.now c.self.invariant.whole read (judged (at_rest c.self.inside.chain_db) (rests (network_held (held c.self.inside) g.S.SigScheme.verifies) c.self.inside.chain_db c.self.invariant.whole))
+    may_be_added (network_held (held c.self.inside) g.S.SigScheme.verifies) c.self.inside.chain_db c.in_ok-block.block c.args.bytes.now c.self.invariant.whole read (judged (at_rest c.self.inside.chain_db) (rests (network_held (held c.self.inside) g.S.SigScheme.verifies) c.self.inside.chain_db c.self.invariant.whole))
+
+pub add-requires-clause-ready : goal.add-requires-clause-ready
+add-requires-clause-ready g c = (fits g (goal.at.add-requires-clause-ready g c).In_ok-block).0
+
+pub add-requires-clause-room : goal.add-requires-clause-room
+add-requires-clause-room g c = (fits g (goal.at.add-requires-clause-room g c).In_ok-block).1
 
 pub invariant_of-self-2 : goal.invariant_of-self-2
 invariant_of-self-2 g c =

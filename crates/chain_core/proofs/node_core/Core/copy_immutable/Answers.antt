@@ -1,4 +1,4 @@
-use Rattle.std.proofs.Common.{◌≡◌, ◌+◌, ◌<◌, ◌∷◌, ◌++◌, [], List, ℕ, sym, ap, subst, ◌∙◌, arith, rules}
+use Rattle.std.proofs.Common.{◌≡◌, ◌<◌, ◌∷◌, ◌++◌, [], List, ℕ, sym, ap, subst, ◌∙◌, arith, rules}
 use Rattle.std.specs.List.{AllByRecursion}
 use Rattle.model.specs.Chain.{immutable_length}
 use Rattle.model.specs.Log.{IsLogBlock}

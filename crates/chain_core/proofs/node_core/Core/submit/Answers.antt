@@ -22,7 +22,7 @@ invariant_of-self g c =
       reached = subst (λ (o : List Block). IsReached (network_on c.self.inside.genesis g.S.SigScheme.verifies o) (held_of c.self.inside.genesis o (blocks_of c.submit.new.self.store) c.submit.new.self.chain.items c.submit.new.self.mempool.waiting.txs c.self.inside.followers)) (opened_is (network_held (held c.self.inside) g.S.SigScheme.verifies) c.submit.new.self (whole))
           (reached_on g.S.SigScheme.verifies (held c.self.inside) c.args.self.now _ (Submit c.args.bytes.now) (submit_reply_of c.submit.result) c.self.view_is c.self.invariant.reached
           (submitted (network_held (held c.self.inside) g.S.SigScheme.verifies) c.self.inside.chain_db c.submit.new.self c.self.inside.followers c.args.self.now c.args.bytes.now c.submit.result
-          c.self.view_is c.self.invariant.whole c.submit.ensures.ok c.submit.ensures.chain c.submit.ensures.store c.submit.ensures.err));
+          c.self.view_is c.self.invariant.whole c.submit.ensures.ok c.submit.ensures.frame c.submit.ensures.err));
     }
 
 pub returns-clause-step : goal.returns-clause-step
@@ -31,4 +31,4 @@ returns-clause-step g c =
     steps_on g.S.SigScheme.verifies c.args.self.now (Submit c.args.bytes.now) (submit_reply_of c.submit.result) c.self.inside.genesis _ _ (blocks_of c.submit.new.self.store) c.submit.new.self.chain.items c.submit.new.self.mempool.waiting.txs c.self.inside.followers
     (opened_is (network_held (held c.self.inside) g.S.SigScheme.verifies) c.submit.new.self whole)
     (submitted (network_held (held c.self.inside) g.S.SigScheme.verifies) c.self.inside.chain_db c.submit.new.self c.self.inside.followers c.args.self.now c.args.bytes.now c.submit.result
-    c.self.view_is c.self.invariant.whole c.submit.ensures.ok c.submit.ensures.chain c.submit.ensures.store c.submit.ensures.err)
+    c.self.view_is c.self.invariant.whole c.submit.ensures.ok c.submit.ensures.frame c.submit.ensures.err)

@@ -31,7 +31,7 @@ invariant_of-self g c =
           (submitted (network_held (held c.self.inside) g.S.SigScheme.verifies) c.self.inside.chain_db c.submit_checked.new.self c.self.inside.followers c.args.self.now (text_of (item_of_transaction c.args.tx)) c.submit_checked.result c.self.view_is c.self.invariant.whole
           (IfOk-weaker c.submit_checked.result (λ reply. (genesis : Genesis) (opened : List Block) → IsWhole (network_on genesis g.S.SigScheme.verifies opened) c.self.inside.chain_db → (bytes : List ℕ) → SpellsTransaction c.args.tx bytes → IsTaken (network_on genesis g.S.SigScheme.verifies opened) c.self.inside.chain_db bytes (reply_of reply) c.submit_checked.new.self)
           (λ reply. (genesis : Genesis) (opened : List Block) → IsWhole (network_on genesis g.S.SigScheme.verifies opened) c.self.inside.chain_db → IsTaken (network_on genesis g.S.SigScheme.verifies opened) c.self.inside.chain_db (text_of (item_of_transaction c.args.tx)) (reply_of reply) c.submit_checked.new.self) (λ reply p. λ genesis opened whole. p genesis opened whole (text_of (item_of_transaction c.args.tx)) c.submit_checked.ensures.spelled) c.submit_checked.ensures.ok)
-          c.submit_checked.ensures.chain c.submit_checked.ensures.store c.submit_checked.ensures.err));
+          c.submit_checked.ensures.frame c.submit_checked.ensures.err));
     }
 
 pub returns-clause-step : goal.returns-clause-step
@@ -45,7 +45,7 @@ returns-clause-step g c = λ bytes spelled.
     (submitted (network_held (held c.self.inside) verifies) old new c.self.inside.followers c.args.self.now bytes c.submit_checked.result c.self.view_is c.self.invariant.whole
     (IfOk-weaker c.submit_checked.result (λ reply. (genesis : Genesis) (opened : List Block) → IsWhole (network_on genesis verifies opened) old → (bytes : List ℕ) → SpellsTransaction c.args.tx bytes → IsTaken (network_on genesis verifies opened) old bytes (reply_of reply) new)
     (λ reply. (genesis : Genesis) (opened : List Block) → IsWhole (network_on genesis verifies opened) old → IsTaken (network_on genesis verifies opened) old bytes (reply_of reply) new) (λ reply p. λ genesis opened whole. p genesis opened whole bytes spelled) c.submit_checked.ensures.ok)
-    c.submit_checked.ensures.chain c.submit_checked.ensures.store c.submit_checked.ensures.err)
+    c.submit_checked.ensures.frame c.submit_checked.ensures.err)
 
 pub returns-clause-memory : goal.returns-clause-memory
 returns-clause-memory g c =
