@@ -2,12 +2,12 @@
 
 ghost use Rattle.std.specs.Prelude.{◌≡◌};
 
+use crate::locked_calls::{Call, forward, make_call, submit};
 use crate::network::{bytes_of, genesis, names, points_of, text_of};
 use crate::told::Told;
-use chain_core::{FollowerId, Instruction, NextFault, OpenFollowerFault};
 use ident::Point;
 use inbox::{Mailroom, PEERS, PeerEnd};
-use shared::{Adder, Caller, CloseFault, NotForwarded, NotSubmitted, Opened, Room, Shared};
+use shared::{Adder, Caller, Opened, Room, Shared};
 use std::alloc::Global;
 use std::marker::Brand;
 use std::sync::Wait;
@@ -130,122 +130,6 @@ impl<B: Room, M: Mailroom> Parts<B, M> {
         told.put("\n");
     }
 
-    /// The caller submits bytes, and it is told what is answered. Where memory ran out they come back.
-    fn submits<R: Wait>(&mut self, rt: &R, bytes: Vec<u8>, told: &mut Told) -> Option<Vec<u8>> {
-        match self.shared.shared.submit(rt, &mut self.caller, bytes) {
-            Ok(reply) => {
-                let _ = write!(told.text(), "{reply}");
-                None
-            }
-            Err(NotSubmitted { bytes }) => Some(bytes),
-        }
-    }
-
-    /// The same, once more where it was refused memory.
-    fn submit<R: Wait>(&mut self, rt: &R, bytes: Vec<u8>, told: &mut Told) {
-        told.put("submit Stays: ");
-        if let Some(back) = self.submits(rt, bytes, told) {
-            told.refused();
-            if self.submits(rt, back, told).is_some() {
-                told.put("out of memory");
-            }
-        }
-        told.put("\n");
-    }
-
-    /// The caller sets its follower, and it is told to which block. Where memory ran out the points come back.
-    fn forwards<R: Wait>(
-        &mut self,
-        rt: &R,
-        points: Vec<Point>,
-        told: &mut Told,
-    ) -> Option<Vec<Point>> {
-        let id = FollowerId { number: 0 };
-        match self.shared.shared.forward(rt, &mut self.caller, id, points) {
-            Ok(Some(point)) => {
-                let number = point.number;
-                let _ = write!(told.text(), "block {number}");
-            }
-            Ok(None) => told.put("none"),
-            Err(NotForwarded::UnknownFollower) => told.put("unknown follower"),
-            Err(NotForwarded::OutOfMemory { points }) => return Some(points),
-        }
-        None
-    }
-
-    /// The same, once more where it was refused memory.
-    fn forward<R: Wait>(&mut self, rt: &R, points: Vec<Point>, told: &mut Told) {
-        told.put("forward 0 A1: ");
-        if let Some(back) = self.forwards(rt, points, told) {
-            told.refused();
-            if self.forwards(rt, back, told).is_some() {
-                told.put("out of memory");
-            }
-        }
-        told.put("\n");
-    }
-
-    /// The caller opens a follower, and it is told which. Answers whether there was memory.
-    fn opens<R: Wait>(&mut self, rt: &R, told: &mut Told) -> bool {
-        match self.shared.shared.open(rt, &mut self.caller) {
-            Ok(id) => {
-                let _ = write!(told.text(), "opened {id}");
-            }
-            Err(OpenFollowerFault::TooManyFollowers) => told.put("too many followers"),
-            Err(OpenFollowerFault::OutOfMemory) => return false,
-        }
-        true
-    }
-
-    /// The caller's follower asks what comes next, and that is told. Answers whether there was memory.
-    fn is_next<R: Wait>(&mut self, rt: &R, told: &mut Told) -> bool {
-        let id = FollowerId { number: 0 };
-        match self.shared.shared.next(rt, &mut self.caller, id) {
-            Ok(Some(Instruction::AddBlock(block))) => {
-                let number = block.number();
-                let _ = write!(told.text(), "add block {number}");
-            }
-            Ok(Some(Instruction::RollBack(_))) => told.put("rollback"),
-            Ok(None) => told.put("none"),
-            Err(NextFault::UnknownFollower) => told.put("unknown follower"),
-            Err(NextFault::OutOfMemory) => return false,
-        }
-        true
-    }
-
-    /// The caller closes its follower. Answers whether there was memory.
-    fn closes<R: Wait>(&mut self, rt: &R, told: &mut Told) -> bool {
-        let id = FollowerId { number: 0 };
-        match self.shared.shared.close(rt, &mut self.caller, id) {
-            Ok(()) => told.put("closed"),
-            Err(CloseFault::UnknownFollower) => told.put("unknown follower"),
-            Err(CloseFault::OutOfMemory) => return false,
-        }
-        true
-    }
-
-    /// Makes a call of this kind.
-    fn calls<R: Wait>(&mut self, rt: &R, call: Call, told: &mut Told) -> bool {
-        match call {
-            Call::Open => self.opens(rt, told),
-            Call::Next => self.is_next(rt, told),
-            Call::Close => self.closes(rt, told),
-        }
-    }
-
-    /// The same, once more where it was refused memory.
-    fn call<R: Wait>(&mut self, rt: &R, call: Call, told: &mut Told) {
-        told.put(call.name());
-        told.put(": ");
-        if !self.calls(rt, call, told) {
-            told.refused();
-            if !self.calls(rt, call, told) {
-                told.put("out of memory");
-            }
-        }
-        told.put("\n");
-    }
-
     /// Makes a call of each kind, between two blocks that a peer sends.
     fn play<R: Threads + Wait + Sync>(&mut self, rt: &R, given: HandedIn, told: &mut Told) {
         let HandedIn {
@@ -255,33 +139,14 @@ impl<B: Room, M: Mailroom> Parts<B, M> {
             points,
         } = given;
         self.bring(rt, first, told);
-        self.submit(rt, tx, told);
-        self.call(rt, Call::Open, told);
-        self.call(rt, Call::Next, told);
-        self.call(rt, Call::Next, told);
+        submit(rt, &self.shared.shared, &mut self.caller, tx, told);
+        make_call(rt, &self.shared.shared, &mut self.caller, Call::Open, told);
+        make_call(rt, &self.shared.shared, &mut self.caller, Call::Next, told);
+        make_call(rt, &self.shared.shared, &mut self.caller, Call::Next, told);
         self.bring(rt, second, told);
-        self.forward(rt, points, told);
-        self.call(rt, Call::Next, told);
-        self.call(rt, Call::Close, told);
-    }
-}
-
-/// A call that hands in nothing.
-#[derive(Clone, Copy)]
-enum Call {
-    Open,
-    Next,
-    Close,
-}
-
-impl Call {
-    /// Its name.
-    fn name(self) -> &'static str {
-        match self {
-            Call::Open => "open",
-            Call::Next => "next 0",
-            Call::Close => "close 0",
-        }
+        forward(rt, &self.shared.shared, &mut self.caller, points, told);
+        make_call(rt, &self.shared.shared, &mut self.caller, Call::Next, told);
+        make_call(rt, &self.shared.shared, &mut self.caller, Call::Close, told);
     }
 }
 

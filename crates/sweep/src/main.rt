@@ -7,6 +7,7 @@
 mod calls;
 mod histories;
 mod locked;
+mod locked_calls;
 mod network;
 mod notes;
 mod openings;

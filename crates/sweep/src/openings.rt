@@ -69,18 +69,24 @@ fn given(alloc: Global) -> Option<HandedIn> {
     })
 }
 
+/// Tells why no core was opened. Answers whether there was memory.
+fn tells_fault(fault: ReopenFault, told: &mut Told) -> bool {
+    if fault == ReopenFault::OutOfMemory {
+        return false;
+    }
+    let _ = write!(told.text(), "{fault}\n");
+    true
+}
+
 /// Opens a core on the texts, and tells its numbers. Answers whether there was memory.
 fn tells_core(alloc: Global, genesis: Genesis, texts: &[Vec<u8>], told: &mut Told) -> bool {
-    let core = Core::<TestScheme>::reopen(alloc, genesis, texts);
-    let answers = !matches!(&core, Err(ReopenFault::OutOfMemory));
-    match &core {
-        Ok(core) => put_numbers(told.text(), core),
-        Err(fault) if answers => {
-            let _ = write!(told.text(), "{fault}\n");
+    match Core::<TestScheme>::reopen(alloc, genesis, texts) {
+        Ok(core) => {
+            put_numbers(told.text(), &core);
+            true
         }
-        Err(_) => (),
+        Err(fault) => tells_fault(fault, told),
     }
-    answers
 }
 
 /// Opens a core on three blocks.
