@@ -22,11 +22,16 @@ use witness_pool::{CheckedTx, SigScheme};
 /// The node's chain, from the bytes of blocks in any order.
 ///
 /// ```text
-/// let mut core = Core::<TestScheme>::new(alloc, Genesis::from_toml(alloc, &text)?)?;
-/// match core.arrive(&bytes)? {
-///     ArriveReply::Kept { back, added } => .., // of the selected chain so many are rolled back and put on
-///     ArriveReply::Refused(refusal) => ..,     // the first of seven reasons that applies
-/// }
+/// let genesis = Genesis::from_toml(alloc, &text)?; // it grants one output of 1,200 lovelace
+/// let mut core = Core::<TestScheme>::new(alloc, genesis)?;
+/// let header = Header { number: 1, slot: 1, previous: None, body_hash: empty_body_hash() };
+/// let bytes = write_empty(alloc, &header)?; // a first block without transactions
+/// let reply = core.arrive(&bytes)?; // ArriveReply::Kept { back: 0, added: 1 }: none is rolled back, one is put on
+/// let again = core.arrive(&bytes)?; // ArriveReply::Refused(Refusal::Known)
+/// let follower = core.open()?; // FollowerId { number: 0 }
+/// let told = core.next(follower)?; // Some(Instruction::AddBlock(block)), where block.bytes() is those bytes
+/// let rest = core.next(follower)?; // None: that was all
+/// let tip = core.tip(); // tip.number is 1, core.utxo().len() is 1, and core.fees() is 0
 /// ```
 ///
 /// The core keeps the selected chain, the live blocks, the states of the chain's last k blocks, the mempool, and for
@@ -86,7 +91,7 @@ impl<S: SigScheme> Core<S> {
     ghost use Rattle.chain_core.specs.Reopening.{IsChainOf, IsReopenFault, texts_in};
 
     /// A core before anything arrived: the selected chain is empty, and the unspent outputs are those of the genesis.
-    /// Err where memory runs out for these.
+    /// Err where memory runs out for these. Takes one insertion for each of them.
     pub fn new(alloc: Global, genesis: Genesis) -> Result<Core<S>, AllocError>
         ensures { IfOk result (λ core. core ≡ opening_held genesis []) }
     {
@@ -98,7 +103,8 @@ impl<S: SigScheme> Core<S> {
     /// A core whose selected chain is that of these blocks, the first one first, none of which is ever rolled back: a
     /// node that restarts on the immutable blocks that it kept. No transaction waits, and no follower is open; one that
     /// is opened stands at genesis and is told these blocks too. Where the text of a block is none, or a block can't
-    /// come after those before it, there is no core, and the number of the first such block is told.
+    /// come after those before it, there is no core, and the number of the first such block is told, counted from 1; or
+    /// memory ran out.
     ///
     /// Reads, hashes and judges each block once, and copies its bytes once, in the order of the chain.
     ///
@@ -220,9 +226,9 @@ impl<S: SigScheme> Core<S> {
     /// chain's unspent outputs, at the slot after its tip's, and the transaction waits at the mempool's end, or the
     /// reply says why it doesn't. Where memory runs out nothing changes.
     ///
-    /// Linear in the bytes, with a look-up of the identifier; only a transaction that is new, and against which none of
-    /// the reasons 1 to 7 is there, has its signatures verified. Memory is asked for from the first part of a
-    /// transaction on that is read.
+    /// Linear in the bytes, with a look-up of the identifier, and what [`utxo_rules::check`] takes; only a transaction
+    /// that is new, and against which none of the reasons 1 to 7 is there, has its signatures verified. Memory is asked
+    /// for from the first part of a transaction on that is read.
     pub fn submit(&mut self, bytes: &[u8]) -> Result<SubmitReply, AllocError>
         ensures step { Steps S.verifies self.old (Submit bytes.now) (submit_reply_of result) self.new }
         // Where the bytes are the text of a transaction without parts, no memory is asked for.
@@ -237,6 +243,8 @@ impl<S: SigScheme> Core<S> {
     /// A transaction is submitted whose signatures and scripts were judged before, on this thread or another. The
     /// answer is that of [`Core::submit`] to its bytes. Where memory runs out nothing changes; it is asked for only
     /// where the transaction isn't known, and none of the reasons 1 to 7 is there.
+    ///
+    /// A look-up of the identifier, and what [`utxo_rules::check`] takes; reads, hashes and verifies nothing.
     pub fn submit_checked(&mut self, tx: CheckedTx<S>) -> Result<SubmitReply, AllocError>
         ensures step { (bytes : List ℕ) → SpellsTransaction tx bytes →
             Steps S.verifies self.old (Submit bytes) (submit_reply_of result) self.new }
@@ -250,7 +258,8 @@ impl<S: SigScheme> Core<S> {
         self.chain_db.submit_checked(tx)
     }
 
-    /// The transactions that wait to come into a block, in the order in which they came. Takes no memory.
+    /// The transactions that wait to come into a block, in the order in which they came. In constant time; takes no
+    /// memory.
     pub fn mempool(&self) -> &Mempool<S>
         ensures { result.now.waiting.txs ≡ self.now.mempool }
     {
@@ -260,7 +269,9 @@ impl<S: SigScheme> Core<S> {
     /// Forges the block that comes next on the selected chain in this slot: its number is the next one, and it has, in
     /// their order, the mempool's transactions against which there is no reason at this slot on what those taken before
     /// leave, and for which its body has room; the others are skipped. Nothing changes. Where its bytes arrive next
-    /// they are kept and the block is put on, if there are memory and room for it and no other block has its hash.
+    /// they are kept and the block is put on, if there are memory and room for it and no other block has its hash. Err
+    /// tells the first that applies: the slot isn't after the tip's, it or the number is 2^63 or more, or memory ran
+    /// out.
     ///
     /// Judges each transaction of the mempool once; verifies, hashes and copies none. Writes each text once, and copies
     /// the body once. A fault other than `OutOfMemory` takes no memory.
@@ -375,7 +386,8 @@ impl<S: SigScheme> Core<S> {
         self.followers.close(id)
     }
 
-    /// Answers one event, by the call of its kind.
+    /// Answers one event, by the call of its kind, and costs what that costs. A fault of the call stands in the
+    /// reply.
     pub fn answer(&mut self, event: &RawEvent) -> Reply<S>
         ensures step { Steps S.verifies self.old (event_of event.now) (reply_of result) self.new }
         ensures kind { IsReplyTo event.now result }
@@ -394,8 +406,8 @@ impl<S: SigScheme> Core<S> {
         }
     }
 
-    /// Answers events in their order, one reply to each. Room for the replies is taken first: where memory runs
-    /// out there, no event has come.
+    /// Answers events in their order, one reply to each. Room for the replies is taken first: Err where memory runs
+    /// out there, and then no event has come. Costs what the calls of the events cost, one after the other.
     pub fn run(&mut self, events: &[RawEvent]) -> Result<Vec<Reply<S>>, AllocError>
         // Each is answered by its call, so what the calls promise holds of each, also of want of memory.
         ensures calls { IfOk result (λ replies. AreCalls S.verifies self.old events.now replies.items self.new) }
@@ -422,7 +434,7 @@ impl<S: SigScheme> Core<S> {
         Ok(replies)
     }
 
-    /// The last block of the selected chain, or the genesis point. Takes no memory.
+    /// The last block of the selected chain, or the genesis point, of number 0. In constant time; takes no memory.
     pub fn tip(&self) -> Point
         ensures tip { point_of result ≡ tip_point self.now.chain }
         // Every core stands for the state that a legal history leaves, and the chain theorem holds of it.
@@ -432,7 +444,7 @@ impl<S: SigScheme> Core<S> {
         end_of(&self.chain_db.chain)
     }
 
-    /// How many blocks the selected chain has. Takes no memory.
+    /// How many blocks the selected chain has. In constant time; takes no memory.
     pub fn height(&self) -> u64
         ensures { result ≡ length self.now.chain }
     {
@@ -440,7 +452,7 @@ impl<S: SigScheme> Core<S> {
     }
 
     /// How many blocks of the selected chain are never rolled back: all but the last k, and at least those that it was
-    /// opened on. Takes no memory.
+    /// opened on. In constant time; takes no memory.
     pub fn immutable(&self) -> u64
         ensures count { result ≡ immutable_length (network_held self.now S.verifies) self.now.chain }
         // The chain that it was opened on begins them.
@@ -461,8 +473,8 @@ impl<S: SigScheme> Core<S> {
         }
     }
 
-    /// Copies of the texts of the blocks that are never rolled back, but for the first `from` of them. Err where memory
-    /// runs out for these.
+    /// Copies of the texts of the blocks that are never rolled back, but for the first `from` of them; none where
+    /// there are no more. Err where memory runs out for these. Copies the bytes of each once.
     pub fn copy_immutable(&self, from: u64) -> Result<Vec<Vec<u8>>, AllocError>
         ensures texts { IfOk result (λ texts.
             texts_in texts.items ≡ drop from (immutable_texts S.verifies self.now)) }
@@ -480,7 +492,7 @@ impl<S: SigScheme> Core<S> {
         Ok(texts)
     }
 
-    /// The unspent outputs of the selected chain. Takes no memory.
+    /// The unspent outputs of the selected chain. In constant time; takes no memory.
     pub fn utxo(&self) -> &Utxo
         // They are those of the fold of the rules over the chain.
         ensures { (ledger : Ledger) × (ledger_of (network_held self.now S.verifies) self.now.chain ≡ Some ledger)
@@ -489,7 +501,8 @@ impl<S: SigScheme> Core<S> {
         self.chain_db.state().utxo()
     }
 
-    /// The fees of all transactions of the selected chain, in lovelace. Takes no memory.
+    /// The fees of all transactions of the selected chain, in lovelace: below 2^63, together with what the unspent
+    /// outputs hold. In constant time; takes no memory.
     pub fn fees(&self) -> u64
         ensures fees { (ledger : Ledger)
             × (ledger_of (network_held self.now S.verifies) self.now.chain ≡ Some ledger)

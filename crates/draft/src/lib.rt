@@ -1,11 +1,16 @@
 //! A transaction in the making: its parts are added one by one, and it is signed and finished.
 //!
 //! ```text
+//! let key = [1; 32];
+//! let owner = Credential::Key(KeyHash::of_key(&key));
+//! let address = Address::new(0, owner).unwrap(); // there are the networks 0 to 15
 //! let mut draft = Draft::new(alloc);
-//! draft.spend(input)?;
-//! draft.pay(address, 800, Vec::new(alloc))?;
+//! draft.spend(Input { transaction: TxId::from_bytes([0; 32]), index: 0 })?; // the first output of a genesis
+//! draft.pay(address, 910, Vec::new(alloc))?; // 910 lovelace, and no other assets
+//! draft.set_fee(290)?;
+//! let again = draft.set_fee(300); // Err(DraftFault::NotBuilt), and the fee is still 290 lovelace
 //! draft.sign(key, Signing::Good)?;
-//! let tx = draft.finish()?;
+//! let tx = draft.finish()?; // its text has 190 bytes, and its own identifier is signed
 //! ```
 #![tactic(auto)]
 

@@ -20,4 +20,5 @@ mod transactions;
 pub use applying::{apply_block, apply_block_diff, misfit_before};
 pub use block_diff::{BlockDiff, undo_block};
 pub use block_fault::{ApplyFault, BlockFault};
+pub use genesis::{Genesis, GenesisFault};
 pub use ledger_state::LedgerState;

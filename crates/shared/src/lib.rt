@@ -1,14 +1,17 @@
 //! One core for many threads: a lock, the journal of all calls, and the height in a word that is read without the lock.
 //!
 //! ```text
-//! let opened = Opened::<TestScheme>::new(alloc, genesis, 2)?;
-//! let (shared, mut callers) = opened.named::<Brand>()?;
-//! // Each thread has a caller of its own. One of them adds what peers sent.
-//! let mut adder = Adder::new(alloc, end, adders_caller, Pool::new(OpenGate), 4);
-//! let added = adder.run(rt, &shared, 1)?; // waits for the lock
-//! let follower = shared.open(rt, &mut callers[0])?;
-//! let told = shared.next(rt, &mut callers[0], follower)?;
-//! let height = shared.height(&mut callers[1]); // waits for nobody
+//! // In a function for every `B: Room` and `M: Mailroom`, which a program calls with `Brand` for both, on
+//! // opened = Opened::<TestScheme>::new(alloc, genesis, 3)? and inbox = inbox::Opened::new(alloc, 8)?.
+//! let (shared, mut callers) = opened.named::<B>()?;
+//! let (mut peers, end) = inbox.named::<M>()?;
+//! let mut adder = Adder::new(alloc, end, callers.remove(0), Pool::new(OpenGate), 4);
+//! // Each thread has a caller of its own, or the adder, or the end of a peer.
+//! peers[2].send(rt, bytes)?; // the third peer sends a first block
+//! let added = adder.run(rt, &shared, 1)?; // 1: it brought one arrival; waits for the lock
+//! let height = shared.height(&mut callers[0]); // 1, without the lock
+//! let follower = shared.open(rt, &mut callers[0])?; // FollowerId { number: 0 }
+//! let told = shared.next(rt, &mut callers[1], follower)?; // Some(Instruction::AddBlock(block)): that block
 //! ```
 #![tactic(auto)]
 

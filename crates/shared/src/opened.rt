@@ -57,7 +57,8 @@ fn deal<S: SigScheme>(heights: &Heights<S>, seat: &mut HeightSeat, number: u64) 
 }
 
 impl<S: SigScheme> Opened<S> {
-    /// A core of this genesis for so many callers, 1 to 64, before anything arrived.
+    /// A core of this genesis for so many callers, 1 to 64, before anything arrived. Err `BadCallers` where they are
+    /// fewer or more, and `OutOfMemory` only where they aren't. Takes what [`Core::new`] takes.
     pub fn new(alloc: Global, genesis: Genesis, callers: usize) -> Result<Opened<S>, OpenFault>
         ensures genesis { IfOk result (λ opened. opened.genesis ≡ genesis) }
         ensures callers { IfOk result (λ opened. opened.callers ≡ callers) }
@@ -77,7 +78,8 @@ impl<S: SigScheme> Opened<S> {
         })
     }
 
-    /// The shared core under a name, and its callers, with the numbers from 0 on. A program passes `Brand`.
+    /// The shared core under a name, and its callers, with the numbers from 0 on. It is called in a function that is
+    /// generic in the name, for which a program passes `Brand`. Err where memory runs out. Linear in the callers.
     pub fn named<B: Room>(self) -> Result<(Shared<S, B>, Vec<Caller<B>>), AllocError>
         requires table { self.table ≡ B.table }
         requires genesis { self.genesis ≡ B.genesis }

@@ -71,7 +71,8 @@ impl<S: SigScheme, B: Room> Shared<S, B> {
     }
 
     /// Opens a follower of the least number that is free, 0 to 1,023. That there are 1,024 stands in the journal as the
-    /// call's reply; where memory runs out nothing does, and nothing changes. Waits for the lock.
+    /// call's reply; where memory runs out nothing does, and nothing changes. Waits for the lock. Costs what it costs
+    /// the core.
     pub fn open<R: Wait>(
         &self,
         rt: &R,
@@ -138,7 +139,8 @@ impl<S: SigScheme, B: Room> Shared<S, B> {
 
     /// Copies of the texts of the blocks that are never rolled back, but for the first `from` of them: what a log still
     /// lacks that has so many. The journal has nothing of it; the caller has then seen all of the journal, and looked
-    /// at the height. Where memory runs out nothing changes. Waits for the lock, and holds it while it copies.
+    /// at the height. Where memory runs out nothing changes. Waits for the lock, and holds it while it copies
+    /// the bytes of each, once.
     pub fn copy<R: Wait>(
         &self,
         rt: &R,

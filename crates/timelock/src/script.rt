@@ -29,6 +29,18 @@ use std::marker::Model;
 const MAX_DEPTH: usize = 32;
 
 /// A native script that has a text. Its hash was computed once, when it was read or made, and is kept.
+///
+/// ```text
+/// let key = KeyHash::of_key(&[1; 32]);
+/// let members = vec![in alloc; Timelock::RequireSignature(key), Timelock::RequireTimeStart(5)]?;
+/// let script = Script::new(alloc, Timelock::RequireAllOf(Timelocks::from_vec(members)))?;
+/// let text = script.encode()?; // 42 bytes: 82 01 82, 82 00 58 20 with the 32 bytes of `key`, 82 04 05
+/// let policy = script.hash(); // daacb76f.., the SHA-256 of a byte 0 and the text
+/// let early = script.holds(&[key], Interval { start: Some(4), end: None }); // false: it may be in slot 4
+/// let open = script.holds(&[key], Interval { start: None, end: None }); // false: it may be in any slot
+/// let unsigned = script.holds(&[], Interval { start: Some(5), end: None }); // false: no key signed
+/// let holds = script.holds(&[key], Interval { start: Some(5), end: None }); // true
+/// ```
 #[derive(Debug, Drop)]
 pub struct Script {
     alloc: Global,

@@ -33,6 +33,18 @@ const COIN_NESTING: usize = 1;
 const ASSETS_NESTING: usize = 4;
 
 /// What an output holds: coin in lovelace, and quantities of other assets, each 1 to 2^64 - 1.
+///
+/// ```text
+/// let policy = ScriptHash::from_bytes([1; 32]);
+/// let five = AssetQuantity { policy, name: Vec::new(alloc), quantity: 5 };
+/// let value = Value::new(alloc, 800, vec![in alloc; five]?)?; // 800 lovelace, and 5 of the policy's empty name
+/// let mut text = Vec::new(alloc);
+/// value.write(&mut text)?; // 42 bytes: 82 19 03 20, a1 58 20 with the 32 bytes of the policy, a1 40 05
+/// let (read, rest) = Value::read(alloc, &text)?; // an equal value, and no bytes after it
+/// let mut totals = Totals::new(alloc);
+/// value.add_to(&mut totals)?; // totals.coin() is 800, and totals.amount(&policy, b"") is 5
+/// read.take_from(&mut totals)?; // totals.is_balanced() is true
+/// ```
 #[derive(Debug, Drop)]
 pub struct Value {
     alloc: Global,
@@ -88,11 +100,6 @@ impl Value {
     /// text is of these parts, for the first of the reasons that there is: `NameTooLong` for a name of more than 32
     /// bytes, `ZeroQuantity`, and `Repeated` for two quantities of one policy and name. OutOfMemory only where there is
     /// no such reason. Sorts the assets where they are and moves their names: n log n comparisons of n assets.
-    ///
-    /// ```text
-    /// let asset = AssetQuantity { policy, name: Vec::new(alloc), quantity: 5 };
-    /// let value = Value::new(alloc, 800, vec![in alloc; asset]?)?; // 800 lovelace, and 5 of the empty name
-    /// ```
     pub fn new(
         alloc: Global,
         coin: u64,
@@ -132,7 +139,7 @@ impl Value {
         Ok((value, rest))
     }
 
-    /// The coin, in lovelace.
+    /// The coin, in lovelace: 0 to 2^64 - 1.
     pub fn coin(&self) -> u64
         ensures { result ≡ self.now.coin }
     {
@@ -193,7 +200,7 @@ impl Value {
         written
     }
 
-    /// An equal value. Linear in the assets.
+    /// An equal value. Err where memory runs out. Linear in the assets.
     pub fn try_clone(&self) -> Result<Value, AllocError>
         ensures { IfOk result (λ copy. copy ≡ self.now) }
     {
@@ -204,8 +211,9 @@ impl Value {
         })
     }
 
-    /// Adds the value to the sums. Err where memory runs out: the sums and what they list are as they were. Takes a
-    /// few look-ups for each policy and name among those that are listed.
+    /// Adds the value to the sums. The caller sees to it that fewer than 2^62 values were added or taken before
+    /// ([`Totals::values`]). Err where memory runs out: the sums and what they list are as they were. Takes a few
+    /// look-ups for each policy and name among those that are listed.
     pub fn add_to(&self, totals: &mut Totals) -> Result<(), AllocError>
         requires { totals.old.values < 2 ^ 62 }
         ensures sums { OnOk result ((asset : Asset) →
@@ -218,9 +226,9 @@ impl Value {
         totals.change(self.coin, &self.assets, Side::Added)
     }
 
-    /// Takes the value from the sums, so that what goes out is set against what comes in. Err where memory runs
-    /// out: the sums and what they list are as they were. Takes a few look-ups for each policy and name among those
-    /// that are listed.
+    /// Takes the value from the sums, so that what goes out is set against what comes in. The caller sees to what
+    /// [`Value::add_to`] asks. Err where memory runs out: the sums and what they list are as they were. Takes a few
+    /// look-ups for each policy and name among those that are listed.
     pub fn take_from(&self, totals: &mut Totals) -> Result<(), AllocError>
         requires { totals.old.values < 2 ^ 62 }
         ensures sums { OnOk result ((asset : Asset) →

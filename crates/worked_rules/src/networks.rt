@@ -1,6 +1,6 @@
 //! The small network of the tests, and what they share.
 
-use genesis::Genesis;
+use ledger::Genesis;
 use std::process::Abort;
 
 // Each way out of a function drops all that it owns, which makes its proof longer. So want of memory and what can't be
