@@ -16,7 +16,7 @@ use Rattle.ledgerdb.specs.Chains.{without_last, IsDatabaseOf, IsPreparedOf}
 use Rattle.ledgerdb.specs.Faults.{IsFaultOnChain}
 use Rattle.ledgerdb.specs.declared.fork_fault.ForkFault.TheVariants.{Refused}
 use Rattle.chainsel.specs.Ready.{IsReady}
-use Rattle.chainsel.specs.Choices.{IsSelected, IsChoice, IsFoundDead, IsPossible, IsExplained, IsAnswer}
+use Rattle.chainsel.specs.Choices.{IsSelected, IsChoice, IsFoundDead, IsPossible, IsExplained, IsSelectionAnswer}
 use Rattle.chainsel.specs.Paths.{Descends, IsBest, IsWay, HasNoWay}
 use Rattle.chainsel.specs.declared.choice.Choice.TheVariants as choice
 use Rattle.chainsel.specs.declared.choice.Selection.{Selection}
@@ -50,7 +50,7 @@ module _ (verifies : Verifies) (chain : List Block) (store : Store) (db : Databa
   -- ---- where the chain stays
   module _ {S : Type 0} (selection : Selection S) (told : List BlockHash) (keeps : selection.choice ≡ choice.Keep) (tells : selection.invalid.items ≡ told) (dead : AreDead told) where
     kept : ((genesis : Genesis) (opened : List Block) → IsReady (network_on genesis verifies opened) chain store db new
-        → IsSelected (network_on genesis verifies opened) store chain new chain × AreShort (network_on genesis verifies opened) chain store new told) → IsAnswer verifies chain store db new selection
+        → IsSelected (network_on genesis verifies opened) store chain new chain × AreShort (network_on genesis verifies opened) chain store new told) → IsSelectionAnswer verifies chain store db new selection
     kept each = record {
       choice = λ genesis opened ready. subst (IsChoice (network_on genesis verifies opened) chain store db new) (sym keeps) (each genesis opened ready).0;
       invalid = λ genesis opened ready. subst (AllByRecursion (IsFoundDead (network_on genesis verifies opened) chain (new ∷ blocks_of store))) (sym tells) (dead genesis opened ready);
@@ -60,7 +60,7 @@ module _ (verifies : Verifies) (chain : List Block) (store : Store) (db : Databa
     }
 
     -- since nothing goes on past it
-    pub kept_by_number : (best : Block) → (0 < new.header.number → IsBest store told new best) → best.header.number ≤ length chain → IsAnswer verifies chain store db new selection
+    pub kept_by_number : (best : Block) → (0 < new.header.number → IsBest store told new best) → best.header.number ≤ length chain → IsSelectionAnswer verifies chain store db new selection
     kept_by_number best is within = kept (λ genesis opened ready.
         let network = network_on genesis verifies opened in
         let is_best = is (positive genesis opened ready) in (
@@ -69,7 +69,7 @@ module _ (verifies : Verifies) (chain : List Block) (store : Store) (db : Databa
         ))
 
     -- since no way leads to what goes on from the block
-    pub kept_by_way : (immutable : ℕ) (b : Block) → immutable ≡ length chain - depth db → Descends store told new b → LeadsNowhere store told chain immutable new b → IsAnswer verifies chain store db new selection
+    pub kept_by_way : (immutable : ℕ) (b : Block) → immutable ≡ length chain - depth db → Descends store told new b → LeadsNowhere store told chain immutable new b → IsSelectionAnswer verifies chain store db new selection
     kept_by_way immutable b is goes nowhere = kept (λ genesis opened ready.
         let network = network_on genesis verifies opened in
         let found = dead genesis opened ready in
@@ -80,7 +80,7 @@ module _ (verifies : Verifies) (chain : List Block) (store : Store) (db : Databa
         ))
 
     -- since the block is dead itself
-    pub kept_by_death : (hash : BlockHash) → Contains told hash → hash.bytes ≡ block_hash_of new → IsAnswer verifies chain store db new selection
+    pub kept_by_death : (hash : BlockHash) → Contains told hash → hash.bytes ≡ block_hash_of new → IsSelectionAnswer verifies chain store db new selection
     kept_by_death hash among same = kept (λ genesis opened ready.
         let network = network_on genesis verifies opened in (
           stays_by_death network chain store db new ready told (dead genesis opened ready) hash among same,
@@ -93,7 +93,7 @@ module _ (verifies : Verifies) (chain : List Block) (store : Store) (db : Databa
     pub switched : {S : Type 0} (invalid : Vec BlockHash) (switch : Switch S) → invalid.items ≡ told → switch.back ≡ length chain - keep → switch.blocks.items ≡ blocks → switch.prepared.back ≡ switch.back
         → count switch.prepared ≡ length switch.blocks.items
         → ((genesis : Genesis) (opened : List Block) → IsDatabaseOf (network_on genesis verifies opened) chain db → IsPreparedOf (network_on genesis verifies opened) (without_last switch.back chain) switch.blocks.items switch.prepared)
-        → IsAnswer verifies chain store db new (record { choice = choice.Switch switch; invalid = invalid })
+        → IsSelectionAnswer verifies chain store db new (record { choice = choice.Switch switch; invalid = invalid })
     switched invalid switch tells back put_on prepared_back counted prepared = record {
       choice = λ genesis opened ready.
           let network = network_on genesis verifies opened in

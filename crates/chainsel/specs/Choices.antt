@@ -100,7 +100,7 @@ IsExplained network chain store new told (choice.Switch switch) =
 -- Of every network in which all was ready the answer is that of the selection rule, whatever was kept. What was found
 -- dead is so, whatever comes later, and explains the choice by links alone: nothing found dead that it rests on is kept
 -- back. Whatever it was asked with, a switch can be made: the database can commit what is prepared.
-pub record IsAnswer {S : Type 0} (verifies : Verifies) (chain : List Block) (store : Store) (db : Database)
+pub record IsSelectionAnswer {S : Type 0} (verifies : Verifies) (chain : List Block) (store : Store) (db : Database)
     (new : Block) (selection : Selection S) : Type 0 where
   pub choice : (genesis : Genesis) (opened : List Block)
       → IsReady (network_on genesis verifies opened) chain store db new

@@ -2,7 +2,7 @@
 
 ghost use Rattle.std.specs.Prelude.{◌≡◌, ◌-◌, length, IfOk};
 ghost use Rattle.ledgerdb.specs.Values.{depth};
-ghost use Rattle.chainsel.specs.Choices.{IsAnswer};
+ghost use Rattle.chainsel.specs.Choices.{IsSelectionAnswer};
 
 use crate::choice::{Choice, Selection, Switch};
 use crate::furthest::furthest;
@@ -28,7 +28,7 @@ pub fn search<S: SigScheme>(
     new: &CheckedBlock<S>,
 ) -> Result<Selection<S>, AllocError>
     requires { immutable ≡ length chain.now - depth db.now }
-    ensures { IfOk result (IsAnswer S.verifies chain.now store.now db.now new.now) }
+    ensures { IfOk result (IsSelectionAnswer S.verifies chain.now store.now db.now new.now) }
 {
     let mut invalid = Vec::new(alloc);
     loop {

@@ -6,7 +6,7 @@ ghost use Rattle.model.specs.Chain.{immutable_length};
 ghost use Rattle.blockstore.specs.Stored.{Store};
 ghost use Rattle.ledgerdb.specs.Values.{depth};
 ghost use Rattle.chainsel.specs.Ready.{IsSettled};
-ghost use Rattle.chainsel.specs.Choices.{IsAnswer};
+ghost use Rattle.chainsel.specs.Choices.{IsSelectionAnswer};
 
 use crate::choice::Selection;
 use crate::search::{keep, search};
@@ -43,7 +43,7 @@ pub fn select<S: SigScheme>(
     chain: &[CheckedBlock<S>],
     new: &CheckedBlock<S>,
 ) -> Result<Selection<S>, AllocError>
-    ensures { IfOk result (IsAnswer S.verifies chain.now store.now db.now new.now) }
+    ensures { IfOk result (IsSelectionAnswer S.verifies chain.now store.now db.now new.now) }
 {
     let invalid = Vec::new(alloc);
     let immutable = immutable(chain, db);
