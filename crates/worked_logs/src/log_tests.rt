@@ -127,15 +127,15 @@ fn count_opened(
     left: &Left,
     counts: &mut [u64; 3],
 ) -> Option<()> {
-    let mut calls = OPENING;
-    let mut file = left.file.try_clone().ok()?;
-    while let Some(again) = left_again(rt, alloc, file.failing_after(calls)) {
+    for calls in OPENING..u64::MAX {
+        let file = left.file.try_clone().ok()?;
+        let Some(again) = left_again(rt, alloc, file.failing_after(calls)) else {
+            break;
+        };
         let more = opened_on(rt, alloc, again)?
             .wrapping_sub(left.durable)
             .min(2);
         counts[more] = counts[more].saturating_add(1);
-        calls = calls.saturating_add(1);
-        file = left.file.try_clone().ok()?;
     }
     Some(())
 }
