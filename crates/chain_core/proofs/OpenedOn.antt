@@ -40,7 +40,7 @@ never_read verifies s bytes e fault known b is = absurd (known (not_both bytes b
 -- and those of a block that isn't applied are read as that one
 pub never_fits : (verifies : Verifies) (s : LedgerState) (bytes : List ℕ) (block : Block) (e : code.BlockFault) → IsRead block bytes → IsApplyFault verifies s block (Refused e)
     → (b : Block) → IsRead b bytes → (fault : BlockFault) × HasFault verifies s b fault
-never_fits verifies s bytes block e of first b is = (fault_of e, subst (λ (x : Block). HasFault verifies s x (fault_of e)) (same_read bytes block b of is) first.has)
+never_fits verifies s bytes block e of first b is = (fault_of e, subst (λ (x : Block). HasFault verifies s x (fault_of e)) (same_read bytes block b of is) first.applies)
 
 -- ---- those so far
 

@@ -1,13 +1,12 @@
 -- From what is found among the blocks to the first refusal that applies.
-use Rattle.std.proofs.Common.{◌≡◌, ℕ, ◌+◌, ◌<◌, ◌≤◌, ◌↔◌, List, Contains, refl, sym, ap, subst, ◌∙◌, arith, inl, inr, ◌⊎◌, lit<}
+use Rattle.std.proofs.Common.{◌≡◌, ℕ, ◌<◌, ◌≤◌, ◌↔◌, List, Contains, refl, sym, ap, subst, ◌∙◌, arith, inl, inr, ◌⊎◌, lit<}
 use Rattle.std.specs.Prelude.{Any, Some, None}
-use Rattle.std.proofs.lemmas.Bool.{cases_lt}
 use Rattle.block.specs.Read.{IsRead}
 use Rattle.model.specs.Block.{Block, block_hash_of, block_text, body_hash_of}
 use Rattle.model.specs.Ledger.{Network}
 use Rattle.model.specs.Chain.{immutable_length}
 use Rattle.model.specs.History.{State, Refusal, TooLarge, Malformed, BodyHashMismatch, TooOld, Known, Clash, VolatileFull, refusal_number, Applies, IsRefused}
-use Rattle.model.specs.Codes.{refusal_at, refusal_back}
+use Rattle.model.proofs.First.{NoneBelow, none_below_next, none_at_all, one_number}
 use Rattle.model.proofs.BlockTexts.{one_block, block_text_is}
 use Rattle.model.proofs.Chains.{one_with_hash}
 use Rattle.model.proofs.MappedLists.{contains_map}
@@ -19,21 +18,7 @@ use Rattle.chain_core.specs.declared.chain_db.ChainDb.{ChainDb}
 use Rattle.chain_core.specs.ChainDbs.{IsWhole, HasState}
 use Rattle.chain_core.specs.Judgements.{IsClashWith, IsJudged}
 
--- no refusal with a lesser number applies
-abbrev pub NoneBelow : Network → State → List ℕ → ℕ → Type 0
-NoneBelow network s bytes n = (other : Refusal) → refusal_number other < n → Applies network s bytes other → ⊥
-
-one_number : (a b : Refusal) → refusal_number a ≡ refusal_number b → a ≡ b
-one_number a b same = sym (refusal_back a) ∙ (ap refusal_at same ∙ refusal_back b)
-
-pub none_below_next : (network : Network) (s : State) (bytes : List ℕ) (r : Refusal) → NoneBelow network s bytes (refusal_number r) → (Applies network s bytes r → ⊥) → NoneBelow network s bytes (refusal_number r + 1)
-none_below_next network s bytes r below not_it other lower applies =
-    elim (cases_lt (refusal_number other) (refusal_number r)) [
-      | inl lt ↦ below other lt applies
-      | inr le ↦ not_it (subst (Applies network s bytes) (one_number other r (omega arith)) applies)
-    ]
-
-pub refused_by : (network : Network) (s : State) (bytes : List ℕ) (r : Refusal) → NoneBelow network s bytes (refusal_number r) → Applies network s bytes r → IsRefused network s bytes r
+pub refused_by : (network : Network) (s : State) (bytes : List ℕ) (r : Refusal) → NoneBelow refusal_number (Applies network s bytes) (refusal_number r) → Applies network s bytes r → IsRefused network s bytes r
 refused_by network s bytes r below applies = record { applies = applies; first = below }
 
 at_most_7 : (r : Refusal) → refusal_number r < 8
@@ -45,12 +30,9 @@ at_most_7 Known = lit< tt
 at_most_7 Clash = lit< tt
 at_most_7 VolatileFull = lit< tt
 
-pub none_at_all : (network : Network) (s : State) (bytes : List ℕ) → NoneBelow network s bytes 8 → (r : Refusal) → Applies network s bytes r → ⊥
-none_at_all network s bytes below r applies = below r (at_most_7 r) applies
-
 -- ---- of bytes that were read as a block
 
-pub none_of_reading : (network : Network) (s : State) (b : Block) (bytes : List ℕ) → IsRead b bytes → NoneBelow network s bytes 4
+pub none_of_reading : (network : Network) (s : State) (b : Block) (bytes : List ℕ) → IsRead b bytes → NoneBelow refusal_number (Applies network s bytes) 4
 none_of_reading network s b bytes read TooLarge lower applies = let size = read.size in omega arith
 none_of_reading network s b bytes read Malformed lower applies = applies b read.read
 none_of_reading network s b bytes read BodyHashMismatch lower applies =
@@ -84,26 +66,26 @@ module _ {S : Type 0} (network : Network) (a : ChainDb S) (s : State) (whole : I
   judged_old n is old bytes read =
       refused_by network s bytes TooOld (none_of_reading network s b bytes read) ((old_applies network s b bytes read).1 (let e = at_chain n is in omega (arith, e, old)))
 
-  below_known : IsYoung → (bytes : List ℕ) → IsRead b bytes → NoneBelow network s bytes 5
+  below_known : IsYoung → (bytes : List ℕ) → IsRead b bytes → NoneBelow refusal_number (Applies network s bytes) 5
   below_known young bytes read =
-      none_below_next network s bytes TooOld (none_of_reading network s b bytes read)
+      none_below_next refusal_number (Applies network s bytes) one_number TooOld (none_of_reading network s b bytes read)
       (λ applies. let le = (old_applies network s b bytes read).0 applies in let e = at_chain (immutable_length network a.chain.items) refl in omega (arith, le, e, young))
 
   pub judged_known : IsYoung → IsKnown a.store b → IsJudged network s b (Some Known)
   judged_known young known bytes read =
       refused_by network s bytes Known (below_known young bytes read) ((known_over network s a.store b bytes holds read.read).0 known)
 
-  below_clash : IsYoung → (IsKnown a.store b → ⊥) → (bytes : List ℕ) → IsRead b bytes → NoneBelow network s bytes 6
+  below_clash : IsYoung → (IsKnown a.store b → ⊥) → (bytes : List ℕ) → IsRead b bytes → NoneBelow refusal_number (Applies network s bytes) 6
   below_clash young unknown bytes read =
-      none_below_next network s bytes Known (below_known young bytes read) (λ applies. unknown ((known_over network s a.store b bytes holds read.read).1 applies))
+      none_below_next refusal_number (Applies network s bytes) one_number Known (below_known young bytes read) (λ applies. unknown ((known_over network s a.store b bytes holds read.read).1 applies))
 
   pub judged_clash : IsYoung → (IsKnown a.store b → ⊥) → IsClash a.store b ⊎ IsChainClash s b → IsJudged network s b (Some Clash)
   judged_clash young unknown clash bytes read =
       refused_by network s bytes Clash (below_clash young unknown bytes read) ((clash_over network s a.store b bytes holds read.read).0 clash)
 
-  below_full : IsYoung → (IsKnown a.store b → ⊥) → (IsClash a.store b → ⊥) → (IsChainClash s b → ⊥) → (bytes : List ℕ) → IsRead b bytes → NoneBelow network s bytes 7
+  below_full : IsYoung → (IsKnown a.store b → ⊥) → (IsClash a.store b → ⊥) → (IsChainClash s b → ⊥) → (bytes : List ℕ) → IsRead b bytes → NoneBelow refusal_number (Applies network s bytes) 7
   below_full young unknown alone no_clash bytes read =
-      none_below_next network s bytes Clash (below_clash young unknown bytes read)
+      none_below_next refusal_number (Applies network s bytes) one_number Clash (below_clash young unknown bytes read)
       (λ applies. elim ((clash_over network s a.store b bytes holds read.read).1 applies) [ inl live ↦ alone live | inr there ↦ no_clash there ])
 
   pub judged_full : IsYoung → (IsKnown a.store b → ⊥) → (IsClash a.store b → ⊥) → (IsChainClash s b → ⊥) → IsFull a.store → IsJudged network s b (Some VolatileFull)
@@ -112,8 +94,8 @@ module _ {S : Type 0} (network : Network) (a : ChainDb S) (s : State) (whole : I
 
   pub judged_none : IsYoung → (IsKnown a.store b → ⊥) → (IsClash a.store b → ⊥) → (IsChainClash s b → ⊥) → (IsFull a.store → ⊥) → IsJudged network s b None
   judged_none young unknown alone no_clash room bytes read =
-      none_at_all network s bytes
-      (none_below_next network s bytes VolatileFull (below_full young unknown alone no_clash bytes read) (λ applies. room ((full_over network s a.store bytes holds).1 applies)))
+      none_at_all refusal_number (Applies network s bytes) 8 at_most_7
+      (none_below_next refusal_number (Applies network s bytes) one_number VolatileFull (below_full young unknown alone no_clash bytes read) (λ applies. room ((full_over network s a.store bytes holds).1 applies)))
 
 -- ---- what is found by a hash
 

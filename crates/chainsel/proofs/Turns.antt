@@ -104,7 +104,7 @@ module _ (network : Network) (chain : List Block) (store : Store) (db : Database
             same = sym named;
             dead = led_dead network chain store db new ready invalid found best is longer keep blocks true_way index b stops.state (fault_of fault) stops.within here
                 (subst (λ (bs : List Block). IsStateOf network (bs ++ take index blocks) stops.state) front stops.is)
-                (subst (λ (c : Block). HasFault network.verifies stops.state c (fault_of fault)) one stops.is_stopped.has);
+                (subst (λ (c : Block). HasFault network.verifies stops.state c (fault_of fault)) one stops.is_stopped.applies);
           }
         where
           at_one_place : (bs : List Block) (n : ℕ) (x y : Block) → n < length bs → get_or bs n x ≡ x → get_or bs n y ≡ y → x ≡ y

@@ -155,7 +155,7 @@ module _ (text : List ℕ) where
     pub out_of_range : settings_of written.numbers ≡ None → IsLeastFault text faults.OutOfRange
     out_of_range none = record {
       applies = (written, writes, λ ranges. settings_there written.numbers ranges none);
-      least = none_below text 3 (λ _. not_toml) (λ _. not_shape) (λ lt. absurd (omega arith)) (λ lt. absurd (omega arith)) (λ lt. absurd (omega arith)) (λ lt. absurd (omega arith));
+      first = none_below text 3 (λ _. not_toml) (λ _. not_shape) (λ lt. absurd (omega arith)) (λ lt. absurd (omega arith)) (λ lt. absurd (omega arith)) (λ lt. absurd (omega arith));
     }
 
     module _ (settings : Settings) (found : AreFound written.numbers settings) where
@@ -166,7 +166,7 @@ module _ (text : List ℕ) where
       pub bad_address : each (placed_of settings.params.network) written.outputs ≡ None → IsLeastFault text faults.BadAddress
       bad_address none = record {
         applies = (written, writes, λ all. places_there settings.params.network written.outputs (subst (λ (z : ℤ). AllByRecursion (HasAddress z) written.outputs) found.network.same all) none);
-        least = none_below text 4 (λ _. not_toml) (λ _. not_shape) (λ _. not_range) (λ lt. absurd (omega arith)) (λ lt. absurd (omega arith)) (λ lt. absurd (omega arith));
+        first = none_below text 4 (λ _. not_toml) (λ _. not_shape) (λ _. not_range) (λ lt. absurd (omega arith)) (λ lt. absurd (omega arith)) (λ lt. absurd (omega arith));
       }
 
       module _ (placed : List Placed) (places : each (placed_of settings.params.network) written.outputs ≡ Some placed) where
@@ -177,7 +177,7 @@ module _ (text : List ℕ) where
         pub bad_coin : grants_of placed ≡ None → IsLeastFault text faults.BadCoin
         bad_coin none = record {
           applies = (written, writes, λ coins. coins_there settings.params.network written.outputs placed (places_found settings.params.network written.outputs placed (omega (arith, found.network.within.not_above)) places) coins none);
-          least = none_below text 5 (λ _. not_toml) (λ _. not_shape) (λ _. not_range) (λ _. not_address) (λ lt. absurd (omega arith)) (λ lt. absurd (omega arith));
+          first = none_below text 5 (λ _. not_toml) (λ _. not_shape) (λ _. not_range) (λ _. not_address) (λ lt. absurd (omega arith)) (λ lt. absurd (omega arith));
         }
 
         module _ (grants : List Grant) (granted : grants_of placed ≡ Some grants) where
@@ -193,7 +193,7 @@ module _ (text : List ℕ) where
           pub counted_answer : (count : Option (List Grant)) → counted grants ≡ count → IsAnswer text (or_fault faults.BadOutputs count (λ _. Ok (genesis_with settings grants)))
           counted_answer None none = record {
             applies = (written, writes, λ within. none-some grants (sym none ∙ counted_within grants (subst (λ (n : ℕ). IsWithin 1 10000 n) same_count within)));
-            least = none_below text 6 (λ _. not_toml) (λ _. not_shape) (λ _. not_range) (λ _. not_address) (λ _. not_coin) (λ lt. absurd (omega arith));
+            first = none_below text 6 (λ _. not_toml) (λ _. not_shape) (λ _. not_range) (λ _. not_address) (λ _. not_coin) (λ lt. absurd (omega arith));
           }
           counted_answer (Some gs) some =
               let count = within_counted grants gs some in
@@ -233,14 +233,14 @@ module _ (text : List ℕ) where
             let same : document ≡ writes.document = same_Some _ _ (sym parsed ∙ writes.parsed) in
             none-some written (sym none ∙ ap written_in same ∙ writes.shape),
       );
-      least = none_below text 2 (λ _. is_document document parsed) (λ lt. absurd (omega arith)) (λ lt. absurd (omega arith)) (λ lt. absurd (omega arith)) (λ lt. absurd (omega arith)) (λ lt. absurd (omega arith));
+      first = none_below text 2 (λ _. is_document document parsed) (λ lt. absurd (omega arith)) (λ lt. absurd (omega arith)) (λ lt. absurd (omega arith)) (λ lt. absurd (omega arith)) (λ lt. absurd (omega arith));
     }
     written_answer (Some written) some = judged_answer written (record { document = document; parsed = parsed; shape = some })
 
   document_answer : (found_document : Option Members) → parse_document text ≡ found_document → IsAnswer text (or_fault faults.NotToml found_document (λ document. or_fault faults.BadShape (written_in document) judged))
   document_answer None none = record {
     applies = λ document parsed. none-some document (sym none ∙ parsed);
-    least = none_below text 1 (λ lt. absurd (omega arith)) (λ lt. absurd (omega arith)) (λ lt. absurd (omega arith)) (λ lt. absurd (omega arith)) (λ lt. absurd (omega arith)) (λ lt. absurd (omega arith));
+    first = none_below text 1 (λ lt. absurd (omega arith)) (λ lt. absurd (omega arith)) (λ lt. absurd (omega arith)) (λ lt. absurd (omega arith)) (λ lt. absurd (omega arith)) (λ lt. absurd (omega arith));
   }
   document_answer (Some document) some = written_answer document some (written_in document) refl
 

@@ -1,6 +1,6 @@
 -- What a text means as a genesis, in words that are not the reader's: which genesis it says, and which faults it has,
 -- each by itself (the faults and their numbers are this project's own).
-use Rattle.std.specs.Prelude.{◌≡◌, ℕ, ◌<◌, ℤ, pos, ◌+ℤ◌, ◌≤ℤ◌, List, [], ◌∷◌, length}
+use Rattle.std.specs.Prelude.{◌≡◌, ℕ, ℤ, pos, ◌+ℤ◌, ◌≤ℤ◌, List, [], ◌∷◌, length}
 use Rattle.std.specs.Prelude.{Option, Some, None, IfSome, option_map, Result, Ok, Err}
 use Rattle.std.specs.List.{AllByRecursion}
 use Rattle.hex.specs.Hex.{decode_sized}
@@ -9,6 +9,7 @@ use Rattle.toml.specs.Parse.{parse_document}
 use Rattle.model.specs.Transaction.{Address, KeyHash, key_hash_of, address_bytes, IsAddress}
 use Rattle.model.specs.Rules.{SecondEra}
 use Rattle.model.specs.Genesis.{Genesis, Grant, IsWithin, IsGenesis}
+use Rattle.model.specs.First.{IsFirst}
 use Rattle.genesis.specs.declared.genesis_fault.GenesisFault.{GenesisFault}
 use Rattle.genesis.specs.declared.genesis_fault.GenesisFault.TheVariants as faults
 use Rattle.genesis.specs.Steps.{Paired}
@@ -144,9 +145,8 @@ Applies text faults.BadOutputs = WritesWithout text (λ written. IsWithin 1 1000
 Applies text faults.OutOfMemory = ⊥
 
 -- it applies, and none of a lesser number does
-pub record IsLeastFault (text : List ℕ) (fault : GenesisFault) : Type 0 where
-  pub applies : Applies text fault
-  pub least : (other : GenesisFault) → number_of other < number_of fault → Applies text other → ⊥
+abbrev pub IsLeastFault : List ℕ → GenesisFault → Type 0
+IsLeastFault text fault = IsFirst number_of (Applies text) fault
 
 -- a fault is the least of the text's; want of memory says nothing
 abbrev pub IsToldFault : List ℕ → GenesisFault → Type 0

@@ -30,25 +30,25 @@ module _ (verifies : Verifies) (s : LedgerState) (b : Block) where
 
   pub first_number : b.header.number ≢ s.tip.number + 1 → IsFirstFault verifies s b WrongNumber
   first_number has = record {
-    has = has;
+    applies = has;
     first = none_before 1 (omega arith) (λ lt. absurd (omega (arith, lt))) (λ lt. absurd (omega (arith, lt))) (λ lt. absurd (omega (arith, lt))) (λ lt. absurd (omega (arith, lt)));
   }
 
   pub first_previous : IsNext → b.header.previous ≢ s.tip.hash → IsFirstFault verifies s b WrongPrev
   first_previous number has = record {
-    has = has;
+    applies = has;
     first = none_before 2 (omega arith) (λ lt. number) (λ lt. absurd (omega (arith, lt))) (λ lt. absurd (omega (arith, lt))) (λ lt. absurd (omega (arith, lt)));
   }
 
   pub first_slot : IsNext → IsAfter → b.header.slot ≤ s.tip.slot → IsFirstFault verifies s b SlotNotRising
   first_slot number previous has = record {
-    has = has;
+    applies = has;
     first = none_before 3 (omega arith) (λ lt. number) (λ lt. previous) (λ lt. absurd (omega (arith, lt))) (λ lt. absurd (omega (arith, lt)));
   }
 
   pub first_size : IsNext → IsAfter → Rises → s.params.max_body_size < body_size_of b → IsFirstFault verifies s b BodyTooBig
   first_size number previous slot has = record {
-    has = has;
+    applies = has;
     first = none_before 4 (omega arith) (λ lt. number) (λ lt. previous) (λ lt. slot) (λ lt. absurd (omega (arith, lt)));
   }
 
@@ -57,4 +57,4 @@ module _ (verifies : Verifies) (s : LedgerState) (b : Block) where
   none_of_four fits = none_before 5 (omega arith) (λ lt. fits.follows.number) (λ lt. fits.follows.previous) (λ lt. fits.follows.slot) (λ lt. fits.size)
 
   pub first_transaction : Fits s b → (index : ℕ) (reason : Reason) → first_refused verifies s.params b.header.slot s.ledger 0 b.transactions ≡ Some (index, reason) → IsFirstFault verifies s b (TxFault index reason)
-  first_transaction fits index reason told = record { has = told; first = none_of_four fits }
+  first_transaction fits index reason told = record { applies = told; first = none_of_four fits }

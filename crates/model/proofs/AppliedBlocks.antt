@@ -1,14 +1,14 @@
 -- Blocks that are applied one after the other: a block has one first fault or is applied, and the states of a chain.
-use Rattle.std.proofs.Common.{◌≡◌, ℕ, ◌≤◌, List, [], ◌∷◌, ◌++◌, Option, Some, None, refl, sym, ap, subst, ◌∙◌, arith, inl, inr}
+use Rattle.std.proofs.Common.{◌≡◌, ℕ, ◌≤◌, List, [], ◌∷◌, ◌++◌, Option, Some, None, refl, sym, ap, subst, ◌∙◌, arith}
 use Rattle.std.specs.Prelude.{option_and_then, option_map, ◌==◌, if◌then◌else◌}
 use Rattle.std.specs.List.{AllByRecursion}
-use Rattle.std.proofs.lemmas.Bool.{cases_lt}
 use Rattle.model.specs.Signature.{Verifies}
 use Rattle.model.specs.Rules.{Reason}
 use Rattle.model.specs.Block.{Block, body_size_of}
 use Rattle.model.specs.Chain.{Tip, genesis_tip, tip_at, tip_after, Follows, IsLinked}
 use Rattle.model.specs.Ledger.{Network, Ledger, opening_ledger, ledger_after, first_refused, ledger_after_block, ledger_of}
 use Rattle.model.specs.Applying.{LedgerState, opening_state, BlockFault, WrongNumber, WrongPrev, SlotNotRising, BodyTooBig, TxFault, fault_number, HasFault, IsFirstFault, IsApplied, IsStateOf}
+use Rattle.model.proofs.First.{one_first}
 use Rattle.model.proofs.Lists.{all_append}
 use Rattle.model.proofs.Chains.{tip_after-append, linked_front, linked_rest}
 use Rattle.model.proofs.LedgerSteps.{Some_same, None_not_Some, none_refused, ledger_push}
@@ -59,14 +59,7 @@ module _ (verifies : Verifies) (s : LedgerState) (b : Block) where
 
   -- a block has one first fault
   pub one_first_fault : (fault other : BlockFault) → IsFirstFault verifies s b fault → IsFirstFault verifies s b other → fault ≡ other
-  one_first_fault fault other is too =
-      elim (cases_lt (fault_number fault) (fault_number other)) [
-        | inl before ↦ absurd (too.first fault before is.has)
-        | inr not_before ↦ elim (cases_lt (fault_number other) (fault_number fault)) [
-          | inl before ↦ absurd (is.first other before too.has)
-          | inr neither ↦ same_number fault other is.has too.has (omega (arith, not_before, neither))
-        ]
-      ]
+  one_first_fault fault other is too = one_first fault_number (HasFault verifies s b) same_number fault other is too
 
 -- ---- the states of a chain
 

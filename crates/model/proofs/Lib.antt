@@ -1,4 +1,5 @@
 pub mod Lists
+pub mod First
 pub mod HeadLemmas
 pub mod ItemTexts
 pub mod Members

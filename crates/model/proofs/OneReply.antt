@@ -1,6 +1,5 @@
 -- Two replies to one event in one state are one, but for want of memory.
-use Rattle.std.proofs.Common.{◌≡◌, ◌≢◌, ℕ, ◌<◌, ◌≤◌, List, [], ◌∷◌, Option, Some, None, length, get_or, refl, sym, ap, subst, ◌∙◌, inl, inr, arith}
-use Rattle.std.proofs.lemmas.Bool.{cases_lt}
+use Rattle.std.proofs.Common.{◌≡◌, ◌≢◌, ℕ, ◌<◌, ◌≤◌, List, [], ◌∷◌, Option, Some, None, length, refl, sym, ap, subst, ◌∙◌, inl, inr, arith}
 use Rattle.model.specs.Block.{Block, block_text}
 use Rattle.model.specs.Transaction.{Transaction, SpellsTransaction}
 use Rattle.model.specs.Signature.{Verifies}
@@ -10,7 +9,8 @@ use Rattle.model.specs.Ledger.{Network}
 use Rattle.model.specs.Chain.{Point}
 use Rattle.model.specs.Mempool.{utxo_after_all, next_slot, IsInPool, IsJudged, Answers, SubmitReply, NoTransaction, InMempool, IsAgainst, MempoolFull, Added}
 use Rattle.model.specs.Follower.{Follower, Instruction, Stay, AddBlock, RollBack, IsNext, IsFirstOn}
-use Rattle.model.specs.History.{State, Refusal, TooLarge, Malformed, BodyHashMismatch, TooOld, Known, Clash, VolatileFull, refusal_number, IsRefused, IsChange, Takes, Event, Arrive, Submit, Open, Next, Forward, Close, Reply, Kept, Refused, Submitted, Opened, TooManyFollowers, Instructed, Forwarded, Closed, UnknownFollower, OutOfMemory, Step}
+use Rattle.model.specs.History.{State, Refusal, refusal_number, Applies, IsRefused, IsChange, Takes, Event, Arrive, Submit, Open, Next, Forward, Close, Reply, Kept, Refused, Submitted, Opened, TooManyFollowers, Instructed, Forwarded, Closed, UnknownFollower, OutOfMemory, Step}
+use Rattle.model.proofs.First.{one_first, one_number}
 use Rattle.model.proofs.TransactionTexts.{one_transaction}
 use Rattle.model.proofs.Changes.{one_change, taken_with}
 use Rattle.model.proofs.LegalHistories.{IsSoundState, keeps_one}
@@ -23,29 +23,8 @@ none_some x e = absurd (cc)
 
 -- ---- arrivals
 
--- the refusals by their numbers
-abbrev by_number : List Refusal
-by_number = TooLarge ∷ TooLarge ∷ Malformed ∷ BodyHashMismatch ∷ TooOld ∷ Known ∷ Clash ∷ VolatileFull ∷ []
-
-of_number : (r : Refusal) → get_or by_number (refusal_number r) TooLarge ≡ r
-of_number TooLarge = refl
-of_number Malformed = refl
-of_number BodyHashMismatch = refl
-of_number TooOld = refl
-of_number Known = refl
-of_number Clash = refl
-of_number VolatileFull = refl
-
 refused_one : (network : Network) (s : State) (bytes : List ℕ) (r q : Refusal) → IsRefused network s bytes r → IsRefused network s bytes q → r ≡ q
-refused_one network s bytes r q one two = elim (cases_lt (refusal_number r) (refusal_number q)) [
-  | inl less ↦ absurd (two.first r less one.applies)
-  | inr up ↦ elim (cases_lt (refusal_number q) (refusal_number r)) [
-    | inl less ↦ absurd (one.first q less two.applies)
-    | inr down ↦
-        let same : refusal_number r ≡ refusal_number q = omega arith in
-        sym (of_number r) ∙ (ap (λ n. get_or by_number n TooLarge) same ∙ of_number q)
-  ]
-]
+refused_one network s bytes r q one two = one_first refusal_number (Applies network s bytes) (λ a b _ _ same. one_number a b same) r q one two
 
 arrival_one : (network : Network) (s : State) (bytes : List ℕ) (r q : Reply) (t u : State) → IsSoundState network s → r ≢ OutOfMemory → q ≢ OutOfMemory → Step network s (Arrive bytes) r t → Step network s (Arrive bytes) q u → r ≡ q
 arrival_one network s bytes (Kept back added) (Kept other_back other_added) t u sound enough enough_too one two =

@@ -3,6 +3,7 @@
 -- state). The order of the faults is this project's own.
 use Rattle.std.specs.Prelude.{◌≡◌, ◌≢◌, ℕ, ◌+◌, ◌<◌, ◌≤◌, List, [], ◌∷◌, Some}
 use Rattle.std.specs.List.{AllByRecursion}
+use Rattle.model.specs.First.{IsFirst}
 use Rattle.model.specs.Signature.{Verifies}
 use Rattle.model.specs.Rules.{Params, Reason}
 use Rattle.model.specs.Genesis.{Genesis}
@@ -56,9 +57,8 @@ module _ (verifies : Verifies) where
 
   -- FIRST FAULT OF A BLOCK
   -- It has this one, and none that is looked for before it.
-  pub record IsFirstFault (s : LedgerState) (b : Block) (fault : BlockFault) : Type 0 where
-    pub has : HasFault s b fault
-    pub first : (other : BlockFault) → fault_number other < fault_number fault → HasFault s b other → ⊥
+  abbrev pub IsFirstFault : LedgerState → Block → BlockFault → Type 0
+  IsFirstFault s b fault = IsFirst fault_number (HasFault s b) fault
 
   -- BLOCK APPLIED
   -- It follows the tip, its body fits, there is no reason against any of its transactions, and the state after it has

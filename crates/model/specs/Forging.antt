@@ -1,7 +1,8 @@
 -- Blocks that are forged on a chain, of what waits in the mempool, and what comes of them where they arrive next
 -- (Shelley, block production without its leader checks; the order of the faults is this project's own).
-use Rattle.std.specs.Prelude.{◌≡◌, ◌≢◌, ℕ, ◌+◌, ◌<◌, ◌≤◌, ◌⊎◌, List, [], Some}
+use Rattle.std.specs.Prelude.{◌≡◌, ◌≢◌, ℕ, ◌+◌, ◌≤◌, ◌⊎◌, List, [], Some}
 use Rattle.std.specs.List.{AllByRecursion}
+use Rattle.model.specs.First.{IsFirst}
 use Rattle.model.specs.Limits.{number_limit}
 use Rattle.model.specs.Transaction.{Transaction}
 use Rattle.model.specs.Utxo.{Utxo}
@@ -30,9 +31,8 @@ module _ (network : Network) (chain : List Block) where
   ForgeApplies slot OutOfRange = (number_limit ≤ slot) ⊎ (number_limit ≤ tip_of.number + 1)
 
   -- the first that applies
-  pub record IsNotForged (slot : ℕ) (fault : ForgeFault) : Type 0 where
-    pub applies : ForgeApplies slot fault
-    pub first : (other : ForgeFault) → forge_fault_number other < forge_fault_number fault → ForgeApplies slot other → ⊥
+  abbrev pub IsNotForged : ℕ → ForgeFault → Type 0
+  IsNotForged slot fault = IsFirst forge_fault_number (ForgeApplies slot) fault
 
   -- the block of these transactions that comes next in this slot
   abbrev pub next_block : (slot : ℕ) → List Transaction → Block

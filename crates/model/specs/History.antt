@@ -3,6 +3,7 @@
 use Rattle.std.specs.Prelude.{◌≡◌, ◌≢◌, ◌++◌, ℕ, ◌+◌, ◌-◌, ◌≤◌, ◌<◌, ◌⊎◌, List, [], ◌∷◌, length, take, Contains, Some}
 use Rattle.std.specs.Prelude.{None, Option, slice_set, ◌==◌, if◌then◌else◌, ◌↔◌}
 use Rattle.std.specs.List.{AllByRecursion}
+use Rattle.model.specs.First.{IsFirst}
 use Rattle.model.specs.Block.{Block, SpellsBlock, block_text, block_hash_of, body_hash_of}
 use Rattle.model.specs.Ledger.{Network}
 use Rattle.model.specs.Chain.{Point, immutable_length, live_blocks, IsSelection, BeginsWith, IsValidChain, NoneLonger}
@@ -65,9 +66,8 @@ Applies network s bytes Clash = IsBlockWith bytes (λ b. (c : Block)
 Applies network s bytes VolatileFull = network.genesis.max_volatile ≤ length (live_of network s)
 
 -- the first refusal that applies
-pub record IsRefused (network : Network) (s : State) (bytes : List ℕ) (refusal : Refusal) : Type 0 where
-  pub applies : Applies network s bytes refusal
-  pub first : (other : Refusal) → refusal_number other < refusal_number refusal → Applies network s bytes other → ⊥
+abbrev pub IsRefused : Network → State → List ℕ → Refusal → Type 0
+IsRefused network s bytes refusal = IsFirst refusal_number (Applies network s bytes) refusal
 
 -- ---- steps
 

@@ -1,4 +1,5 @@
 pub mod Limits
+pub mod First
 pub mod Cbor
 pub mod Value
 pub mod Script
