@@ -1,7 +1,7 @@
 -- THIS FILE MAY BE SKIPPED: it defines nothing that the node means. A type of the code can stand for a value only if
 -- that value has a code, a one to one map into trees of numbers; here are these codes, each with its proof that it is
 -- one to one. Those of recursive data are read back from the tree; those of records are the codes of their fields.
-use Rattle.std.specs.Prelude.{◌≡◌, ◌⊎◌, ℕ, zero, suc, List, [], ◌∷◌, Option}
+use Rattle.std.specs.Prelude.{◌≡◌, ◌⊎◌, ℕ, zero, suc, ◌-◌, List, [], ◌∷◌, get_or, Option}
 use mathlib.Core.Path.{refl, sym, ap, ◌∙◌}
 use mathlib.Core.Logic.{inl, inr}
 use base.Stored.{Gv, gnil, gnum, gcons, num}
@@ -371,16 +371,13 @@ coded_state =
     (λ s. (s.kept, (s.chain, (s.mempool, s.followers))))
     (λ p. record { kept = p.0; chain = p.1.0; mempool = p.1.1.0; followers = p.1.1.1 }) (λ _. refl)
 
+-- all refusals, by their numbers
+abbrev pub refusals : List Refusal
+refusals = TooLarge ∷ Malformed ∷ BodyHashMismatch ∷ TooOld ∷ Known ∷ Clash ∷ VolatileFull ∷ []
+
 -- the refusal of a number
 abbrev pub refusal_at : ℕ → Refusal
-refusal_at zero = TooLarge
-refusal_at (suc zero) = TooLarge
-refusal_at (suc (suc zero)) = Malformed
-refusal_at (suc (suc (suc zero))) = BodyHashMismatch
-refusal_at (suc (suc (suc (suc zero)))) = TooOld
-refusal_at (suc (suc (suc (suc (suc zero))))) = Known
-refusal_at (suc (suc (suc (suc (suc (suc zero)))))) = Clash
-refusal_at (suc (suc (suc (suc (suc (suc (suc n))))))) = VolatileFull
+refusal_at n = get_or refusals (n - 1) TooLarge
 
 -- a refusal comes back from its number
 pub refusal_back : (r : Refusal) → refusal_at (refusal_number r) ≡ r

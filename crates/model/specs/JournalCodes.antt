@@ -1,8 +1,8 @@
 -- THIS FILE MAY BE SKIPPED: as `Codes`, of events, replies and the journal.
-use Rattle.std.specs.Prelude.{◌≡◌, ℕ, zero, suc, List, [], Option, None}
+use Rattle.std.specs.Prelude.{◌≡◌, ℕ, zero, suc, ◌-◌, List, [], get_or, Option, None}
 use mathlib.Core.Path.{refl}
 use Rattle.std.specs.Coded.{Coded, coded_ℕ, coded_list, coded×, coded_option, code_by}
-use Rattle.model.specs.Rules.{Reason, reason_number, OutsideInterval, NoInputs, TooBig, FeeTooSmall}
+use Rattle.model.specs.Rules.{Reason, reason_number, reasons, OutsideInterval, NoInputs, TooBig, FeeTooSmall}
 use Rattle.model.specs.Rules.{MissingInput, OutputTooSmall, WrongNetwork, NotBalanced, OutputExists, BadSignature}
 use Rattle.model.specs.Rules.{MissingKeyWitness, MissingScript, ExtraScript, ScriptFails}
 use Rattle.model.specs.Mempool.{SubmitReply, NoTransaction, InMempool, IsAgainst, MempoolFull, Added}
@@ -80,24 +80,11 @@ coded_instruction =
     code_by (ℕ × (List ℕ × ℕ)) (coded× coded_ℕ (coded× coded_bytes coded_ℕ)) fields_of_instruction
     (λ p. instruction_at p.0 p.1.0 p.1.1) instruction_back
 
--- the number of a reason against a transaction, and the reason of a number
+-- the reason of a number
 abbrev pub reason_at : ℕ → Reason
-reason_at zero = OutsideInterval
-reason_at (suc zero) = OutsideInterval
-reason_at (suc (suc zero)) = NoInputs
-reason_at (suc (suc (suc zero))) = TooBig
-reason_at (suc (suc (suc (suc zero)))) = FeeTooSmall
-reason_at (suc (suc (suc (suc (suc zero))))) = MissingInput
-reason_at (suc (suc (suc (suc (suc (suc zero)))))) = OutputTooSmall
-reason_at (suc (suc (suc (suc (suc (suc (suc zero))))))) = WrongNetwork
-reason_at (suc (suc (suc (suc (suc (suc (suc (suc zero)))))))) = NotBalanced
-reason_at (suc (suc (suc (suc (suc (suc (suc (suc (suc zero))))))))) = OutputExists
-reason_at (suc (suc (suc (suc (suc (suc (suc (suc (suc (suc zero)))))))))) = BadSignature
-reason_at (suc (suc (suc (suc (suc (suc (suc (suc (suc (suc (suc zero))))))))))) = MissingKeyWitness
-reason_at (suc (suc (suc (suc (suc (suc (suc (suc (suc (suc (suc (suc zero)))))))))))) = MissingScript
-reason_at (suc (suc (suc (suc (suc (suc (suc (suc (suc (suc (suc (suc (suc zero))))))))))))) = ExtraScript
-reason_at (suc (suc (suc (suc (suc (suc (suc (suc (suc (suc (suc (suc (suc (suc n)))))))))))))) = ScriptFails
+reason_at n = get_or reasons (n - 1) OutsideInterval
 
+-- a reason comes back from its number
 pub reason_back : (r : Reason) → reason_at (reason_number r) ≡ r
 reason_back OutsideInterval = refl
 reason_back NoInputs = refl

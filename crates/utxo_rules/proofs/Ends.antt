@@ -1,12 +1,12 @@
 -- How the parts of a check make its whole.
-use Rattle.std.proofs.Common.{◌≡◌, ℕ, Bool, true, false, List, [], ◌∷◌, ◌++◌, map, Option, Some, None, Result, Ok, Err, IfErr, OnOk, refl, sym, ap, subst, ◌∙◌, arith}
+use Rattle.std.proofs.Common.{◌≡◌, ℕ, Bool, true, false, List, [], ◌∷◌, ◌++◌, drop, map, Option, Some, None, Result, Ok, Err, IfErr, OnOk, refl, sym, ap, subst, ◌∙◌, arith}
 use Rattle.std.specs.Prelude.{if◌then◌else◌}
 use Rattle.std.specs.List.{AllByRecursion}
 use Rattle.model.specs.Signature.{Verifies}
 use Rattle.model.specs.Transaction.{Transaction, Input}
 use Rattle.model.specs.Utxo.{Utxo, outputs_at, spent_outputs}
 use Rattle.model.specs.Balance.{is_balanced}
-use Rattle.model.specs.Rules.{Params, Reason, passes, first_failing, reason_against, has_free_places, keys_needed, scripts_needed}
+use Rattle.model.specs.Rules.{Params, Reason, reasons, passes, first_failing, reason_against, has_free_places, keys_needed, scripts_needed}
 use Rattle.model.specs.Rules.{OutsideInterval, NoInputs, TooBig, FeeTooSmall, MissingInput, OutputTooSmall, WrongNetwork, NotBalanced, OutputExists, BadSignature, MissingKeyWitness, MissingScript, ExtraScript, ScriptFails}
 use Rattle.tx.specs.View.{input_of}
 use Rattle.tx.specs.declared.input.Input.{Input as CodeInput}
@@ -65,7 +65,7 @@ early_passes test (x ∷ rs) ss none =
 
 module _ (verifies : Verifies) (params : Params) (utxo : Utxo) (slot : ℕ) (t : Transaction) where
   abbrev late_reasons : List Reason
-  late_reasons = NotBalanced ∷ OutputExists ∷ BadSignature ∷ MissingKeyWitness ∷ MissingScript ∷ ExtraScript ∷ ScriptFails ∷ []
+  late_reasons = drop 7 reasons
 
   pub told_early : (r : Reason) → first_failing (passes verifies params utxo slot t) early_reasons ≡ Some r → reason_against verifies params utxo slot t ≡ Some r
   unfolding reason_against

@@ -1,12 +1,11 @@
 -- How a check ends.
-use Rattle.std.specs.Prelude.{◌≡◌, ℕ, ◌<◌, true, List, [], ◌∷◌, Option, Some, None, Result, Ok, Err, if◌then◌else◌}
+use Rattle.std.specs.Prelude.{◌≡◌, ℕ, ◌<◌, true, List, take, Option, Some, None, Result, Ok, Err, if◌then◌else◌}
 use Rattle.model.specs.Signature.{Verifies}
 use Rattle.model.specs.Transaction.{Transaction}
 use Rattle.model.specs.Utxo.{Utxo}
-use Rattle.model.specs.Rules.{Params, Reason, OutsideInterval, NoInputs, TooBig, FeeTooSmall, MissingInput}
 use Rattle.model.specs.Balance.{is_balanced}
-use Rattle.model.specs.Rules.{OutputTooSmall, WrongNetwork, NotBalanced, OutputExists, BadSignature}
-use Rattle.model.specs.Rules.{MissingKeyWitness, MissingScript, ExtraScript, ScriptFails, reason_number, passes}
+use Rattle.model.specs.Rules.{Params, Reason, NotBalanced, OutputExists, BadSignature, MissingKeyWitness}
+use Rattle.model.specs.Rules.{MissingScript, ExtraScript, ScriptFails, reason_number, reasons, passes}
 use Rattle.model.specs.Rules.{reason_against, has_free_places, has_good_signatures, are_among, keys_of, scripts_of}
 use Rattle.model.specs.Rules.{keys_needed, scripts_needed, scripts_hold}
 use Rattle.utxo_rules.specs.declared.reason.Reason.{Reason as CodeReason}
@@ -28,8 +27,7 @@ IsCheckFault verifies params utxo slot t OutOfMemory = PassesEarly verifies para
 
 -- the reasons that are looked for before the balance
 abbrev pub early_reasons : List Reason
-early_reasons =
-    OutsideInterval ∷ NoInputs ∷ TooBig ∷ FeeTooSmall ∷ MissingInput ∷ OutputTooSmall ∷ WrongNetwork ∷ []
+early_reasons = take 7 reasons
 
 -- the reason that is told, if one is
 abbrev pub told : Result (Unit {0}) CodeReason → Option Reason
