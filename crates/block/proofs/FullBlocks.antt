@@ -1,9 +1,7 @@
 -- Transactions that are handed in make a block that has a text, or one of them nests too deep for any.
-use Rattle.std.proofs.Common.{◌≡◌, ℕ, zero, suc, ◌+◌, ◌≤◌, ◌<◌, ◌^◌, List, [], ◌∷◌, length, map, get_or, take, Option, Some, None, option_map, Result, Ok, Err, slice_get, ◌++◌, refl, sym, ap, subst, ◌∙◌, arith}
+use Rattle.std.proofs.Common.{◌≡◌, ℕ, zero, suc, ◌+◌, ◌≤◌, ◌<◌, ◌^◌, List, [], ◌∷◌, length, map, get_or, take, Option, Some, None, option_map, slice_get, ◌++◌, refl, sym, ap, subst, ◌∙◌, arith}
 use Rattle.std.proofs.lemmas.Option.{slice_get_read}
 use Rattle.std.proofs.lemmas.List.{append-nil, take_all, length-append}
-use Rattle.std.specs.Prelude.{IfErr}
-use Rattle.std.specs.Result.{IsErrAnd}
 use Rattle.sha2.specs.Sha256.{sha256}
 use Rattle.sha2.proofs.Facts256.{length-sha256}
 use Rattle.ident.specs.Kinds.{BlockHash}
@@ -85,11 +83,6 @@ unfolding body_hash_of block_hash_of
 full_is_hashed h ts body hash spelled hashed is =
     let named : h.body_hash.bytes ≡ sha256 (text_of (item_of_transactions ts)) = hashed ∙ ap sha256 spelled in
     is ∙ ap (λ (b : List ℕ). sha256 (text_of (item_of_header (record { number = h.number; slot = h.slot; previous = option_map bytes_of h.previous; body_hash = b })))) named
-
--- want of memory, as another fault has it
-pub if_err : {X E : Type 0} (result : Result X E) (is : E) (P : E → Type 0) → IsErrAnd result (λ e. e ≡ is) → P is → IfErr result P
-if_err (Ok x) is P same p = tt
-if_err (Err e) is P same p = subst P (sym same) p
 
 -- ---- the one that is too deep
 

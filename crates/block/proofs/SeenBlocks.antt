@@ -1,6 +1,6 @@
 -- The block that is made of what was computed of bytes.
 use Rattle.std.proofs.Common.{◌≡◌, List, ℕ, sym, ap, subst, ◌∙◌}
-use Rattle.std.specs.Prelude.{Result, Ok, Err, IfOk, IfErr}
+use Rattle.std.specs.Prelude.{Result, Ok, IfOk}
 use Rattle.model.specs.Transaction.{Transaction}
 use Rattle.model.specs.Block.{Block, block_text}
 use Rattle.model.proofs.BlockTexts.{block_text_is}
@@ -19,11 +19,6 @@ parts_found found p bytes is parts = subst (λ (r : Result BlockParts BadBytes).
 -- so there was want of memory alone
 pub parts_readable : (p : BlockParts) (shown bytes : List ℕ) → ArePartsOf p shown → shown ≡ bytes → IsReadable bytes
 parts_readable p shown bytes parts same = subst IsReadable same (is_readable shown (block_of_parts p) parts.read)
-
--- whatever the fault
-pub any_fault : {X E : Type 0} (result : Result X E) (P : E → Type 0) → ((e : E) → P e) → IfErr result P
-any_fault (Ok x) P all = tt
-any_fault (Err e) P all = all e
 
 -- a block of these parts is read from these bytes
 pub parts_read : (p : BlockParts) (ts : List Transaction) (b : Block) (shown bytes : List ℕ) → ArePartsOf p shown → shown ≡ bytes → ts ≡ p.transactions.items → b ≡ block_with (header_of p.header, ts) → IsRead b bytes

@@ -1,8 +1,8 @@
 -- Writing entries one after the other, as a loop does.
 use Rattle.std.proofs.Common.{◌≡◌, ℕ, suc, ◌+◌, ◌<◌, ◌≤◌, List, [], ◌∷◌, ◌++◌, length, drop, get_or, map, refl, sym, ap, ◌∙◌, append-nil, append_assoc, add-one, drop-cons, arith}
-use Rattle.std.specs.Prelude.{Result, Ok, Err, OnErr}
 use Rattle.std.proofs.lemmas.List.{take_at, take-append-drop, drop_all, length-append}
 use Rattle.model.specs.Cbor.{Item, Bytes, head, text_of, pairs_of, pairs_text, pairs_count, map_of}
+pub use Rattle.model.proofs.Results.{on_err as whatever_err}
 use Rattle.cbor.specs.Texts.{Keeps}
 
 -- the members from a place on
@@ -32,11 +32,6 @@ string_written before after written name h same = h ∙ ap (λ (n : List ℕ). b
 pub map_twice : {A B C : Type 0} (f : B → C) (g : A → B) (xs : List A) → map f (map g xs) ≡ map (λ x. f (g x)) xs
 map_twice f g [] = refl
 map_twice f g (x ∷ xs) = ap (λ t. f (g x) ∷ t) (map_twice f g xs)
-
--- what holds whatever was returned holds where an error was
-pub whatever_err : {T F : Type 0} (r : Result T F) (P : Type 0) → P → OnErr r P
-whatever_err (Ok x) P p = tt
-whatever_err (Err e) P p = p
 
 module _ {E : Type 0} (pair : E → Item × Item) where
   -- of these entries so many were written after bytes

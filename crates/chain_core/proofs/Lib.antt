@@ -10,7 +10,6 @@ pub mod Reached
 pub mod OpenedOn
 pub mod ForgedTexts
 pub mod CopiedTexts
-pub mod Results
 pub mod Points
 pub mod FollowerCalls
 pub mod Crossing

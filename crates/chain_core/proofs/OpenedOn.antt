@@ -1,6 +1,6 @@
 -- The chain that a core is opened on, block after block.
 use Rattle.std.proofs.Common.{◌≡◌, ℕ, suc, ◌+◌, ◌<◌, List, [], ◌∷◌, ◌++◌, length, take, drop, get_or, refl, sym, ap, subst, ◌∙◌, arith}
-use Rattle.std.specs.Prelude.{◌≤◌, Result, Ok, Err, IsErrAnd, IfErr}
+use Rattle.std.specs.Prelude.{◌≤◌}
 use Rattle.std.specs.Global.{Vec}
 use Rattle.std.specs.List.{AllByRecursion}
 use Rattle.std.proofs.lemmas.List.{take_more, map-append, take-append-drop, length-take-le, length-take, take-take}
@@ -24,11 +24,6 @@ use Rattle.ledger.specs.declared.block_fault.ApplyFault.TheVariants.{Refused}
 use Rattle.chain_core.specs.Reopening.{AreRead, IsReopenFault, IsNotNext, texts_in}
 use Rattle.chain_core.specs.declared.reopening.ReopenFault.{ReopenFault}
 use Rattle.chain_core.specs.declared.reopening.ReopenFault.TheVariants.{InvalidBlock, OutOfMemory}
-
--- an error that is passed on
-pub passed_on : {T E : Type 0} (r : Result T E) (e : E) (P : E → Type 0) → IsErrAnd r (λ x. x ≡ e) → P e → IfErr r P
-passed_on (Ok x) e P is holds = tt
-passed_on (Err x) e P is holds = subst P (sym is) holds
 
 -- ---- one block
 

@@ -1,6 +1,6 @@
 -- Numbers that are free, and the heap that keeps them.
 use Rattle.std.proofs.Common.{◌≡◌, ◌≢◌, ℕ, zero, suc, ◌+◌, ◌<◌, ◌≤◌, List, [], ◌∷◌, ◌++◌, length, map, Option, Some, None, Bool, true, false, Result, Ok, Err, slice_set, refl, sym, ap, subst, ◌∙◌, inl, inr, arith, eq-eqb, ne_eqb}
-use Rattle.std.specs.Prelude.{option_map, IfErr, IsErrAnd, IsOk, OnOk, is_some, not}
+use Rattle.std.specs.Prelude.{option_map, IsOk, OnOk, is_some, not}
 use Rattle.std.specs.List.{AllByRecursion}
 use Rattle.std.specs.List.Sorted.{IsPermutation}
 use Rattle.std.specs.Ordering.{is_lt, nat_cmp}
@@ -197,10 +197,6 @@ kept_pushed ps old new x p is kept pushed n =
 pub no_items : {X : Type 0} (xs : List X) → length xs ≡ 0 → xs ≡ []
 no_items [] none = refl
 no_items (x ∷ xs) none = absurd (omega arith)
-
-pub if_err : {X E : Type 0} (result : Result X E) (is : E) (P : E → Type 0) → IsErrAnd result (λ e. e ≡ is) → P is → IfErr result P
-if_err (Ok x) is P same p = tt
-if_err (Err e) is P same p = subst P (sym same) p
 
 -- one that is there, by the test that it isn't none
 pub some_place : {X : Type 0} (o : Option X) (answer : Bool) → is_some o ≡ not answer → answer ≡ false → (x : X) × (o ≡ Some x)

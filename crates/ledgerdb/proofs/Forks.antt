@@ -1,6 +1,6 @@
 -- Blocks that are applied one after the other, and the one that isn't.
 use Rattle.std.proofs.Common.{◌≡◌, ℕ, ◌+◌, ◌<◌, List, [], ◌∷◌, ◌++◌, length, take, get_or, sym, ap, subst, ◌∙◌, arith}
-use Rattle.std.specs.Prelude.{Some, slice_get, Result, Ok, Err, IfErr, IsErrAnd}
+use Rattle.std.specs.Prelude.{Some, slice_get}
 use Rattle.std.proofs.lemmas.List.{take_more}
 use Rattle.model.specs.Signature.{Verifies}
 use Rattle.model.specs.Block.{Block}
@@ -59,8 +59,3 @@ first_stops verifies root [] b fault is stopped = absurd cc
 first_stops verifies root (x ∷ xs) b fault is stopped =
     let same : x ≡ b = cc in
     record { before = []; applied = tt; block = b; within = omega arith; here = same; is_stopped = stopped }
-
--- an error that is passed on
-pub passed_on : {T E : Type 0} (r : Result T E) (e : E) (P : E → Type 0) → IsErrAnd r (λ x. x ≡ e) → P e → IfErr r P
-passed_on (Ok x) e P is holds = tt
-passed_on (Err x) e P is holds = subst P (sym is) holds

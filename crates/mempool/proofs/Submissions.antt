@@ -1,5 +1,5 @@
 -- What becomes of a transaction that is submitted.
-use Rattle.std.proofs.Common.{◌≡◌, ℕ, ◌<◌, ◌≤◌, Bool, true, false, true≢false, List, [], ◌∷◌, ◌++◌, length, map, nat_lt, Some, None, Result, Ok, Err, OnErr, Contains, refl, sym, ap, subst, ◌∙◌, arith}
+use Rattle.std.proofs.Common.{◌≡◌, ℕ, ◌<◌, ◌≤◌, Bool, true, false, true≢false, List, [], ◌∷◌, ◌++◌, length, map, nat_lt, Some, None, Contains, refl, sym, ap, subst, ◌∙◌, arith}
 use Rattle.model.specs.Transaction.{Transaction, SpellsTransaction, transaction_id_of}
 use Rattle.model.specs.Signature.{Verifies}
 use Rattle.model.specs.Utxo.{Utxo, utxo_after}
@@ -19,11 +19,6 @@ after_last utxo (x ∷ xs) t = after_last (utxo_after utxo x) xs t
 pub is_new : (inside now : Pool) (t : Transaction) (id : List ℕ) (there : Bool) → inside ≡ now → id ≡ transaction_id_of t → (Contains (map transaction_id_of inside.waiting.txs) id → there ≡ true) → there ≡ false → IsInPool now.waiting.txs t → ⊥
 is_new inside now t id there view is says absent found =
     true≢false (sym (says (subst (λ (p : Pool). Contains (map transaction_id_of p.waiting.txs) id) (sym view) (subst (Contains (map transaction_id_of now.waiting.txs)) (sym is) found))) ∙ absent)
-
--- what is so anyway is so at an error
-pub on_err : {T E : Type 0} (P : Type 0) → P → (r : Result T E) → OnErr r P
-on_err P p (Ok x) = tt
-on_err P p (Err e) = p
 
 module _ (verifies : Verifies) (params : Params) (slot : ℕ) (old : Pool) (t : Transaction) (bytes : List ℕ) (spells : SpellsTransaction t bytes) where
   -- its identifier is there

@@ -43,3 +43,4 @@ pub mod LogTexts
 pub mod EraLaws
 pub mod RisingKeys
 pub mod AssetsApart
+pub mod Results

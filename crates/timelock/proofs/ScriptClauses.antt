@@ -1,6 +1,6 @@
 -- What the public calls on scripts promise, from the laws of their reading.
 use Rattle.std.proofs.Common.{◌≡◌, ℕ, zero, suc, ◌*◌, ◌<◌, ◌≤◌, List, [], ◌∷◌, ◌++◌, ◌-◌, length, take, append-nil, Some, refl, sym, ap, subst, ◌∙◌, arith, Bor, Bool, true, false, eqb}
-use Rattle.std.specs.Prelude.{Result, Ok, Err, IfOk, IfErr, IsErrAnd}
+use Rattle.std.specs.Prelude.{Result, Ok, Err, IfOk, IfErr}
 use Rattle.std.proofs.lemmas.List.{take_at, length-append}
 use Rattle.sha2.specs.Sha256.{sha256}
 use Rattle.model.specs.Cbor.{text_of, nesting, items_nesting, HasRisingKeys, ItemsHaveRisingKeys, HasText}
@@ -129,11 +129,6 @@ read_is_kept depth le bytes script rest text hash fits e front hashed =
 pub made_is_kept : (script : Script) (text hash : List ℕ) → FitsIn 32 script → text ≡ text_of (item_of_script script) → hash ≡ sha256 (0 ∷ text) → IsKept script hash
 unfolding script_hash_of
 made_is_kept script text hash fits same hashed = record { shape = fits.shape; has_text = fits_text script fits; hash = hashed ∙ ap (λ (x : List ℕ). sha256 (0 ∷ x)) same }
-
--- an error that `?` hands on
-pub if_err : {X E : Type 0} (result : Result X E) (is : E) (P : E → Type 0) → IsErrAnd result (λ e. e ≡ is) → P is → IfErr result P
-if_err (Ok x) is P same p = tt
-if_err (Err e) is P same p = subst P (sym same) p
 
 -- bytes that are not none
 pub not_empty : (rest : List ℕ) (b : Bool) → b ≡ eqb (length rest) 0 → b ≡ false → rest ≡ [] → ⊥

@@ -1,7 +1,6 @@
--- For the crates above: errors that are told as others, how a loop puts in outputs that are counted from 0 on, and that
--- unspent outputs may go to another thread.
-use Rattle.std.proofs.Common.{◌≡◌, ℕ, suc, ◌+◌, ◌<◌, ◌≤◌, true, List, [], ◌∷◌, length, drop, get_or, map, Result, Ok, Err, IfErr, refl, sym, ap, subst, ◌∙◌, arith}
-use Rattle.std.specs.Result.{IsErrAnd}
+-- For the crates above: how a loop puts in outputs that are counted from 0 on, and that unspent outputs may go to
+-- another thread.
+use Rattle.std.proofs.Common.{◌≡◌, ℕ, suc, ◌+◌, ◌<◌, ◌≤◌, true, List, [], ◌∷◌, length, drop, get_or, map, refl, sym, ap, ◌∙◌, arith}
 use Rattle.std.specs.FinMap as finite
 use Rattle.std.proofs.lemmas.List.{drop_all}
 use Rattle.cbor.proofs.ForCallers.{drop_here}
@@ -11,11 +10,6 @@ use Rattle.model.specs.Rules.{has_free_places}
 use Rattle.utxo_rules.specs.Diffs.{Diff, diff_of, undone}
 use Rattle.utxo_rules.proofs.Restoring.{undone_to}
 pub use Rattle.utxo_rules.proofs.Crossing.{Utxo-send}
-
--- what `?` makes of an error has what this one has
-pub if_err : {X E : Type 0} (result : Result X E) (is : E) (P : E → Type 0) → IsErrAnd result (λ e. e ≡ is) → P is → IfErr result P
-if_err (Ok x) is P same p = tt
-if_err (Err e) is P same p = subst P (sym same) p
 
 module _ {A : Type 0} (made : A → Output) (id : List ℕ) where
   -- the pairs of what is made of the elements from this one on

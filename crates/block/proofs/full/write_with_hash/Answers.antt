@@ -2,11 +2,12 @@ use Rattle.std.proofs.Common.{◌≡◌, ◌++◌, option_map, refl, rules}
 use Rattle.sha2.specs.Sha256.{sha256}
 use Rattle.model.specs.Cbor.{head, text_of}
 use Rattle.model.specs.Block.{item_of_header}
+use Rattle.model.proofs.Results.{if_err}
 use Rattle.block.specs.declared.header.Header as code
 use Rattle.block.specs.declared.fault.NoText.TheVariants.{OutOfMemory}
 use Rattle.block.specs.View.{bytes_of, header_of}
 use Rattle.block.specs.Written.{full_block, IsNoText}
-use Rattle.block.proofs.FullBlocks.{full_header, full_is_written, full_is_hashed, too_deep, if_err}
+use Rattle.block.proofs.FullBlocks.{full_header, full_is_written, full_is_hashed, too_deep}
 use Rattle.block.proofs.full.write_with_hash.Goals as goal
 
 pub returns-in-Some-clause-fault : goal.returns-in-Some-clause-fault

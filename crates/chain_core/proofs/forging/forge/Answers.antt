@@ -8,10 +8,10 @@ use Rattle.model.specs.Genesis.{Genesis}
 use Rattle.model.specs.Ledger.{network_on}
 use Rattle.model.specs.Chain.{genesis_tip, tip_after}
 use Rattle.model.specs.Mempool.{picked}
+use Rattle.model.proofs.Results.{if_err}
 use Rattle.mempool.specs.Picking.{IsSpelled}
 use Rattle.block.specs.View.{bytes_of}
 use Rattle.block.specs.Written.{full_block}
-use Rattle.chain_core.proofs.Results.{if_err}
 use Rattle.chain_core.specs.ChainDbs.{IsWhole}
 use Rattle.chain_core.specs.ForgedBlocks.{IsForgeFault}
 use Rattle.chain_core.specs.declared.forging.ForgeFault.TheVariants as fault

@@ -2,7 +2,7 @@ use Rattle.std.proofs.Common.{sym, subst}
 use Rattle.model.specs.Ledger.{network_of}
 use Rattle.model.specs.Applying.{LedgerState, IsFirstFault, IsApplied}
 use Rattle.model.proofs.AppliedBlocks.{state_push}
-use Rattle.utxo_rules.proofs.ForCallers.{if_err}
+use Rattle.model.proofs.Results.{if_err}
 use Rattle.ledger.specs.View.{fault_of}
 use Rattle.ledger.specs.Judgement.{Fits, IsApplyFault}
 use Rattle.ledger.specs.declared.block_fault.ApplyFault.TheVariants.{OutOfMemory}

@@ -2,6 +2,7 @@ use Rattle.std.proofs.Common.{◌≡◌, List, subst, sym, ap, ◌∙◌}
 use Rattle.ledger.specs.BlockDiffs.{BlockDiff}
 use Rattle.model.specs.Applying.{LedgerState, last_state}
 use Rattle.model.proofs.AppliedBlocks.{no_fault}
+use Rattle.model.proofs.Results.{if_err}
 use Rattle.ledger.specs.Judgement.{IsApplyFault}
 use Rattle.ledger.specs.declared.block_fault.ApplyFault.{ApplyFault}
 use Rattle.ledger.specs.declared.block_fault.ApplyFault.TheVariants as apply
@@ -9,7 +10,7 @@ use Rattle.ledgerdb.specs.Faults.{IsForkFault}
 use Rattle.ledgerdb.specs.declared.fork_fault.ForkFault.TheVariants.{OutOfMemory}
 use Rattle.ledgerdb.specs.Inside.{undone_blocks, states_along}
 use Rattle.ledgerdb.proofs.Along.{one_along, last_along}
-use Rattle.ledgerdb.proofs.Forks.{one_more, stops_here, passed_on}
+use Rattle.ledgerdb.proofs.Forks.{one_more, stops_here}
 use Rattle.ledgerdb.proofs.applying.apply_all.Goals as goal
 
 -- the state so far is the last of those so far
@@ -23,7 +24,7 @@ returns-in_err-push_back-in-Ok-clause-refused g c =
     let now = c.loop-index.state in
     let was = c.loop-index.invariant in
     let b = c.index-blocks-index.result in
-    passed_on c.from_residual.result OutOfMemory (IsForkFault verifies c.args.root c.args.blocks.now) c.from_residual.ensures.1
+    if_err c.from_residual.result OutOfMemory (IsForkFault verifies c.args.root c.args.blocks.now) c.from_residual.ensures.1
     (λ some. (
       c.loop-index.index,
       stops_here verifies c.args.root now c.args.blocks.now c.loop-index.index (states_along ds now) b apply.OutOfMemory was.applied (newest c.args.root now ds was.back) c.loop-index-test.true c.index-blocks-index.is

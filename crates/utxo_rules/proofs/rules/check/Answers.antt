@@ -1,9 +1,9 @@
 use Rattle.std.proofs.Common.{subst}
 use Rattle.model.specs.Transaction.{Transaction}
+use Rattle.model.proofs.Results.{if_err}
 use Rattle.utxo_rules.specs.View.{params_of}
 use Rattle.utxo_rules.specs.declared.check_fault.CheckFault.TheVariants.{Refused}
 use Rattle.utxo_rules.specs.Check.{IsCheckFault, PassesEarly}
-use Rattle.utxo_rules.proofs.ForCallers.{if_err}
 use Rattle.utxo_rules.proofs.Ends.{accepted_at, refused_at}
 use Rattle.utxo_rules.proofs.rules.check.Goals as goal
 

@@ -1,6 +1,7 @@
 use Rattle.std.proofs.Common.{◌∙◌}
+use Rattle.model.proofs.Results.{any_fault}
 use Rattle.block.proofs.Kept.{read_text}
-use Rattle.block.proofs.SeenBlocks.{parts_found, parts_readable, any_fault, parts_read, parts_text}
+use Rattle.block.proofs.SeenBlocks.{parts_found, parts_readable, parts_read, parts_text}
 use Rattle.block.proofs.seen.Seen.read_with.Goals as goal
 
 pub returns-in_err-transactions-in-Ok-clause-memory : goal.returns-in_err-transactions-in-Ok-clause-memory

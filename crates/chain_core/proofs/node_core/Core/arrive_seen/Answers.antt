@@ -8,6 +8,7 @@ use Rattle.blockstore.specs.Stored.{blocks_of}
 use Rattle.chainsel.specs.Ready.{IsReady}
 use Rattle.chain_core.specs.Steps.{IsReached}
 use Rattle.model.specs.History.{State, Arrive, Kept}
+use Rattle.model.proofs.Results.{on_err}
 use Rattle.followers.specs.Places.{moved_places}
 use Rattle.chain_core.specs.ChainDbs.{IsWhole, HasState}
 use Rattle.chain_core.specs.Views.{refusal_of}
@@ -16,7 +17,6 @@ use Rattle.chain_core.proofs.Arrivals.{at_rest, rests, may_be_added, IsJudgedAt,
 use Rattle.chain_core.specs.Inside.{held}
 use Rattle.chain_core.proofs.Adding.{whole_same}
 use Rattle.chain_core.proofs.Reached.{opened_is, reached_on, reached_still, steps_on}
-use Rattle.chain_core.proofs.Results.{on_err}
 use Rattle.chain_core.proofs.node_core.Core.arrive_seen.Given as given
 use Rattle.chain_core.proofs.node_core.Core.arrive_seen.Goals as goal
 use Rattle.chain_core.proofs.node_core.Core.arrive_seen.Goals.{In_default}

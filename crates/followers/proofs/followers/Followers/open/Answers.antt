@@ -3,11 +3,12 @@ use Rattle.std.proofs.lemmas.List.{length-set, length-append}
 use Rattle.std.specs.BinaryHeap.{heap_items, heap_capacity}
 use Rattle.model.specs.Limits.{follower_limit}
 use Rattle.model.specs.Follower.{free_id, with_first_free}
+use Rattle.model.proofs.Results.{if_err}
 use Rattle.std.proofs.lemmas.List.Sorted.{length_permutation}
 use Rattle.followers.specs.Places.{Places, standing}
 use Rattle.followers.specs.Inside.{free_at, frees, times, IsLeastFirst}
 use Rattle.followers.proofs.Numbers.{first_free_set, first_free_pushed}
-use Rattle.followers.proofs.Frees.{free_within, top_is_free, top_is_least, kept_popped, fewer_free, none_free, pushed_free, pushed_frees, if_err}
+use Rattle.followers.proofs.Frees.{free_within, top_is_free, top_is_least, kept_popped, fewer_free, none_free, pushed_free, pushed_frees}
 use Rattle.followers.specs.declared.fault.OpenFollowerFault.TheVariants as fault
 use Rattle.followers.specs.Calls.{IsOpenFault}
 use Rattle.followers.proofs.followers.Followers.open.Goals as goal

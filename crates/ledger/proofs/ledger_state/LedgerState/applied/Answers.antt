@@ -6,9 +6,10 @@ use Rattle.model.specs.Utxo.{utxo_after}
 use Rattle.utxo_rules.specs.Diffs.{diff_of}
 use Rattle.utxo_rules.specs.View.{params_of}
 use Rattle.model.proofs.Reasons.{listed, each_holds}
+use Rattle.model.proofs.Results.{if_err}
 use Rattle.utxo_rules.specs.Check.{IsCheckFault}
 use Rattle.utxo_rules.specs.declared.check_fault.CheckFault.TheVariants.{OutOfMemory}
-use Rattle.utxo_rules.proofs.ForCallers.{if_err, undone_same}
+use Rattle.utxo_rules.proofs.ForCallers.{undone_same}
 use Rattle.ledger.proofs.ledger_state.LedgerState.applied.Goals as goal
 
 pub returns-in_err-utxo-clause-refused : goal.returns-in_err-utxo-clause-refused

@@ -4,6 +4,7 @@ use Rattle.model.specs.Genesis.{Genesis}
 use Rattle.model.specs.Ledger.{network_on}
 use Rattle.model.specs.Applying.{IsStateOf}
 use Rattle.model.proofs.StatesAlong.{states_length}
+use Rattle.model.proofs.Results.{if_err}
 use Rattle.ledgerdb.specs.Values.{state_back}
 use Rattle.ledgerdb.specs.Chains.{without_last, IsDatabaseOf}
 use Rattle.ledgerdb.specs.Faults.{IsFaultOnChain}
@@ -11,7 +12,7 @@ use Rattle.ledgerdb.specs.Inside.{states_along}
 use Rattle.ledgerdb.specs.declared.fork_fault.ForkFault.{ForkFault}
 use Rattle.ledgerdb.proofs.Beside.{of_applied}
 use Rattle.ledgerdb.proofs.Databases.{back_state}
-use Rattle.ledgerdb.proofs.Forks.{fault_on_chain, passed_on}
+use Rattle.ledgerdb.proofs.Forks.{fault_on_chain}
 use Rattle.ledgerdb.proofs.ledger_db.LedgerDb.fork.Goals as goal
 
 pub returns-in-Err-clause-chain_refused : goal.returns-in-Err-clause-chain_refused
@@ -27,7 +28,7 @@ returns-in_err-state-clause-chain_refused g c =
     let back = c.args.back in
     let now = c.args.self.now in
     let fault = c.in_err-state.field-0.0 in
-    passed_on c.from_residual.result fault
+    if_err c.from_residual.result fault
     (λ (e : ForkFault). (genesis : Genesis) (opened chain : List Block) → IsDatabaseOf (network_on genesis verifies opened) chain now → IsFaultOnChain (network_on genesis verifies opened) (without_last back chain) c.args.blocks.now e)
     c.from_residual.ensures.1
     (λ genesis opened chain is.

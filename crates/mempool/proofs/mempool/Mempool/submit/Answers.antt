@@ -2,11 +2,12 @@ use Rattle.std.proofs.Common.{ℕ, sym, subst}
 use Rattle.std.proofs.lemmas.Result.{IfOk-weaker}
 use Rattle.model.specs.Transaction.{Transaction, SpellsTransaction}
 use Rattle.model.specs.Rules.{Params}
+use Rattle.model.proofs.Results.{on_err}
 use Rattle.tx.specs.Bare.{IsBare}
 use Rattle.utxo_rules.specs.View.{params_of}
 use Rattle.mempool.specs.Calls.{IsSubmission, IsSubmissionOf, IsNew}
 use Rattle.mempool.specs.View.{reply_of}
-use Rattle.mempool.proofs.Submissions.{new_spends, on_err}
+use Rattle.mempool.proofs.Submissions.{new_spends}
 use Rattle.mempool.proofs.mempool.Mempool.submit.Goals as goal
 
 pub returns-in-Some-clause-ok : goal.returns-in-Some-clause-ok
@@ -24,8 +25,8 @@ returns-clause-ok g c =
 
 pub returns-in_err-plain-clause-memory : goal.returns-in_err-plain-clause-memory
 returns-in_err-plain-clause-memory g c =
-    on_err ((t : Transaction) → SpellsTransaction t c.args.bytes.now → IsBare t → ⊥) (new_spends g.S.SigScheme.verifies (params_of c.args.params.now) c.args.slot c.args.self.now c.in-Ok.tx c.in_default.ensures c.args.bytes.now c.in-Ok.ensures.found) c.from_residual.result
+    on_err c.from_residual.result ((t : Transaction) → SpellsTransaction t c.args.bytes.now → IsBare t → ⊥) (new_spends g.S.SigScheme.verifies (params_of c.args.params.now) c.args.slot c.args.self.now c.in-Ok.tx c.in_default.ensures c.args.bytes.now c.in-Ok.ensures.found)
 
 pub returns-clause-memory : goal.returns-clause-memory
 returns-clause-memory g c =
-    on_err ((t : Transaction) → SpellsTransaction t c.args.bytes.now → IsBare t → ⊥) (new_spends g.S.SigScheme.verifies (params_of c.args.params.now) c.args.slot c.args.self.now c.in-Ok.tx c.in_default.ensures c.args.bytes.now c.in-Ok.ensures.found) c.late_answer.result
+    on_err c.late_answer.result ((t : Transaction) → SpellsTransaction t c.args.bytes.now → IsBare t → ⊥) (new_spends g.S.SigScheme.verifies (params_of c.args.params.now) c.args.slot c.args.self.now c.in-Ok.tx c.in_default.ensures c.args.bytes.now c.in-Ok.ensures.found)

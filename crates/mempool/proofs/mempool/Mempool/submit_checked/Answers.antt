@@ -2,10 +2,11 @@ use Rattle.std.proofs.Common.{ℕ, List, subst}
 use Rattle.std.proofs.lemmas.Result.{IfOk-weaker}
 use Rattle.model.specs.Transaction.{Transaction, SpellsTransaction}
 use Rattle.model.specs.Rules.{Params}
+use Rattle.model.proofs.Results.{on_err}
 use Rattle.utxo_rules.specs.View.{params_of}
 use Rattle.mempool.specs.Calls.{IsSubmissionOf, IsNew, IsWantFor}
 use Rattle.mempool.specs.View.{reply_of}
-use Rattle.mempool.proofs.Submissions.{new_wants, on_err}
+use Rattle.mempool.proofs.Submissions.{new_wants}
 use Rattle.mempool.proofs.mempool.Mempool.submit_checked.Goals as goal
 
 pub returns-in-Some-clause-ok : goal.returns-in-Some-clause-ok
@@ -25,4 +26,4 @@ returns-clause-memory g c =
     let v = g.S.SigScheme.verifies in
     let params = params_of c.args.params.now in
     let new = subst (IsNew v params c.args.slot c.args.self.now) c.tx-2.ensures c.in_default.ensures in
-    on_err ((bytes : List ℕ) → SpellsTransaction c.args.tx bytes → IsWantFor v params c.args.slot c.args.self.now bytes) (new_wants v params c.args.slot c.args.self.now c.args.tx new) c.late_answer.result
+    on_err c.late_answer.result ((bytes : List ℕ) → SpellsTransaction c.args.tx bytes → IsWantFor v params c.args.slot c.args.self.now bytes) (new_wants v params c.args.slot c.args.self.now c.args.tx new)

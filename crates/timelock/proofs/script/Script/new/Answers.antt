@@ -2,9 +2,10 @@ use Rattle.std.proofs.Common.{ℕ, List, ◌++◌, ap, refl, ◌∙◌}
 use Rattle.timelock.specs.declared.fault.ScriptFault.TheVariants.{OutOfMemory}
 use Rattle.model.specs.Cbor.{text_of}
 use Rattle.model.specs.Script.{item_of_script}
+use Rattle.model.proofs.Results.{if_err}
 use Rattle.timelock.specs.View.{timelock_of}
 use Rattle.timelock.specs.Made.{IsRefused}
-use Rattle.timelock.proofs.ScriptClauses.{deep_text, fits_text, made_is_kept, if_err}
+use Rattle.timelock.proofs.ScriptClauses.{deep_text, fits_text, made_is_kept}
 use Rattle.timelock.proofs.script.Script.new.Goals as goal
 
 pub returns-then-not-fits-clause-err : goal.returns-then-not-fits-clause-err
