@@ -16,6 +16,7 @@ use Rattle.std.specs.Cmp.{tied_itself}
 use Rattle.std.proofs.lemmas.Cmp.{nat_list_cmp_total}
 use Rattle.std.proofs.lemmas.Map.Lookups.{exact_bytes, exact_unsigned}
 use Rattle.std.proofs.lemmas.Map.Views.{Contains-from_any}
+use Rattle.std.proofs.lemmas.Option.{same_Some}
 use Rattle.model.specs.Block.{Block, block_hash_of}
 use Rattle.blockstore.specs.Stored.{Stored}
 use Rattle.blockstore.specs.Keys.{hash_cmp, link_cmp, age_cmp, IsLinkOf, IsAgeOf, AreKeysOf}
@@ -85,9 +86,6 @@ is_hash hash q = one (is_eq (hash_cmp hash q)) refl
     one true is = inl (sym (exact_bytes hash q (eq_from (hash_cmp hash q) is)))
     one false is = inr (λ same. let e : true ≡ false = sym (ap is_eq (tied_itself nat_list_cmp_total hash)) ∙ (ap (λ (b : List ℕ). is_eq (hash_cmp hash b)) (sym same) ∙ is) in cc)
 
-pub one_some : {X : Type 0} (x y : X) → Some x ≡ Some y → x ≡ y
-one_some x y same = cc
-
 pub none_some : {X : Type 0} (x : X) → None ≡ Some x → ⊥
 none_some x same = cc
 
@@ -138,7 +136,7 @@ module _ {K : Type 0} (R : K → K → Ordering) (exact : (a b : K) → R a b �
 
         kept : (q : List ℕ) (y : Stored) → get hash_cmp p q ≡ Some y → (j : K) × (contains R n j ≡ true) × IsKey y.block j
         kept q y there = elim (is_hash hash q) [
-          | inl same ↦ (k, came.1, subst (λ (z : Stored). IsKey z.block k) (one_some x y (sym put.1 ∙ (ap (get hash_cmp p) (sym same) ∙ there))) is)
+          | inl same ↦ (k, came.1, subst (λ (z : Stored). IsKey z.block k) (same_Some x y (sym put.1 ∙ (ap (get hash_cmp p) (sym same) ∙ there))) is)
           | inr other ↦
               let was = keys.kept q y (sym (at_others m p hash (Some x) put q other) ∙ there) in
               (was.0, came.0 was.0 ∙ stays was.0 (is_eq (R k was.0)) was.1, was.2)
@@ -180,7 +178,7 @@ module _ {K : Type 0} (R : K → K → Ordering) (exact : (a b : K) → R a b �
           | inr apart ↦
               let was = keys.named j (sym (went.2 j apart) ∙ has) in
               let other : was.0 ≢ hash =
-              λ same. let y : x ≡ was.1 = one_some x was.1 (sym there ∙ (ap (get hash_cmp m) (sym same) ∙ was.2)) in
+              λ same. let y : x ≡ was.1 = same_Some x was.1 (sym there ∙ (ap (get hash_cmp m) (sym same) ∙ was.2)) in
               let key : j ≡ k = one x.block j k (subst (λ (z : Stored). IsKey z.block j) (sym y) was.3) is in
               let e : false ≡ true = sym went.1 ∙ (ap (contains R n) (sym key) ∙ has) in cc in
               (was.0, was.1, at_others m p hash None took was.0 other ∙ was.2, was.3)
@@ -217,7 +215,7 @@ module _ {K : Type 0} (R : K → K → Ordering) (exact : (a b : K) → R a b �
       kept = λ q z here. elim (is_hash hash q) [
         | inl at ↦
             let was = keys.kept hash x there in
-            let is : y ≡ z = one_some y z (sym wrote.1 ∙ (ap (get hash_cmp p) (sym at) ∙ here)) in
+            let is : y ≡ z = same_Some y z (sym wrote.1 ∙ (ap (get hash_cmp p) (sym at) ∙ here)) in
             (was.0, was.1, subst (λ (b : Block). IsKey b was.0) (sym same ∙ ap (λ (v : Stored). v.block) is) was.2)
         | inr other ↦ keys.kept q z (sym (at_others m p hash (Some y) wrote q other) ∙ here)
       ];
@@ -225,7 +223,7 @@ module _ {K : Type 0} (R : K → K → Ordering) (exact : (a b : K) → R a b �
           let was = keys.named j has in
           elim (is_hash hash was.0) [
             | inl at ↦
-                let is : x ≡ was.1 = one_some x was.1 (sym there ∙ (ap (get hash_cmp m) (sym at) ∙ was.2)) in
+                let is : x ≡ was.1 = same_Some x was.1 (sym there ∙ (ap (get hash_cmp m) (sym at) ∙ was.2)) in
                 (hash, y, wrote.1, subst (λ (b : Block). IsKey b j) (sym (same ∙ ap (λ (v : Stored). v.block) is)) was.3)
             | inr other ↦ (was.0, was.1, at_others m p hash (Some y) wrote was.0 other ∙ was.2, was.3)
           ];

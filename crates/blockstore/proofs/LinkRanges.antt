@@ -17,6 +17,7 @@ use Rattle.std.specs.BTreeSet as sorted
 use Rattle.std.proofs.lemmas.Bool.{cases_lt}
 use Rattle.std.proofs.lemmas.List.{take_more, get_or_default}
 use Rattle.std.proofs.lemmas.List.Elements.{Contains-push_cases}
+use Rattle.std.proofs.lemmas.Option.{same_Some}
 use Rattle.blockstore.proofs.Lists.{map_push}
 use Rattle.std.proofs.lemmas.Map.Keys.{IsDistinct-from_sorted}
 use Rattle.std.proofs.lemmas.List.Kept.{IsStrictlySortedBy-filter}
@@ -27,7 +28,7 @@ use Rattle.blockstore.specs.Stored.{Stored}
 use Rattle.blockstore.specs.Keys.{hash_cmp, link_cmp, IsLinkOf, AreKeysOf}
 use Rattle.blockstore.specs.Shelves.{AreAfter, AreLinksAfter}
 use Rattle.blockstore.specs.declared.keys.Link.{Link}
-use Rattle.blockstore.proofs.KeySets.{exact_link, tied_link, exact_hashes, tied_hashes, has_member, one_some, none_some}
+use Rattle.blockstore.proofs.KeySets.{exact_link, tied_link, exact_hashes, tied_hashes, has_member, none_some}
 use Rattle.blockstore.proofs.Shelves.{IsKeyed, value_at, holds_at, distinct_by_keys}
 
 -- ---- the least and the greatest hash
@@ -142,7 +143,7 @@ are_after m previous links found ordered keyed are same within = record {
     mapped (x ∷ xs) = ap (λ (hs : List (List ℕ)). block_hash_of x.block ∷ hs) (mapped xs)
 
     one : (x y : Stored) → Contains (values m) x → Contains (values m) y → block_hash_of x.block ≡ block_hash_of y.block → x ≡ y
-    one x y here there is = one_some x y (sym (holds_at m ordered keyed x here) ∙ (ap (get hash_cmp m) is ∙ holds_at m ordered keyed y there))
+    one x y here there is = same_Some x y (sym (holds_at m ordered keyed x here) ∙ (ap (get hash_cmp m) is ∙ holds_at m ordered keyed y there))
 
     out : (x : Stored) → Contains found x → Contains (values m) x × (x.block.header.previous ≡ previous)
     out x member =

@@ -18,6 +18,7 @@ use Rattle.std.proofs.lemmas.List.Elements.{Contains-append_left, Contains-push,
 use Rattle.std.proofs.lemmas.Map.Keys.{IsDistinct-from_sorted, IsDistinct-head, IsDistinct-tail}
 use Rattle.std.proofs.lemmas.Map.Lookups.{exact_bytes}
 use Rattle.std.proofs.lemmas.Map.Views.{Contains-from_lookup, lookup-from_Contains}
+use Rattle.std.proofs.lemmas.Option.{same_Some}
 use Rattle.model.specs.Block.{Block, block_hash_of}
 use Rattle.model.specs.Chain.{HaveDistinctHashes}
 use Rattle.model.proofs.Lists.{all_from_members, contains_first, contains_later}
@@ -27,7 +28,7 @@ use Rattle.blockstore.specs.Tests.{has_hash, marked_at}
 use Rattle.blockstore.specs.Keys.{hash_cmp, age_cmp, IsAgeOf, AreKeysOf}
 use Rattle.blockstore.specs.declared.keys.Age.{Age}
 use Rattle.blockstore.specs.Shelves.{IsSame, HasNone, IsThere}
-use Rattle.blockstore.proofs.KeySets.{eq_from, is_hash, at_others, one_some, none_some, exact_age, has_member}
+use Rattle.blockstore.proofs.KeySets.{eq_from, is_hash, at_others, none_some, exact_age, has_member}
 
 -- each block of the map stands at its hash
 abbrev pub IsKeyed : BTreeMap (List ℕ) Stored → Type 0
@@ -52,7 +53,7 @@ holds_at m ordered keyed x member =
 module _ (m p : BTreeMap (List ℕ) Stored) (hash : List ℕ) (x : Stored) (at : block_hash_of x.block ≡ hash) (put : tree.UpdatesBy hash_cmp (hash_cmp hash) m p (Some x)) (keyed : IsKeyed m) where
   pub keyed_put : IsKeyed p
   keyed_put q y there = elim (is_hash hash q) [
-    | inl same ↦ ap (λ (z : Stored). block_hash_of z.block) (one_some y x (sym there ∙ (ap (get hash_cmp p) same ∙ put.1))) ∙ (at ∙ sym same)
+    | inl same ↦ ap (λ (z : Stored). block_hash_of z.block) (same_Some y x (sym there ∙ (ap (get hash_cmp p) same ∙ put.1))) ∙ (at ∙ sym same)
     | inr other ↦ keyed q y (sym (at_others m p hash (Some x) put q other) ∙ there)
   ]
 
@@ -67,7 +68,7 @@ module _ (m p : BTreeMap (List ℕ) Stored) (hash : List ℕ) (x : Stored) (at :
       out y member =
           let there = holds_at p ordered_too keyed_put y member in
           elim (is_hash hash (block_hash_of y.block)) [
-            | inl same ↦ subst (Contains (values m ++ x ∷ [])) (one_some x y (sym put.1 ∙ (ap (get hash_cmp p) (sym same) ∙ there))) (Contains-push (values m) x)
+            | inl same ↦ subst (Contains (values m ++ x ∷ [])) (same_Some x y (sym put.1 ∙ (ap (get hash_cmp p) (sym same) ∙ there))) (Contains-push (values m) x)
             | inr other ↦ Contains-append_left (values m) (x ∷ []) y (value_at m (block_hash_of y.block) y (sym (at_others m p hash (Some x) put (block_hash_of y.block) other) ∙ there))
           ]
 
@@ -125,7 +126,7 @@ module _ (m p : BTreeMap (List ℕ) Stored) (hash : List ℕ) (x : Stored) (ther
           let here = holds_at p ordered_too keyed_marked y member in
           elim (is_hash hash (block_hash_of y.block)) [
             | inl same ↦
-                let is : marked x ≡ y = one_some (marked x) y (sym wrote.1 ∙ (ap (get hash_cmp p) (sym same) ∙ here)) in
+                let is : marked x ≡ y = same_Some (marked x) y (sym wrote.1 ∙ (ap (get hash_cmp p) (sym same) ∙ here)) in
                 subst (Contains (map (marked_at hash) (values m))) (marked_there hash x (keyed hash x there) ∙ is)
                 (contains_map (marked_at hash) (values m) x (value_at m hash x there))
             | inr other ↦
@@ -138,7 +139,7 @@ module _ (m p : BTreeMap (List ℕ) Stored) (hash : List ℕ) (x : Stored) (ther
           let here = holds_at m ordered keyed z was in
           elim (is_hash hash (block_hash_of z.block)) [
             | inl same ↦
-                let one : x ≡ z = one_some x z (sym there ∙ (ap (get hash_cmp m) (sym same) ∙ here)) in
+                let one : x ≡ z = same_Some x z (sym there ∙ (ap (get hash_cmp m) (sym same) ∙ here)) in
                 value_at p hash y (wrote.1 ∙ ap Some (ap marked one ∙ (sym (marked_there hash z same) ∙ is)))
             | inr other ↦
                 value_at p (block_hash_of z.block) y (at_others m p hash (Some (marked x)) wrote (block_hash_of z.block) other ∙ (here ∙ ap Some (sym (unmarked_at hash z other) ∙ is)))

@@ -1,6 +1,7 @@
 -- What the tests of a scan decide.
 use Rattle.std.proofs.Common.{◌≡◌, ◌≢◌, ℕ, Bool, true, false, cond, List, Option, Some, None, refl, sym, ap, ◌∙◌}
 use Rattle.std.proofs.lemmas.Slice.Eq.{bytes_eq-Decides}
+use Rattle.std.proofs.lemmas.Option.{same_Some}
 use Rattle.model.specs.Block.{block_hash_of}
 use Rattle.blockstore.specs.Stored.{Stored, marked}
 use Rattle.blockstore.specs.Tests.{has_hash, same_previous, marked_at}
@@ -16,9 +17,6 @@ hash_is_not hash s fails same = let e : false ≡ true = sym fails ∙ (bytes_eq
 
 -- ---- the block before
 
-some_is : (hash other : List ℕ) → Some hash ≡ Some other → hash ≡ other
-some_is hash other same = cc
-
 pub previous_is : (previous other : Option (List ℕ)) → same_previous previous other ≡ true → previous ≡ other
 previous_is None None same = refl
 previous_is (Some hash) (Some other) same = ap Some ((bytes_eq-Decides hash other).0 same)
@@ -27,7 +25,7 @@ previous_is (Some hash) None same = absurd (let e : false ≡ true = same in cc)
 
 pub previous_passes : (previous other : Option (List ℕ)) → previous ≡ other → same_previous previous other ≡ true
 previous_passes None None same = refl
-previous_passes (Some hash) (Some other) same = (bytes_eq-Decides hash other).1 (some_is hash other same)
+previous_passes (Some hash) (Some other) same = (bytes_eq-Decides hash other).1 (same_Some hash other same)
 previous_passes None (Some other) same = absurd cc
 previous_passes (Some hash) None same = absurd cc
 

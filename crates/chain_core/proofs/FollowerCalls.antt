@@ -3,6 +3,7 @@ use Rattle.std.proofs.Common.{◌≡◌, ℕ, zero, suc, ◌<◌, ◌≤◌, Boo
 use Rattle.std.specs.Prelude.{IfOk, IfErr, OnErr, OnOk, IsErrAnd, IsTrue, ◌↔◌, slice_set, slice_get, option_map, nat_lt, if◌then◌else◌}
 use Rattle.std.proofs.lemmas.Bool.{cases_lt, ltb-true, ltb-false}
 use Rattle.std.proofs.lemmas.List.{take_all, length-take-le}
+use Rattle.std.proofs.lemmas.Option.{same_Some}
 use Rattle.model.specs.Signature.{Verifies}
 use Rattle.model.specs.Genesis.{Genesis}
 use Rattle.model.specs.Block.{Block}
@@ -31,9 +32,6 @@ use Rattle.chain_core.specs.declared.follower.NextFault.TheVariants as next
 use Rattle.chain_core.specs.Views.{open_reply_of, next_reply_of, forward_reply_of, close_reply_of, instruction_of}
 use Rattle.chain_core.specs.FollowerCalls.{IsWantAtOpening, IsWantAtNext, Peeks}
 use Rattle.chain_core.specs.Held.{Held, Stands, held_of, network_held}
-
-some_same : {X : Type 0} (x y : X) → Some x ≡ Some y → x ≡ y
-some_same x y e = cc
 
 there_is : {X : Type 0} (xs : List X) (i : ℕ) → i < length xs → (x : X) × (slice_get xs i ≡ Some x)
 there_is [] i below = absurd (omega arith)
@@ -115,7 +113,7 @@ module _ (verifies : Verifies) (genesis : Genesis) (opened_on live chain : List 
   pub instructed_by : {S : Type 0} (old new : Places) (id : ℕ) (now : Held) (height : ℕ) (shown : List Block) (step told : Option code.Step) (instruction : Option (Instruction S)) → held_of genesis opened_on live chain txs old ≡ now → height ≡ length now.chain → shown ≡ chain
       → (place : Place) × (follower_of old id ≡ Some place) × (step ≡ step_of height place) → IsStepOf shown step (instruction_of instruction) → IsStepped old id height told new → NextSteps new id now (Ok instruction)
   instructed_by old new id now height shown step told instruction view high same due is stepped =
-      let one : due.0 ≡ stepped.place = some_same due.0 stepped.place (sym due.1 ∙ stepped.is_open) in
+      let one : due.0 ≡ stepped.place = same_Some due.0 stepped.place (sym due.1 ∙ stepped.is_open) in
       instructed old new id now height stepped.place instruction view (high ∙ sym (ap (λ (h : Held). length h.chain) view)) stepped.is_open
       (subst (λ (x : Option code.Step). IsStepOf chain x (instruction_of instruction)) (due.2 ∙ ap (step_of height) one) (subst (λ (c : List Block). IsStepOf c step (instruction_of instruction)) same is)) stepped.after
 

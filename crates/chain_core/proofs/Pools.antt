@@ -1,6 +1,7 @@
 -- The mempool beside a chain: brought up to date with another one, and after a submission.
 use Rattle.std.proofs.Common.{◌≡◌, ℕ, ◌+◌, List, Option, Some, [], sym, ap, subst, ◌∙◌, arith}
 use Rattle.std.specs.Option.{option_map, option_map_or}
+use Rattle.std.proofs.lemmas.Option.{same_Some}
 use Rattle.model.specs.Block.{Block}
 use Rattle.model.specs.Transaction.{Transaction}
 use Rattle.model.specs.Utxo.{Utxo}
@@ -30,9 +31,6 @@ module _ (network : Network) (chain : List Block) (state : LedgerState) (is : Is
       ∙ (ap (λ (n : ℕ). passed network.verifies network.genesis.params n state.ledger.utxo txs) slot_is
       ∙ ap (λ (o : Option Utxo). option_map_or (λ (utxo : Utxo). passed network.verifies network.genesis.params (next_slot chain) utxo txs) o []) (sym outputs_are))
 
-  one_utxo : (a b : Utxo) → utxo_of network chain ≡ Some a → Some a ≡ Some b → a ≡ b
-  one_utxo a b of_chain e = cc
-
   pub brought : (params : Params) (slot : ℕ) (unspent : Utxo) (txs : List Transaction) (waiting : Waiting) → params ≡ state.params → slot ≡ state.tip.slot → unspent ≡ state.ledger.utxo
       → waiting ≡ passed_on network.verifies params (slot + 1) unspent txs → IsBroughtTo network chain txs waiting
   brought params slot unspent txs waiting params_is slot_of unspent_is waits =
@@ -41,7 +39,7 @@ module _ (network : Network) (chain : List Block) (state : LedgerState) (is : Is
       record {
         stay = ap (λ (w : Waiting). w.txs) here ∙ passes txs;
         unspent = λ utxo of_chain.
-            let same : state.ledger.utxo ≡ utxo = one_utxo state.ledger.utxo utxo outputs_are (sym outputs_are ∙ of_chain) in
+            let same : state.ledger.utxo ≡ utxo = same_Some state.ledger.utxo utxo (sym outputs_are ∙ of_chain) in
             ap (λ (w : Waiting). w.unspent) here ∙ (ap (λ (w : Waiting). utxo_after_all state.ledger.utxo w.txs) (sym here) ∙ ap (λ (u : Utxo). utxo_after_all u waiting.txs) same);
       }
 
@@ -70,7 +68,7 @@ module _ (network : Network) (chain : List Block) (state : LedgerState) (is : Is
   pub wants : (pool : Pool) → IsPoolOf network chain pool → (params : Params) (slot : ℕ) → params ≡ state.params → slot ≡ state.tip.slot → (bytes : List ℕ)
       → IsWantFor network.verifies params (slot + 1) pool bytes → IsWantOf network chain pool.waiting.txs bytes
   wants pool of params slot params_is slot_of bytes want reply early after s =
-      let same : state.ledger.utxo ≡ s.utxo = one_utxo state.ledger.utxo s.utxo outputs_are (sym outputs_are ∙ s.of_chain) in
+      let same : state.ledger.utxo ≡ s.utxo = same_Some state.ledger.utxo s.utxo (sym outputs_are ∙ s.of_chain) in
       let unspent : utxo_after_all s.utxo pool.waiting.txs ≡ pool.waiting.unspent = sym (of.unspent state.ledger.utxo outputs_are ∙ ap (λ (u : Utxo). utxo_after_all u pool.waiting.txs) same) in
       want reply early
       (subst (λ (p : Params). Answers network.verifies p (slot + 1) pool.waiting.unspent pool.capacity pool.waiting.txs bytes reply) (sym (params_is ∙ is.params))
@@ -97,5 +95,5 @@ pub pool_at_start : (network : Network) (chain : List Block) (state : LedgerStat
 pool_at_start network chain state is pool capacity unspent capacity_is unspent_is pool_is = subst (IsPoolOf network chain) (sym pool_is) (record {
   capacity = capacity_is;
   valid = nothing_valid network chain;
-  unspent = λ utxo of_chain. unspent_is ∙ one_utxo network chain state is state.ledger.utxo utxo (outputs_are network chain state is) (sym (outputs_are network chain state is) ∙ of_chain);
+  unspent = λ utxo of_chain. unspent_is ∙ same_Some state.ledger.utxo utxo (sym (outputs_are network chain state is) ∙ of_chain);
 })

@@ -1,15 +1,13 @@
 -- The last block of a chain is where it ends.
 use Rattle.std.proofs.Common.{◌≡◌, suc, ◌-◌, List, [], ◌∷◌, length, Some, None, refl, ap, ◌∙◌, arith}
 use Rattle.std.specs.Prelude.{slice_get, unwrap_or, replicate}
+use Rattle.std.proofs.lemmas.Option.{same_Some}
 use Rattle.model.specs.Block.{Block, block_hash_of}
 use Rattle.model.specs.Chain.{Tip, tip_at, tip_after, genesis_tip, tip_point}
 
-some_same : {X : Type 0} (x y : X) → Some x ≡ Some y → x ≡ y
-some_same x y e = cc
-
 pub tip_of_last : (tip : Tip) (bs : List Block) (b : Block) → slice_get bs (length bs - 1) ≡ Some b → tip_after tip bs ≡ tip_at b
 tip_of_last tip [] b last = absurd (let e : None ≡ Some b = last in cc)
-tip_of_last tip (x ∷ []) b last = ap tip_at (some_same x b last)
+tip_of_last tip (x ∷ []) b last = ap tip_at (same_Some x b last)
 tip_of_last tip (x ∷ y ∷ ys) b last =
     let step : suc (length (y ∷ ys) - 1) ≡ length (x ∷ y ∷ ys) - 1 = omega arith in
     tip_of_last (tip_at x) (y ∷ ys) b (ap (slice_get (x ∷ y ∷ ys)) step ∙ last)

@@ -1,11 +1,11 @@
 -- Linked blocks in their places: where a hash and a number have one block, one list leads to a block.
 use Rattle.std.proofs.Common.{◌≡◌, ℕ, ◌+◌, ◌<◌, List, [], ◌∷◌, ◌++◌, length, Contains, refl, sym, ap, ◌∙◌, arith, inl, inr}
 use Rattle.std.specs.List.{AllByRecursion}
+use Rattle.std.proofs.lemmas.Option.{same_Some}
 use Rattle.model.specs.Block.{Block, block_hash_of}
 use Rattle.model.specs.Chain.{Tip, tip_at, tip_after, IsLinked, HaveDistinctHashes}
 use Rattle.model.proofs.Lists.{all_of_member, contains_cases}
 use Rattle.model.proofs.Chains.{tip_after-append, tip_number, numbers_past, one_with_hash}
-use Rattle.model.proofs.LedgerSteps.{Some_same}
 use Rattle.chainsel.specs.Dead.{HaveOnePlace}
 
 pub distinct_placed : (bs : List Block) → HaveDistinctHashes bs → HaveOnePlace bs
@@ -21,7 +21,7 @@ same_placed bs place s t at (x ∷ xs) [] linked others in_xs in_ys long same = 
 same_placed bs place s t at (x ∷ xs) (y ∷ ys) linked others in_xs in_ys long same =
     let number : x.header.number ≡ y.header.number = linked.0.number ∙ (ap (λ (n : ℕ). n + 1) at ∙ sym others.0.number) in
     let rest = same_placed bs place (tip_at x) (tip_at y) number xs ys linked.1 others.1 in_xs.1 in_ys.1 (omega arith) same in
-    let first : x ≡ y = place x y in_xs.0 in_ys.0 (Some_same (block_hash_of x) (block_hash_of y) rest.1) number in
+    let first : x ≡ y = place x y in_xs.0 in_ys.0 (same_Some (block_hash_of x) (block_hash_of y) rest.1) number in
     ((λ i. first i ∷ rest.0 i), sym linked.0.previous ∙ (ap (λ (b : Block). b.header.previous) first ∙ others.0.previous))
 
 -- a list that ends in a block ends there

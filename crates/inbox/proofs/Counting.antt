@@ -3,7 +3,7 @@ use Rattle.std.proofs.Common.{◌≡◌, ◌≢◌, ◌⊎◌, ℕ, zero, suc, �
 use Rattle.std.specs.Prelude.{slice_get, slice_index, slice_set}
 use Rattle.std.specs.List.{AllByRecursion}
 use Rattle.std.proofs.lemmas.List.{get_or-set_same, get_or-set_other}
-use Rattle.std.proofs.lemmas.Option.{get_or_from_slice_get}
+use Rattle.std.proofs.lemmas.Option.{get_or_from_slice_get, same_Some}
 use Rattle.inbox.specs.Arrivals.{Arrival, SentBy}
 use Rattle.inbox.specs.Telling.{IsCountedOf}
 
@@ -13,12 +13,9 @@ module _ {A : Type 0} where
   below (y ∷ ys) zero x at = omega arith
   below (y ∷ ys) (suc i) x at = let h = below ys i x at in omega arith
 
-  some_same : (x y : A) → Some x ≡ Some y → x ≡ y
-  some_same x y e = cc
-
   pub all_at : (P : A → Type 0) (xs : List A) (i : ℕ) (x : A) → AllByRecursion P xs → slice_get xs i ≡ Some x → P x
   all_at P [] i x all at = absurd (let e : None ≡ Some x = at in cc)
-  all_at P (y ∷ ys) zero x all at = subst P (some_same y x at) all.0
+  all_at P (y ∷ ys) zero x all at = subst P (same_Some y x at) all.0
   all_at P (y ∷ ys) (suc i) x all at = all_at P ys i x all.1 at
 
 before_or_last : (n i : ℕ) → n < i + 1 → (n < i) ⊎ (n ≡ i)

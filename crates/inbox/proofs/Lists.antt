@@ -4,6 +4,7 @@ use Rattle.std.specs.Prelude.{slice_get, filter, Option, IfNone}
 use Rattle.std.specs.List.{AllByRecursion}
 use Rattle.std.proofs.lemmas.List.{map-append}
 use Rattle.std.proofs.lemmas.List.Elements.{filter-append}
+use Rattle.std.proofs.lemmas.Option.{same_Some}
 use Rattle.inbox.specs.Arrivals.{Arrival, SentBy, Intake, with_told, came_of, BeginsWith, IsToldOf}
 use Rattle.inbox.specs.Telling.{BeginsWhatWasSent, IsAllThatWasSent}
 
@@ -82,11 +83,8 @@ end_below [] end by at = absurd (let e : None ≡ Some by = at in cc)
 end_below (x ∷ xs) zero by at = omega arith
 end_below (x ∷ xs) (suc c) by at = let h = end_below xs c by at in omega arith
 
-some_same : (x y : ℕ) → Some x ≡ Some y → x ≡ y
-some_same x y e = cc
-
 pub one_end : (ends : List ℕ) (end a b : ℕ) → slice_get ends end ≡ Some a → slice_get ends end ≡ Some b → a ≡ b
-one_end ends end a b at bt = some_same a b (sym at ∙ bt)
+one_end ends end a b at bt = same_Some a b (sym at ∙ bt)
 
 pub positive : (n : ℕ) → (n ≡ 0 → ⊥) → 0 < n
 positive zero not = absurd (not refl)

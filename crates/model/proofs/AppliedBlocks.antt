@@ -2,6 +2,7 @@
 use Rattle.std.proofs.Common.{◌≡◌, ℕ, ◌≤◌, List, [], ◌∷◌, ◌++◌, Option, Some, None, refl, sym, ap, subst, ◌∙◌, arith}
 use Rattle.std.specs.Prelude.{option_and_then, option_map, ◌==◌, if◌then◌else◌}
 use Rattle.std.specs.List.{AllByRecursion}
+use Rattle.std.proofs.lemmas.Option.{same_Some}
 use Rattle.model.specs.Signature.{Verifies}
 use Rattle.model.specs.Rules.{Reason}
 use Rattle.model.specs.Block.{Block, body_size_of}
@@ -11,7 +12,7 @@ use Rattle.model.specs.Applying.{LedgerState, opening_state, BlockFault, WrongNu
 use Rattle.model.proofs.First.{one_first}
 use Rattle.model.proofs.Lists.{all_append}
 use Rattle.model.proofs.Chains.{tip_after-append, linked_front, linked_rest}
-use Rattle.model.proofs.LedgerSteps.{Some_same, None_not_Some, none_refused, ledger_push}
+use Rattle.model.proofs.LedgerSteps.{None_not_Some, none_refused, ledger_push}
 
 -- ---- one answer
 
@@ -29,7 +30,7 @@ module _ (verifies : Verifies) (s : LedgerState) (b : Block) where
   -- and makes one state
   pub one_after : (t u : LedgerState) → IsApplied verifies s b t → IsApplied verifies s b u → t ≡ u
   one_after t u applied too =
-      let ledger = Some_same t.ledger u.ledger (sym applied.ledger ∙ too.ledger) in
+      let ledger = same_Some t.ledger u.ledger (sym applied.ledger ∙ too.ledger) in
       let params = applied.params ∙ sym too.params in
       let tip = applied.tip ∙ sym too.tip in
       (λ i. record { params = params i; ledger = ledger i; tip = tip i })
@@ -55,7 +56,7 @@ module _ (verifies : Verifies) (s : LedgerState) (b : Block) where
 
   same_number : (fault other : BlockFault) → HasFault verifies s b fault → HasFault verifies s b other → fault_number fault ≡ fault_number other → fault ≡ other
   same_number fault other has too same =
-      Some_same fault other (sym (by_number fault has) ∙ ap (λ n. numbered n told_of_transactions) same ∙ by_number other too)
+      same_Some fault other (sym (by_number fault has) ∙ ap (λ n. numbered n told_of_transactions) same ∙ by_number other too)
 
   -- a block has one first fault
   pub one_first_fault : (fault other : BlockFault) → IsFirstFault verifies s b fault → IsFirstFault verifies s b other → fault ≡ other
@@ -122,7 +123,7 @@ state_pop network chain b t is =
 -- a chain has one state
 pub one_state_of : (network : Network) (chain : List Block) (s t : LedgerState) → IsStateOf network chain s → IsStateOf network chain t → s ≡ t
 one_state_of network chain s t is too =
-    let ledger = Some_same s.ledger t.ledger (sym is.ledger ∙ too.ledger) in
+    let ledger = same_Some s.ledger t.ledger (sym is.ledger ∙ too.ledger) in
     let params = is.params ∙ sym too.params in
     let tip = is.tip ∙ sym too.tip in
     (λ i. record { params = params i; ledger = ledger i; tip = tip i })

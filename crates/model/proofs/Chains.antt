@@ -3,6 +3,7 @@ use Rattle.std.proofs.Common.{◌≡◌, ◌≢◌, ◌+◌, ◌<◌, ◌≤◌,
 use Rattle.std.specs.Prelude.{unwrap_or}
 use Rattle.std.specs.List.{AllByRecursion}
 use Rattle.std.proofs.lemmas.List.{length-take, take_all, take-take}
+use Rattle.std.proofs.lemmas.Option.{same_Some}
 use Rattle.model.specs.Block.{Block, block_hash_of}
 use Rattle.model.specs.Ledger.{Network}
 use Rattle.model.specs.Chain.{Tip, tip_at, genesis_tip, tip_after, tip_hash, IsLinked, HaveDistinctHashes, immutable_length, immutable_part, BeginsWith, IsCandidate}
@@ -62,9 +63,6 @@ one_with_hash (x ∷ xs) b c distinct has_b has_c same =
       ]
     ]
 
-Some_same : {X : Type 0} (x y : X) → Some x ≡ Some y → x ≡ y
-Some_same x y e = cc
-
 -- two linked lists of one length that end in one hash, of blocks with distinct hashes, are the same, and
 -- follow one hash
 pub same_blocks : (bs : List Block) → HaveDistinctHashes bs → (s t : Tip) (xs ys : List Block) → IsLinked s xs → IsLinked t ys
@@ -75,7 +73,7 @@ same_blocks bs distinct s t [] (y ∷ ys) linked others in_xs in_ys long same = 
 same_blocks bs distinct s t (x ∷ xs) [] linked others in_xs in_ys long same = absurd (omega arith)
 same_blocks bs distinct s t (x ∷ xs) (y ∷ ys) linked others in_xs in_ys long same =
     let rest = same_blocks bs distinct (tip_at x) (tip_at y) xs ys linked.1 others.1 in_xs.1 in_ys.1 (omega arith) same in
-    let first : x ≡ y = one_with_hash bs x y distinct in_xs.0 in_ys.0 (Some_same (block_hash_of x) (block_hash_of y) rest.1) in
+    let first : x ≡ y = one_with_hash bs x y distinct in_xs.0 in_ys.0 (same_Some (block_hash_of x) (block_hash_of y) rest.1) in
     ((λ i. first i ∷ rest.0 i), sym linked.0.previous ∙ (ap (λ (b : Block). b.header.previous) first ∙ others.0.previous))
 
 -- ---- the immutable part

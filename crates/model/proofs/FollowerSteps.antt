@@ -2,7 +2,7 @@
 use Rattle.std.proofs.Common.{◌≡◌, ◌≢◌, ℕ, zero, suc, ◌+◌, ◌-◌, ◌<◌, ◌≤◌, List, [], ◌∷◌, ◌++◌, length, take, drop, min, Option, Some, None, refl, sym, ap, subst, ◌∙◌, inl, inr, ◌⊎◌, arith, le_antisymm}
 use Rattle.std.specs.Prelude.{slice_get, slice_set, ◌↔◌}
 use Rattle.std.proofs.lemmas.List.{length-append, length-take, take-take, take_min, take-append-drop}
-use Rattle.std.proofs.lemmas.Option.{slice_get_within}
+use Rattle.std.proofs.lemmas.Option.{slice_get_within, same_Some}
 use Rattle.model.specs.Block.{Block, SpellsBlock, block_text}
 use Rattle.model.specs.Chain.{Point, genesis_tip, tip_point, IsLinked, BeginsWith}
 use Rattle.model.specs.Follower.{Follower, Followers, standing_at, follower_of, free_id, with_opened, IsCommonBeginning, IsMoved, AreMoved, Instruction, Stay, AddBlock, RollBack, IsNext, IsReplayed, left_to_tell}
@@ -187,15 +187,12 @@ next_at_end k chain f (RollBack point) g sound next = (λ is. absurd cc, λ is. 
 next_at_end k chain f (AddBlock bytes) g sound next =
     (λ is. absurd cc, λ is. absurd (let size : length f.told ≡ length chain = ap length is in let within = slice_get_within chain (length f.told) next.0 next.1.1 in omega arith))
 
-some_same : {X : Type 0} (x y : X) → Some x ≡ Some y → x ≡ y
-some_same x y e = cc
-
 -- an instruction has one outcome
 pub next_one : (chain : List Block) (f : Follower) (instruction : Instruction) (g h : Follower) → IsNext chain f instruction g → IsNext chain f instruction h → g ≡ h
 next_one chain f Stay g h first second = first.2 ∙ sym second.2
 next_one chain f (RollBack point) g h first second = first.2 ∙ sym second.2
 next_one chain f (AddBlock bytes) g h first second =
-    let blocks : first.0 ≡ second.0 = some_same first.0 second.0 (sym first.1.1 ∙ second.1.1) in
+    let blocks : first.0 ≡ second.0 = same_Some first.0 second.0 (sym first.1.1 ∙ second.1.1) in
     first.3 ∙ ((λ i. record { told = f.told ++ blocks i ∷ []; agreed = f.agreed ++ blocks i ∷ [] }) ∙ sym second.3)
 
 -- the part of a linked chain ends in the block of its length
@@ -250,9 +247,9 @@ nobody fs f e = cc
 
 -- a follower once one was opened: it was there before, or has the number that was free
 pub opened_at : (fs : Followers) (id : ℕ) (f : Follower) → follower_of (with_opened fs) id ≡ Some f → ((free_id fs ≢ id) × (follower_of fs id ≡ Some f)) ⊎ ((free_id fs ≡ id) × (f ≡ standing_at []))
-opened_at [] zero f is = inr (refl, sym (some_same (standing_at []) f is))
+opened_at [] zero f is = inr (refl, sym (same_Some (standing_at []) f is))
 opened_at [] (suc id) f is = absurd (nobody [] f is)
-opened_at (None ∷ fs) zero f is = inr (refl, sym (some_same (standing_at []) f is))
+opened_at (None ∷ fs) zero f is = inr (refl, sym (same_Some (standing_at []) f is))
 opened_at (None ∷ fs) (suc id) f is = inl (λ e. absurd (omega arith), is)
 opened_at (Some old ∷ fs) zero f is = inl (λ e. absurd (omega arith), is)
 opened_at (Some old ∷ fs) (suc id) f is =
@@ -302,7 +299,7 @@ pub set_all_sound : (k : ℕ) (chain : List Block) (fs : Followers) (at : ℕ) (
 set_all_sound k chain fs at new sound now id f is =
     elim (set_at fs at id (Some new) f is) [
       | inl before ↦ sound id f before.1
-      | inr set ↦ subst (IsSoundFollower k chain) (some_same new f set.1) now
+      | inr set ↦ subst (IsSoundFollower k chain) (same_Some new f set.1) now
     ]
 
 pub closed_all_sound : (k : ℕ) (chain : List Block) (fs : Followers) (at : ℕ) → AllSound k chain fs → AllSound k chain (slice_set fs at None)

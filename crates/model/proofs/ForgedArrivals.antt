@@ -56,9 +56,6 @@ found_or_not b kept (x ∷ xs) members =
       ]
     ]
 
-some_same : {X : Type 0} (x y : X) → Some x ≡ Some y → x ≡ y
-some_same x y e = cc
-
 -- the front of a valid chain is valid
 front_valid : (network : Network) (xs ys : List Block) → IsValidChain network (xs ++ ys) → IsValidChain network xs
 front_valid network xs ys valid =

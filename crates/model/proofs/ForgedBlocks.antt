@@ -3,6 +3,7 @@ use Rattle.std.proofs.Common.{◌≡◌, ℕ, ◌+◌, ◌≤◌, List, [], ◌�
 use Rattle.std.specs.Prelude.{◌&&◌, nat_le, IfSome}
 use Rattle.std.specs.Option.{option_map}
 use Rattle.std.proofs.lemmas.Bool.{cases_lt, leb-true, le-leb}
+use Rattle.std.proofs.lemmas.Option.{same_Some}
 use Rattle.model.specs.Limits.{block_size_limit}
 use Rattle.model.specs.Cbor.{head, text_of, Bytes}
 use Rattle.model.specs.Transaction.{Transaction}
@@ -23,9 +24,6 @@ use Rattle.model.proofs.Candidates.{state_of_valid, valid_of_state}
 second : (a b : Bool) → (a && b) ≡ true → b ≡ true
 second true b e = e
 second false b e = absurd (let f : false ≡ true = e in cc)
-
-some_same : {X : Type 0} (x y : X) → Some x ≡ Some y → x ≡ y
-some_same x y e = cc
 
 -- no transactions fit into every block
 pub nothing_fits : (network : Network) → IsGenesis network.genesis → fits_in_a_block network.genesis.params [] ≡ true
@@ -102,7 +100,7 @@ module _ (network : Network) (chain : List Block) (waiting : List Transaction) (
       let at = state_of_valid network chain valid in
       let s = at.0 in
       let is = at.1 in
-      let outputs : s.ledger.utxo ≡ forged.utxo = some_same s.ledger.utxo forged.utxo (sym (ap (λ (o : Option Ledger). option_map (λ (l : Ledger). l.utxo) o) is.ledger) ∙ forged.of_chain) in
+      let outputs : s.ledger.utxo ≡ forged.utxo = same_Some s.ledger.utxo forged.utxo (sym (ap (λ (o : Option Ledger). option_map (λ (l : Ledger). l.utxo) o) is.ledger) ∙ forged.of_chain) in
       let folded = picked_folds network.verifies network.genesis.params slot s.ledger waiting in
       let ledger : ledger_after network.verifies s.params slot s.ledger taken ≡ Some folded.0 =
       ap (λ (p : Params). ledger_after network.verifies p slot s.ledger taken) is.params

@@ -2,6 +2,7 @@
 use Rattle.std.proofs.Common.{◌≡◌, ℕ, suc, ◌+◌, List, [], ◌∷◌, ◌++◌, Option, Some, None, refl, sym, ap, ◌∙◌, arith, is_some}
 use Rattle.std.specs.Prelude.{if◌then◌else◌, option_and_then}
 use Rattle.std.specs.List.{AllByRecursion}
+use Rattle.std.proofs.lemmas.Option.{same_Some}
 use Rattle.model.specs.Transaction.{Transaction, IsTransaction}
 use Rattle.model.specs.Signature.{Verifies}
 use Rattle.model.specs.Utxo.{outputs_of, coin_of}
@@ -11,9 +12,6 @@ use Rattle.model.specs.Block.{Block, IsBlock}
 use Rattle.model.specs.Ledger.{Network, Ledger, opening_ledger, ledger_with, told_first, reason_in, ledger_after, first_refused, ledger_after_block, ledger_from, ledger_of}
 use Rattle.model.proofs.Conserved.{accepted_conserves}
 use Rattle.model.proofs.OpeningOutputs.{opening_holds}
-
-pub Some_same : {X : Type 0} (x y : X) → Some x ≡ Some y → x ≡ y
-Some_same x y e = cc
 
 pub None_not_Some : {X : Type 0} (x : X) → None ≡ Some x → ⊥
 None_not_Some x e = cc
@@ -71,7 +69,7 @@ module _ (verifies : Verifies) (params : Params) (slot : ℕ) where
   -- ada is neither made nor lost
   pub kept_by_transactions : (ledger : Ledger) (ts : List Transaction) (m : Ledger) → AllByRecursion IsTransaction ts → after ledger ts ≡ Some m
       → coin_of (outputs_of m.utxo) + m.fees ≡ coin_of (outputs_of ledger.utxo) + ledger.fees
-  kept_by_transactions ledger [] m shapes is = ap (λ (l : Ledger). coin_of (outputs_of l.utxo) + l.fees) (sym (Some_same ledger m is))
+  kept_by_transactions ledger [] m shapes is = ap (λ (l : Ledger). coin_of (outputs_of l.utxo) + l.fees) (sym (same_Some ledger m is))
   kept_by_transactions ledger (t ∷ ts) m shapes is =
       elim (judged ledger t) as (λ r. judged ledger t ≡ r → coin_of (outputs_of m.utxo) + m.fees ≡ coin_of (outputs_of ledger.utxo) + ledger.fees) [
         | None ↦ λ e.
@@ -101,7 +99,7 @@ module _ (network : Network) where
 
   kept_by_blocks : (ledger : Ledger) (chain : List Block) (m : Ledger) → AllByRecursion IsBlock chain → ledger_from network ledger chain ≡ Some m
       → coin_of (outputs_of m.utxo) + m.fees ≡ coin_of (outputs_of ledger.utxo) + ledger.fees
-  kept_by_blocks ledger [] m shapes is = ap (λ (l : Ledger). coin_of (outputs_of l.utxo) + l.fees) (sym (Some_same ledger m is))
+  kept_by_blocks ledger [] m shapes is = ap (λ (l : Ledger). coin_of (outputs_of l.utxo) + l.fees) (sym (same_Some ledger m is))
   kept_by_blocks ledger (x ∷ xs) m shapes is =
       elim (ledger_after_block network ledger x) as (λ o. ledger_after_block network ledger x ≡ o → coin_of (outputs_of m.utxo) + m.fees ≡ coin_of (outputs_of ledger.utxo) + ledger.fees) [
         | None ↦ λ e. absurd (None_not_Some m (sym (ap (option_and_then (λ l. ledger_from network l xs)) e) ∙ is))

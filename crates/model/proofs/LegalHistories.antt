@@ -3,6 +3,7 @@ use Rattle.std.proofs.Common.{◌≡◌, ◌≢◌, ℕ, ◌+◌, ◌-◌, zero,
 use Rattle.std.specs.Prelude.{nat_lt, slice_set}
 use Rattle.std.specs.List.{AllByRecursion, filter}
 use Rattle.std.proofs.lemmas.Bool.{lt-ltb, ltb-true}
+use Rattle.std.proofs.lemmas.Option.{same_Some}
 use Rattle.model.specs.Block.{Block, SpellsBlock, block_text, block_hash_of}
 use Rattle.model.specs.Genesis.{Genesis}
 use Rattle.model.specs.Signature.{Verifies}
@@ -251,12 +252,9 @@ takes_one network s bytes answer t u first second =
     let mempool : first.mempool ≡ second.mempool = submitted_one s.mempool bytes answer first.mempool second.mempool first.submits.pool second.submits.pool in
     first.after ∙ ((λ i. record { kept = s.kept; chain = s.chain; mempool = mempool i; followers = s.followers }) ∙ sym second.after)
 
-some_same : {X : Type 0} (x y : X) → Some x ≡ Some y → x ≡ y
-some_same x y e = cc
-
 instructs_one : (s : State) (id : ℕ) (instruction : Instruction) (t u : State) → Instructs s id instruction t → Instructs s id instruction u → t ≡ u
 instructs_one s id instruction t u first second =
-    let old : first.old ≡ second.old = some_same first.old second.old (sym first.is_open ∙ second.is_open) in
+    let old : first.old ≡ second.old = same_Some first.old second.old (sym first.is_open ∙ second.is_open) in
     let new : first.new ≡ second.new = next_one s.chain first.old instruction first.new second.new first.next (subst (λ (f : Follower). IsNext s.chain f instruction second.new) (sym old) second.next) in
     first.after ∙ (ap (λ (f : Follower). with_follower s id (Some f)) new ∙ sym second.after)
 

@@ -1,6 +1,7 @@
 -- Passing through the mempool: what stays is valid in order, and stays again.
 use Rattle.std.proofs.Common.{◌≡◌, ℕ, suc, ◌≤◌, List, [], ◌∷◌, ◌++◌, length, Option, Some, None, Bool, true, false, refl, sym, ap, ◌∙◌, arith, is_some}
 use Rattle.std.specs.Prelude.{if◌then◌else◌}
+use Rattle.std.proofs.lemmas.Option.{same_Some}
 use Rattle.model.specs.Transaction.{Transaction}
 use Rattle.model.specs.Signature.{Verifies}
 use Rattle.model.specs.Utxo.{Utxo, utxo_after}
@@ -94,10 +95,7 @@ module _ (verifies : Verifies) (params : Params) (slot : ℕ) where
       ] refl
 
   after_push : (ledger m : Ledger) (ts : List Transaction) (t : Transaction) → after ledger ts ≡ Some m → judged m.utxo t ≡ None → after ledger (ts ++ t ∷ []) ≡ Some (ledger_with m t)
-  after_push ledger m [] t is none = through_after verifies params slot ledger t [] (ap (λ (l : Ledger). judged l.utxo t) (same_ledger ledger m is) ∙ none) ∙ ap (λ (l : Ledger). Some (ledger_with l t)) (same_ledger ledger m is)
-    where
-      same_ledger : (a b : Ledger) → Some a ≡ Some b → a ≡ b
-      same_ledger a b e = cc
+  after_push ledger m [] t is none = through_after verifies params slot ledger t [] (ap (λ (l : Ledger). judged l.utxo t) (same_Some ledger m is) ∙ none) ∙ ap (λ (l : Ledger). Some (ledger_with l t)) (same_Some ledger m is)
   after_push ledger m (x ∷ xs) t is none =
       elim (judged ledger.utxo x) as (λ r. judged ledger.utxo x ≡ r → after ledger ((x ∷ xs) ++ t ∷ []) ≡ Some (ledger_with m t)) [
         | None ↦ λ e. through_after verifies params slot ledger x (xs ++ t ∷ []) e ∙ after_push (ledger_with ledger x) m xs t (sym (through_after verifies params slot ledger x xs e) ∙ is) none

@@ -1,5 +1,6 @@
 -- Two replies to one event in one state are one, but for want of memory.
 use Rattle.std.proofs.Common.{◌≡◌, ◌≢◌, ℕ, ◌<◌, ◌≤◌, List, [], ◌∷◌, Option, Some, None, length, refl, sym, ap, subst, ◌∙◌, inl, inr, arith}
+use Rattle.std.proofs.lemmas.Option.{same_Some}
 use Rattle.model.specs.Block.{Block, block_text}
 use Rattle.model.specs.Transaction.{Transaction, SpellsTransaction}
 use Rattle.model.specs.Signature.{Verifies}
@@ -14,9 +15,6 @@ use Rattle.model.proofs.First.{one_first, one_number}
 use Rattle.model.proofs.TransactionTexts.{one_transaction}
 use Rattle.model.proofs.Changes.{one_change, taken_with}
 use Rattle.model.proofs.LegalHistories.{IsSoundState, keeps_one}
-
-some_same : {X : Type 0} (x y : X) → Some x ≡ Some y → x ≡ y
-some_same x y e = cc
 
 none_some : {X : Type 0} (x : X) → None ≡ Some x → ⊥
 none_some x e = absurd (cc)
@@ -58,7 +56,7 @@ module _ (verifies : Verifies) (params : Params) (slot : ℕ) (unspent : Utxo) (
   answer_one t InMempool MempoolFull one two = absurd (two.0.0 one)
   answer_one t InMempool Added one two = absurd (two.0.0 one)
   answer_one t (IsAgainst reason) InMempool one two = absurd (one.0 two)
-  answer_one t (IsAgainst reason) (IsAgainst other) one two = ap IsAgainst (some_same reason other (sym one.1 ∙ two.1))
+  answer_one t (IsAgainst reason) (IsAgainst other) one two = ap IsAgainst (same_Some reason other (sym one.1 ∙ two.1))
   answer_one t (IsAgainst reason) MempoolFull one two = absurd (none_some reason (sym two.0.1 ∙ one.1))
   answer_one t (IsAgainst reason) Added one two = absurd (none_some reason (sym two.0.1 ∙ one.1))
   answer_one t MempoolFull InMempool one two = absurd (one.0.0 two)
@@ -98,7 +96,7 @@ submission_one : (network : Network) (s : State) (bytes : List ℕ) (r q : Submi
 submission_one network s bytes r q t u one two =
     let a = one.submits in
     let b = two.submits in
-    let same : a.utxo ≡ b.utxo = some_same a.utxo b.utxo (sym a.of_chain ∙ b.of_chain) in
+    let same : a.utxo ≡ b.utxo = same_Some a.utxo b.utxo (sym a.of_chain ∙ b.of_chain) in
     answers_one network.verifies network.genesis.params (next_slot s.chain) (utxo_after_all b.utxo s.mempool) network.genesis.max_mempool s.mempool bytes r q
     (subst (λ (x : Utxo). Answers network.verifies network.genesis.params (next_slot s.chain) (utxo_after_all x s.mempool) network.genesis.max_mempool s.mempool bytes r) same a.answers) b.answers
 
@@ -133,12 +131,12 @@ instruction_one chain f (RollBack point) (AddBlock bytes) g h one two = absurd (
 instruction_one chain f (AddBlock bytes) Stay g h one two = absurd (let below = (taken_with chain (length f.told) one.0 one.1.1).0 in let whole = ap length two.1 in omega arith)
 instruction_one chain f (AddBlock bytes) (RollBack point) g h one two = absurd (let a = two.0 in let b = one.1.0 in omega arith)
 instruction_one chain f (AddBlock bytes) (AddBlock other) g h one two =
-    let same : one.0 ≡ two.0 = some_same one.0 two.0 (sym one.1.1 ∙ two.1.1) in
+    let same : one.0 ≡ two.0 = same_Some one.0 two.0 (sym one.1.1 ∙ two.1.1) in
     ap AddBlock (one.2 ∙ (ap block_text same ∙ sym two.2))
 
 next_reply_one : (network : Network) (s : State) (id : ℕ) (r q : Reply) (t u : State) → r ≢ OutOfMemory → q ≢ OutOfMemory → Step network s (Next id) r t → Step network s (Next id) q u → r ≡ q
 next_reply_one network s id (Instructed r) (Instructed q) t u enough enough_too one two =
-    let old : two.old ≡ one.old = some_same two.old one.old (sym two.is_open ∙ one.is_open) in
+    let old : two.old ≡ one.old = same_Some two.old one.old (sym two.is_open ∙ one.is_open) in
     ap Instructed (instruction_one s.chain one.old r q one.new two.new one.next (subst (λ (f : Follower). IsNext s.chain f q two.new) old two.next))
 next_reply_one network s id (Instructed r) UnknownFollower t u enough enough_too one two = absurd (none_some one.old (sym two.0 ∙ one.is_open))
 next_reply_one network s id (Instructed r) OutOfMemory t u enough enough_too one two = absurd (enough_too refl)

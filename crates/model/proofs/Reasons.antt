@@ -1,5 +1,6 @@
 -- The first reason against a transaction: its condition fails, and each condition before it holds.
 use Rattle.std.proofs.Common.{◌≡◌, ℕ, suc, ◌<◌, ◌≤◌, Bool, true, false, List, [], ◌∷◌, Contains, Option, Some, None, refl, sym, ap, subst, ◌∙◌, arith, inl, inr}
+use Rattle.std.proofs.lemmas.Option.{same_Some}
 use Rattle.model.specs.Rules.{Reason, OutsideInterval, NoInputs, TooBig, FeeTooSmall, MissingInput, OutputTooSmall, WrongNetwork, NotBalanced, OutputExists, BadSignature, MissingKeyWitness, MissingScript, ExtraScript, ScriptFails, reason_number, reasons, first_failing}
 use Rattle.model.proofs.Lists.{nothing_contained, contains_cases}
 
@@ -28,9 +29,6 @@ listed MissingScript = (11, omega arith, refl)
 listed ExtraScript = (12, omega arith, refl)
 listed ScriptFails = (13, omega arith, refl)
 
-some_is : (x r : Reason) → Some x ≡ Some r → x ≡ r
-some_is x r e = cc
-
 -- a number before those of a list is of none of its members
 numbered_from : (n : ℕ) (rs : List Reason) (r : Reason) → AreNumbered n rs → Contains rs r → n ≤ reason_number r
 numbered_from n [] r numbered member = absurd (nothing_contained r member)
@@ -54,7 +52,7 @@ module _ (test : Reason → Bool) where
   fails_in (x ∷ xs) r h =
       elim (test x) as (λ b. test x ≡ b → test r ≡ false) [
         | true ↦ λ e. fails_in xs r (sym (step true x xs e) ∙ h)
-        | false ↦ λ e. subst (λ (y : Reason). test y ≡ false) (some_is x r (sym (step false x xs e) ∙ h)) e
+        | false ↦ λ e. subst (λ (y : Reason). test y ≡ false) (same_Some x r (sym (step false x xs e) ∙ h)) e
       ] refl
 
   -- a member of a lower number comes before it, and its condition holds
@@ -67,7 +65,7 @@ module _ (test : Reason → Bool) where
           | inr later ↦ holds_before (suc n) xs r other numbered.1 (sym (step true x xs e) ∙ h) later before
         ]
         | false ↦ λ e.
-            let is : reason_number x ≡ reason_number r = ap reason_number (some_is x r (sym (step false x xs e) ∙ h)) in
+            let is : reason_number x ≡ reason_number r = ap reason_number (same_Some x r (sym (step false x xs e) ∙ h)) in
             let from : n ≤ reason_number other = numbered_from n (x ∷ xs) other numbered member in
             absurd (omega (arith, is, from, before, numbered.0))
       ] refl

@@ -8,6 +8,7 @@ use Rattle.std.specs.Io.KnownBytes.{Appends, Consumes}
 use Rattle.std.specs.Io.{appended_bytes}
 use Rattle.std.proofs.lemmas.Bool.Decides.{nat_tests}
 use Rattle.std.proofs.lemmas.List.Folds.{concat-append}
+use Rattle.std.proofs.lemmas.Option.{same_Some}
 use Rattle.model.specs.Ledger.{Network}
 use Rattle.model.specs.Chain.{IsOpening}
 use Rattle.model.specs.History.{State, opening, Entry, IsRun}
@@ -260,10 +261,7 @@ no_making (Some made) is = cc
 
 some_making : (making : Option OpenTx) (number : ℕ) → Some number ≡ option_map (λ (made : OpenTx). made.line) making → (made : OpenTx) × (making ≡ Some made) × (made.line ≡ number)
 some_making None number is = cc
-some_making (Some made) number is = (made, refl, number_is made.line number (sym is))
-  where
-    number_is : (a b : ℕ) → Some a ≡ Some b → a ≡ b
-    number_is a b e = cc
+some_making (Some made) number is = (made, refl, same_Some made.line number (sym is))
 
 -- where no line is told there is none
 pub no_line_told : (told line : Option ℕ) → told ≡ line → ((number : ℕ) → told ≡ Some number → ⊥) → None ≡ line

@@ -1,6 +1,7 @@
 -- The question what is unspent.
 use Rattle.std.proofs.Common.{◌≡◌, ℕ, List, [], ◌++◌, Some, refl, sym, ap, subst, ◌∙◌}
 use Rattle.std.specs.FinMap as finite
+use Rattle.std.proofs.lemmas.Option.{same_Some}
 use Rattle.model.specs.Utxo.{Utxo, outputs_of, coin_of}
 use Rattle.model.specs.Block.{Block}
 use Rattle.model.specs.Ledger.{Network, Ledger, ledger_of}
@@ -9,9 +10,6 @@ use Rattle.scenario.specs.declared.session.Session.{Session}
 use Rattle.scenario.specs.Print.{unspent_text, utxo_text}
 use Rattle.scenario.specs.Run.{Scene}
 use Rattle.scenario.specs.SessionView.{Holds, Done}
-
-one_ledger : (a b : Ledger) → Some a ≡ Some b → a ≡ b
-one_ledger a b same = cc
 
 -- parts of one ledger
 same_unspent : (a : Ledger) (utxo : Utxo) (pairs coin fees : ℕ) → utxo ≡ a.utxo → pairs ≡ finite.len utxo → coin ≡ coin_of (outputs_of utxo) → fees ≡ a.fees → unspent_text pairs coin fees ≡ utxo_text a
@@ -23,7 +21,7 @@ pub utxo_acted : (network : Network) (s : Scene) (utxo : Utxo) (pairs coin fees 
     → pairs ≡ finite.len utxo → coin ≡ coin_of (outputs_of utxo) → old ≡ [] → out ≡ old ++ unspent_text pairs coin fees
     → Done network s PrintsUtxo out session
 utxo_acted network s utxo pairs coin fees old out session holds (a, is_a, is_utxo) (b, is_b, is_fees) is_pairs is_coin empty printed =
-    let same : b ≡ a = one_ledger b a (sym is_b ∙ is_a) in
+    let same : b ≡ a = same_Some b a (sym is_b ∙ is_a) in
     let text : unspent_text pairs coin fees ≡ utxo_text a = same_unspent a utxo pairs coin fees is_utxo is_pairs is_coin (is_fees ∙ ap (λ (l : Ledger). l.fees) same) in
     record {
       entries = [];

@@ -3,6 +3,7 @@ use Rattle.std.proofs.Common.{◌≡◌, ℕ, zero, suc, ◌+◌, ◌^◌, ◌<�
 use Rattle.std.proofs.lemmas.Bool.Decides.{nat_tests}
 use Rattle.std.specs.Prelude.{IsOk}
 use Rattle.std.specs.List.{AllByRecursion, list_all}
+use Rattle.std.proofs.lemmas.Option.{same_Some}
 use Rattle.ident.specs.Kinds.{BlockHash}
 use Rattle.model.specs.Cbor.{nesting}
 use Rattle.model.specs.Transaction.{Transaction, item_of_transaction}
@@ -38,12 +39,9 @@ and_false false = refl
 one_deep : (ts : List Transaction) (index : ℕ) (t : Transaction) → slice_get ts index ≡ Some t → 62 < nesting (item_of_transaction t) → list_all fits_block ts ≡ false
 one_deep [] index t is deep = absurd cc
 one_deep (x ∷ xs) zero t is deep =
-    let same : x ≡ t = some_is x t is in
+    let same : x ≡ t = same_Some x t is in
     let first : fits_block x ≡ false = rw same (let d = deep in grind (arith, nat_tests)) in
     rw first refl
-  where
-    some_is : (x y : Transaction) → Some x ≡ Some y → x ≡ y
-    some_is x y e = cc
 one_deep (x ∷ xs) (suc index) t is deep = rw (one_deep xs index t is deep) (and_false (fits_block x))
 
 -- ---- what is built

@@ -1,5 +1,6 @@
 -- What is defined by a line, what comes of a part, and of points that were not found.
 use Rattle.std.proofs.Common.{◌≡◌, ℕ, Bool, true, false, cond, map, IsTrue, List, Option, Some, None, is_some, Result, Ok, Err, refl, sym, ◌∙◌, subst}
+use Rattle.std.proofs.lemmas.Option.{same_Some}
 use Rattle.ident.specs.PointView.{point_of}
 use Rattle.ident.specs.declared.point.Point.{Point as CodePoint}
 use Rattle.model.specs.Chain.{Point}
@@ -59,22 +60,13 @@ pay_refused found address (Some all) make d draft OutOfMemory is some stands = r
 pub opened : (codes : Option code.OpenTx) (making : Option OpenTx) (o : code.OpenTx) (made : OpenTx) → IsOpen codes making → codes ≡ Some o → making ≡ Some made → IsMaking o made
 opened None making o made is there also = cc
 opened (Some x) making o made (other, is_other, is) there also =
-    let same : x ≡ o = code_is x o there in
-    let one : other ≡ made = made_is other made (sym is_other ∙ also) in
+    let same : x ≡ o = same_Some x o there in
+    let one : other ≡ made = same_Some other made (sym is_other ∙ also) in
     subst (λ (y : code.OpenTx). IsMaking y made) same (subst (IsMaking x) one is)
-  where
-    code_is : (a b : code.OpenTx) → Some a ≡ Some b → a ≡ b
-    code_is a b e = cc
-
-    made_is : (a b : OpenTx) → Some a ≡ Some b → a ≡ b
-    made_is a b e = cc
 
 -- its name is free, whatever its draft is
 pub free_name : (names : AllNames) (made : OpenTx) (d : Draft) → bound_to made.name names.of_txs ≡ None → (open' : OpenTx) → Some (record made { draft = d }) ≡ Some open' → bound_to open'.name names.of_txs ≡ None
-free_name names made d free open' is = subst (λ (o : OpenTx). bound_to o.name names.of_txs ≡ None) (made_is (record made { draft = d }) open' is) free
-  where
-    made_is : (a b : OpenTx) → Some a ≡ Some b → a ≡ b
-    made_is a b e = cc
+free_name names made d free open' is = subst (λ (o : OpenTx). bound_to o.name names.of_txs ≡ None) (same_Some {A = OpenTx} (record made { draft = d }) open' is) free
 
 -- a part was added
 pub part_asked : (names : AllNames) (c : Names) (made : OpenTx) (o : code.OpenTx) (draft : CodeDraft) (said : Result Draft LineFault) (late : Bool) → AreNamed c names → names.making ≡ Some made → IsMaking o made

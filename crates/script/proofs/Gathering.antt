@@ -1,5 +1,6 @@
 -- Assets, transactions and points that lines name, one after the other.
 use Rattle.std.proofs.Common.{◌≡◌, ℕ, ◌<◌, IsTrue, List, [], ◌∷◌, ◌++◌, length, map, drop, Option, Some, None, is_some, option_map, refl, sym, ◌∙◌, ap, append_assoc, append-nil, arith}
+use Rattle.std.proofs.lemmas.Option.{same_Some}
 use Rattle.model.specs.Chain.{Point}
 use Rattle.model.specs.Script.{Script, script_hash_of}
 use Rattle.model.specs.Transaction.{Transaction}
@@ -45,23 +46,17 @@ pub next_asset_known : (names : AllNames) (assets : List (NamedAsset ℕ)) (a : 
     → assets_of names assets ≡ option_map (λ (rest : List (AssetQuantity ℕ)). found_asset a script ∷ rest) (assets_of names (drop 1 assets))
 next_asset_known names [] a script is known = cc
 next_asset_known names (x ∷ xs) a script is known =
-    let same : x ≡ a = some_is x a is in
+    let same : x ≡ a = same_Some x a is in
     let found : asset_of names x ≡ Some (found_asset a script) = rw same (rw known refl) in
     rw found (with_first (found_asset a script) (assets_of names xs))
-  where
-    some_is : (x y : NamedAsset ℕ) → Some x ≡ Some y → x ≡ y
-    some_is x y e = cc
 
 -- one that isn't
 pub next_asset_unknown : (names : AllNames) (assets : List (NamedAsset ℕ)) (a : NamedAsset ℕ) → first_of assets ≡ Some a → bound_to a.script names.of_scripts ≡ None → assets_of names assets ≡ None
 next_asset_unknown names [] a is unknown = cc
 next_asset_unknown names (x ∷ xs) a is unknown =
-    let same : x ≡ a = some_is x a is in
+    let same : x ≡ a = same_Some x a is in
     let none : asset_of names x ≡ None = rw same (rw unknown refl) in
     rw none refl
-  where
-    some_is : (x y : NamedAsset ℕ) → Some x ≡ Some y → x ≡ y
-    some_is x y e = cc
 
 -- no asset
 pub no_assets_left : (names : AllNames) (assets : List (NamedAsset ℕ)) → first_of assets ≡ None → assets_of names assets ≡ Some []
@@ -74,22 +69,16 @@ pub next_tx_known : (names : AllNames) (words : List (List ℕ)) (word : List �
     → txs_named names words ≡ option_map (λ (rest : List Transaction). tx ∷ rest) (txs_named names (drop 1 words))
 next_tx_known names [] word tx is known = cc
 next_tx_known names (x ∷ xs) word tx is known =
-    let same : x ≡ word = some_is x word is in
+    let same : x ≡ word = same_Some x word is in
     let found : bound_to x names.of_txs ≡ Some tx = rw same known in
     rw found (with_first tx (txs_named names xs))
-  where
-    some_is : (x y : List ℕ) → Some x ≡ Some y → x ≡ y
-    some_is x y e = cc
 
 pub next_tx_unknown : (names : AllNames) (words : List (List ℕ)) (word : List ℕ) → first_word words ≡ Some word → bound_to word names.of_txs ≡ None → txs_named names words ≡ None
 next_tx_unknown names [] word is unknown = cc
 next_tx_unknown names (x ∷ xs) word is unknown =
-    let same : x ≡ word = some_is x word is in
+    let same : x ≡ word = same_Some x word is in
     let none : bound_to x names.of_txs ≡ None = rw same unknown in
     rw none refl
-  where
-    some_is : (x y : List ℕ) → Some x ≡ Some y → x ≡ y
-    some_is x y e = cc
 
 pub no_words_left : (names : AllNames) (words : List (List ℕ)) → first_word words ≡ None → txs_named names words ≡ Some []
 no_words_left names [] none = refl
@@ -102,23 +91,17 @@ pub next_point_known : (names : List Binding) (words : List (List ℕ)) (place :
     → points_at names (said_places words) ≡ option_map (λ (rest : List Point). point ∷ rest) (points_at names (said_places (drop 1 words)))
 next_point_known names [] place point is known = cc
 next_point_known names (x ∷ xs) place point is known =
-    let same : said_place x ≡ place = same_place (said_place x) place is in
+    let same : said_place x ≡ place = same_Some (said_place x) place is in
     let found : point_at names (said_place x) ≡ Some point = ap (point_at names) same ∙ known in
     ap (λ (first : Option Point). with_one first (points_at names (said_places xs))) found ∙ with_first point (points_at names (said_places xs))
-  where
-    same_place : (a b : NamedPlace) → Some a ≡ Some b → a ≡ b
-    same_place a b e = cc
 
 -- one whose point isn't
 pub next_point_unknown : (names : List Binding) (words : List (List ℕ)) (place : NamedPlace) → option_map said_place (first_word words) ≡ Some place → point_at names place ≡ None → points_at names (said_places words) ≡ None
 next_point_unknown names [] place is unknown = cc
 next_point_unknown names (x ∷ xs) place is unknown =
-    let same : said_place x ≡ place = same_place (said_place x) place is in
+    let same : said_place x ≡ place = same_Some (said_place x) place is in
     let none : point_at names (said_place x) ≡ None = ap (point_at names) same ∙ unknown in
     ap (λ (first : Option Point). with_one first (points_at names (said_places xs))) none
-  where
-    same_place : (a b : NamedPlace) → Some a ≡ Some b → a ≡ b
-    same_place a b e = cc
 
 -- no place
 pub no_places_left : (names : List Binding) (words : List (List ℕ)) → option_map said_place (first_word words) ≡ None → points_at names (said_places words) ≡ Some []

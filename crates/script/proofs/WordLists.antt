@@ -8,11 +8,9 @@ use Rattle.std.proofs.lemmas.Bool.{ltb-true, ltb-false}
 use Rattle.std.proofs.lemmas.List.{take_all, length-drop}
 use Rattle.std.proofs.lemmas.List.Sums.{fails_before_first}
 use Rattle.std.proofs.lemmas.List.Splits.{slice_split_first, slice_split_none}
+use Rattle.std.proofs.lemmas.Option.{same_Some}
 use Rattle.script.specs.Text.{words_of, first_word}
 use Rattle.script.specs.WordsView.{words_in, has_no_words}
-
-some_is : (a b : List ℕ) → (let x : Option (List ℕ) = Some a in x) ≡ Some b → a ≡ b
-some_is a b e = cc
 
 taken : (b : Bool) (n i : ℕ) → cond b (Some n) None ≡ Some i → (b ≡ true) × (n ≡ i)
 taken true n i is = (refl, cc)
@@ -50,7 +48,7 @@ pub read : (ws us : List (List ℕ)) (o : Option (Bor (List ℕ))) (w : Bor (Lis
     → option_map (λ w. w.now) o ≡ first_word ws → us ≡ drop 1 ws → o ≡ Some w → ws ≡ w.now ∷ us
 read [] us o w first rest is = let none : Some w.now ≡ None = sym (ap (option_map (λ w. w.now)) is) ∙ first in cc
 read (v ∷ ws) us o w first rest is =
-    let same : w.now ≡ v = some_is w.now v (sym (ap (option_map (λ w. w.now)) is) ∙ first) in
+    let same : w.now ≡ v = same_Some w.now v (sym (ap (option_map (λ w. w.now)) is) ∙ first) in
     cc
 
 -- where there was none to read none was left
@@ -84,7 +82,7 @@ no_words (w ∷ ws) none = cc
 -- ---- a word that is read as a name
 
 pub is_named : (b : Bool) (word name : List ℕ) → Some name ≡ cond b (Some word) None → (b ≡ true) × (name ≡ word)
-is_named true word name is = (refl, some_is name word is)
+is_named true word name is = (refl, same_Some name word is)
 is_named false word name is = cc
 
 pub not_named : (b : Bool) (word : List ℕ) → None ≡ cond b (Some word) None → b ≡ false
@@ -93,11 +91,8 @@ not_named false word none = refl
 
 -- ---- words that are all read so
 
-same_words : (a b : List (List ℕ)) → (let x : Option (List (List ℕ)) = Some a in x) ≡ Some b → a ≡ b
-same_words a b e = cc
-
 pub are_all : (b : Bool) (words same : List (List ℕ)) → Some same ≡ cond b (Some words) None → (b ≡ true) × (same ≡ words)
-are_all true words same is = (refl, same_words same words is)
+are_all true words same is = (refl, same_Some same words is)
 are_all false words same is = cc
 
 pub not_all : (b : Bool) (words : List (List ℕ)) → None ≡ cond b (Some words) None → b ≡ false

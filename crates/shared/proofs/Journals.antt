@@ -2,6 +2,7 @@
 use Rattle.std.proofs.Common.{◌≡◌, ◌≢◌, ℕ, zero, suc, ◌<◌, ◌==◌, List, [], ◌∷◌, ◌++◌, length, cond, ltb, Bool, true, false, Some, None, refl, sym, ap, ◌∙◌, append_assoc, append-nil, eq-eqb, ne_eqb, arith}
 use Rattle.std.specs.Prelude.{slice_get}
 use Rattle.std.proofs.lemmas.List.Elements.{filter-append}
+use Rattle.std.proofs.lemmas.Option.{same_Some}
 use Rattle.model.specs.Journal.{JournalEntry, Journal, calls_of, BeginsWithSeen}
 use Rattle.shared.specs.Heights.{longer}
 
@@ -50,8 +51,5 @@ seat_below [] caller by at = absurd (let e : None ≡ Some by = at in cc)
 seat_below (x ∷ xs) zero by at = omega arith
 seat_below (x ∷ xs) (suc c) by at = let h = seat_below xs c by at in omega arith
 
-some_same : (x y : ℕ) → Some x ≡ Some y → x ≡ y
-some_same x y e = cc
-
 pub one_seat : (seats : List ℕ) (caller a b : ℕ) → slice_get seats caller ≡ Some a → slice_get seats caller ≡ Some b → a ≡ b
-one_seat seats caller a b at bt = some_same a b (sym at ∙ bt)
+one_seat seats caller a b at bt = same_Some a b (sym at ∙ bt)

@@ -51,9 +51,6 @@ pub gathered_all : {X : Type 0} (xs : List X) (start shares : List (List X)) (al
 gathered_all xs start shares all count counter ([], done, whole, gathered, dealt_so, counted) end = ap reverse gathered ∙ reverse-reverse done ∙ sym whole
 gathered_all xs start shares all count counter (x ∷ left, done, whole, gathered, dealt_so, counted) end = absurd (omega (arith, counted, end))
 
-pub one_item : {X : Type 0} (a b : X) → Some a ≡ Some b → a ≡ b
-one_item a b e = cc
-
 -- ---- seen by a view
 
 map_one : {X Y : Type 0} (f : X → Y) (xs : List X) (x : X) → map f (xs ++ x ∷ []) ≡ map f xs ++ f x ∷ []

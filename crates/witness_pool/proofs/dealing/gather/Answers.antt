@@ -1,6 +1,7 @@
 use Rattle.std.proofs.Common.{◌++◌, ◌∷◌, [], sym, ◌∙◌, ap, append-nil, arith}
 use Rattle.std.specs.Global.{Vec}
-use Rattle.witness_pool.proofs.Turns.{gathered_one, gathered_all, one_item}
+use Rattle.std.proofs.lemmas.Option.{same_Some}
+use Rattle.witness_pool.proofs.Turns.{gathered_one, gathered_all}
 use Rattle.witness_pool.proofs.dealing.gather.Goals as goal
 use Rattle.witness_pool.proofs.dealing.gather.Goals.{in-Some+in_ok-push, in_default}
 
@@ -14,6 +15,6 @@ pub loop-preserved : goal.loop-preserved
 loop-preserved g c = λ xs start some long is.
     gathered_one xs start _ _ c.loop.all.items c.match-branch-3.all.items c.args.count c.loop.counter c.in_ok-item.field-0 some (c.loop.invariant xs start some long is) c.loop-test.true c.in_ok-item.ensures
     (elim c.match-branch-3.branch [
-      | in-Some+in_ok-push w ↦ λ x is_x. ap (λ (v : Vec _). v.items) w.all-is ∙ w.in_ok-push.ensures.items ∙ ap (λ (y : _). c.loop.all.items ++ y ∷ []) (one_item w.in-Some.item x (sym w.in-Some.is ∙ is_x))
+      | in-Some+in_ok-push w ↦ λ x is_x. ap (λ (v : Vec _). v.items) w.all-is ∙ w.in_ok-push.ensures.items ∙ ap (λ (y : _). c.loop.all.items ++ y ∷ []) (same_Some w.in-Some.item x (sym w.in-Some.is ∙ is_x))
       | in_default w ↦ λ x is_x. absurd (w.in_default.not-Some x is_x)
     ])

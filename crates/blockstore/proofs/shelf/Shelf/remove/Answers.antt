@@ -2,13 +2,14 @@ use Rattle.std.proofs.Common.{◌≡◌, ◌+◌, ℕ, subst, sym, ◌∙◌, re
 use Rattle.std.specs.Prelude.{is_some, if◌then◌else◌}
 use Rattle.std.specs.BTreeMap.{get, values, btree_map_len}
 use Rattle.std.proofs.lemmas.List.{length-map}
+use Rattle.std.proofs.lemmas.Option.{same_Some}
 use Rattle.model.specs.Block.{Block}
 use Rattle.blockstore.specs.Stored.{Stored}
 use Rattle.blockstore.specs.Keys.{hash_cmp, link_cmp, age_cmp, IsLinkOf, IsAgeOf}
 use Rattle.blockstore.specs.Shelves.{IsWithout}
 use Rattle.blockstore.specs.declared.keys.Link.{Link}
 use Rattle.blockstore.specs.declared.keys.Age.{Age}
-use Rattle.blockstore.proofs.KeySets.{exact_link, exact_age, link_names, one_link, age_names, one_age, keys_take, one_some}
+use Rattle.blockstore.proofs.KeySets.{exact_link, exact_age, link_names, one_link, age_names, one_age, keys_take}
 use Rattle.blockstore.proofs.Shelves.{holds_at, keyed_took, left_of}
 use Rattle.blockstore.proofs.shelf.Shelf.remove.Goals as goal
 
@@ -30,7 +31,7 @@ invariant_of-self-2 g c =
     let there : get hash_cmp m hash ≡ Some c.requires.block =
     subst (λ (q : List ℕ). get hash_cmp m q ≡ Some c.requires.block) (sym c.requires.is.1) (holds_at m c.self.invariant.ordered c.self.invariant.keyed c.requires.block member) in
     let here : get hash_cmp m hash ≡ Some stored = sym c.remove.ensures.value ∙ c.in-Some.is in
-    let one : c.requires.block ≡ stored = one_some c.requires.block stored (sym there ∙ here) in
+    let one : c.requires.block ≡ stored = same_Some c.requires.block stored (sym there ∙ here) in
     let link : IsLinkOf stored.block c.of.result = subst (λ (b : Block). IsLinkOf b c.of.result) c.block.ensures c.of.ensures in
     let age : IsAgeOf stored.block c.args.age = subst (λ (x : Stored). IsAgeOf x.block c.args.age) one c.requires.is in
     record {

@@ -1,4 +1,5 @@
 use Rattle.std.proofs.Common.{◌≡◌, ◌+◌, ◌∙◌, Some, sym, ap, subst}
+use Rattle.std.proofs.lemmas.Option.{same_Some}
 use Rattle.model.specs.Genesis.{supply_of}
 use Rattle.model.specs.Utxo.{coin_of, outputs_of}
 use Rattle.model.specs.Ledger.{Ledger, ledger_of}
@@ -17,9 +18,6 @@ returns-clause-fees g c =
       c.fees.ensures.fees,
     )
 
-some_same : (x y : Ledger) → Some x ≡ Some y → x ≡ y
-some_same x y e = cc
-
 pub returns-clause-supply : goal.returns-clause-supply
 returns-clause-supply g c =
     let verifies = g.S.SigScheme.verifies in
@@ -27,5 +25,5 @@ returns-clause-supply g c =
     let is = c.state.ensures (network_held (held c.self.inside) verifies) c.self.invariant.whole in
     subst (λ (h : Held). (ledger : Ledger) → ledger_of (network_held h verifies) h.chain ≡ Some ledger → coin_of (outputs_of ledger.utxo) + c.fees.result ≡ supply_of h.genesis) c.self.view_is
     (λ ledger at.
-    let same : state.ledger ≡ ledger = some_same state.ledger ledger (sym is.ledger ∙ at) in
+    let same : state.ledger ≡ ledger = same_Some state.ledger ledger (sym is.ledger ∙ at) in
     ap (λ n. coin_of (outputs_of ledger.utxo) + n) (c.fees.ensures.fees ∙ ap (λ (l : Ledger). l.fees) same) ∙ supply_reached verifies (held c.self.inside) c.self.invariant.opens c.self.invariant.reached ledger at)
