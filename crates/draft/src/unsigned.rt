@@ -9,7 +9,7 @@ ghost use Rattle.value.specs.Parts.{IsMintOf};
 ghost use Rattle.value.specs.View.{asset_of};
 ghost use Rattle.tx.specs.Making.{parts_of};
 ghost use Rattle.tx.specs.Parts.{IsTxOf};
-ghost use Rattle.tx.specs.View.{output_of, witness_of};
+ghost use Rattle.tx.specs.View.{witness_of};
 ghost use Rattle.draft.specs.Draft.{witness_by};
 ghost use Rattle.draft.specs.SignerView.{signer_of};
 ghost use Rattle.draft.specs.UnsignedView.{parts_of_unsigned};
@@ -18,7 +18,7 @@ use crate::signer::Signer;
 use ident::TxId;
 use std::alloc::{AllocError, Global};
 use timelock::{Interval, Script};
-use tx::{Input, KeyWitness, Output, Tx, TxParts};
+use tx::{Input, KeyWitness, Output, Tx, TxParts, clone_outputs};
 use value::{AssetQuantity, Mint};
 
 /// The parts that the identifier of a transaction is made of.
@@ -29,18 +29,6 @@ pub struct Unsigned {
     pub fee: u64,
     pub interval: Interval,
     pub mint: Mint,
-}
-
-/// The same outputs once more.
-fn clone_outputs(alloc: Global, outputs: &[Output]) -> Result<Vec<Output>, AllocError>
-    ensures { IfOk result (λ copies. map output_of copies.items ≡ map output_of outputs.now) }
-{
-    let mut copies = Vec::with_capacity(alloc, outputs.len())?;
-    for output in outputs {
-        let copy = output.try_clone()?;
-        copies.push(copy)?;
-    }
-    Ok(copies)
 }
 
 /// What the signers make of an identifier.

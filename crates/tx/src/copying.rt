@@ -11,8 +11,9 @@ use crate::witnesses::Witnesses;
 use std::alloc::{AllocError, Global};
 use timelock::Script;
 
-/// The same outputs once more.
-fn clone_outputs(alloc: Global, outputs: &[Output]) -> Result<Vec<Output>, AllocError>
+/// The same outputs once more, for those who make a transaction of them and keep them. Err where memory runs out. Takes
+/// an allocation for all of them, and those of each one's assets.
+pub fn clone_outputs(alloc: Global, outputs: &[Output]) -> Result<Vec<Output>, AllocError>
     ensures { IfOk result (λ copies. map output_of copies.items ≡ map output_of outputs.now) }
 {
     let mut copies = Vec::with_capacity(alloc, outputs.len())?;

@@ -20,6 +20,7 @@ mod witness_writer;
 mod witnesses;
 
 pub use address::{ADDRESS_SIZE, Address, Credential};
+pub use copying::clone_outputs;
 pub use input::Input;
 pub use key_witness::KeyWitness;
 pub use laws::one_tx_of_parts;
