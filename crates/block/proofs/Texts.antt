@@ -1,5 +1,5 @@
 -- What is written is the text of a block, and its size.
-use Rattle.std.proofs.Common.{◌≡◌, ℕ, ◌≤◌, ◌^◌, ◌<◌, Bool, true, false, cond, List, [], ◌∷◌, ◌++◌, length, Option, Some, None, option_map, sym, ap, subst, arith}
+use Rattle.std.proofs.Common.{◌≡◌, ℕ, ◌≤◌, ◌^◌, ◌<◌, List, [], ◌++◌, length, Option, Some, None, option_map, sym, ap, subst, arith}
 use Rattle.std.specs.Prelude.{IfSome}
 use Rattle.std.proofs.lemmas.List.{length-append}
 use Rattle.ident.specs.Kinds.{BlockHash}
@@ -8,6 +8,7 @@ use Rattle.model.specs.Block.{item_of_previous, item_of_header, item_of_block, I
 use Rattle.cbor.proofs.ForCallers.{AllByRecursion-bytes}
 use Rattle.block.specs.declared.header.Header as code
 use Rattle.model.specs.Block.{empty_block}
+use Rattle.model.proofs.ForgedBlocks.{number_length}
 use Rattle.block.specs.View.{bytes_of, header_of}
 use Rattle.block.proofs.Blocks.{empty_spells}
 
@@ -34,20 +35,6 @@ pub is_written : (h : code.Header) (bytes : List ℕ) → h.number < 2 ^ 63 → 
 is_written h bytes number slot spelled =
     empty_spells (header_of h) bytes (is_header h number slot) (header_in_range h number slot) spelled
 
--- each form of a head has at most nine bytes
-nine_bytes : (p q r s : Bool) (a b c d e : ℕ) (u v w x : List ℕ) → length u ≤ 8 → length v ≤ 8 → length w ≤ 8 → length x ≤ 8
-    → length (cond p (a ∷ []) (cond q (b ∷ u) (cond r (c ∷ v) (cond s (d ∷ w) (e ∷ x))))) ≤ 9
-nine_bytes true q r s a b c d e u v w x lu lv lw lx = omega arith
-nine_bytes false true r s a b c d e u v w x lu lv lw lx = omega arith
-nine_bytes false false true s a b c d e u v w x lu lv lw lx = omega arith
-nine_bytes false false false true a b c d e u v w x lu lv lw lx = omega arith
-nine_bytes false false false false a b c d e u v w x lu lv lw lx = omega arith
-
--- a number has at most nine bytes
-number_size : (n : ℕ) → length (head 0 n) ≤ 9
-unfolding head
-number_size n = search (arith, nine_bytes)
-
 -- a hash has 34 bytes
 hash_size : (hash : List ℕ) → length hash ≡ 32 → length (text_of (Bytes hash)) ≤ 34
 unfolding head
@@ -68,5 +55,5 @@ in_all block header number slot previous hash body lb lh ln ls lp lx ly = simp l
 pub text_size : (h : code.Header) (bytes : List ℕ) → bytes ≡ text_of (item_of_block (empty_block (header_of h))) → length bytes ≤ 89
 unfolding head
 text_size h bytes spelled =
-    let at_most = in_all (head 4 2) (head 4 4) (head 0 h.number) (head 0 h.slot) (text_of (item_of_previous (option_map bytes_of h.previous))) (text_of (Bytes h.body_hash.bytes)) (head 4 0) (omega arith) (omega arith) (number_size h.number) (number_size h.slot) (previous_size h.previous) (hash_size h.body_hash.bytes h.body_hash.sized) (omega arith) in
+    let at_most = in_all (head 4 2) (head 4 4) (head 0 h.number) (head 0 h.slot) (text_of (item_of_previous (option_map bytes_of h.previous))) (text_of (Bytes h.body_hash.bytes)) (head 4 0) (omega arith) (omega arith) (number_length h.number) (number_length h.slot) (previous_size h.previous) (hash_size h.body_hash.bytes h.body_hash.sized) (omega arith) in
     omega (arith, at_most, ap length spelled)

@@ -40,7 +40,8 @@ nine_bytes false false true s a b c d e u v w x lu lv lw lx = omega arith
 nine_bytes false false false true a b c d e u v w x lu lv lw lx = omega arith
 nine_bytes false false false false a b c d e u v w x lu lv lw lx = omega arith
 
-number_length : (n : ℕ) → length (head 0 n) ≤ 9
+-- a number has at most nine bytes
+pub number_length : (n : ℕ) → length (head 0 n) ≤ 9
 unfolding head
 number_length n = search (arith, nine_bytes)
 

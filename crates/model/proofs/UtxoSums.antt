@@ -20,21 +20,21 @@ use Rattle.model.proofs.Unspent.{inputs_total, inputs_same, same_from, apart_fro
 
 -- ---- lists in the order of their inputs
 
-first : (a b : Bool) → T (a && b) → T a
+pub first : (a b : Bool) → T (a && b) → T a
 first true b h = tt
 first false b h = absurd h
 
-second : (a b : Bool) → T (a && b) → T b
+pub second : (a b : Bool) → T (a && b) → T b
 second true b h = h
 second false b h = absurd h
 
-less : (o : Ordering) → T (is_lt o) → o ≡ Less
+pub less : (o : Ordering) → T (is_lt o) → o ≡ Less
 less Less h = refl
 less Equal h = absurd h
 less Greater h = absurd h
 
 -- an input below all of a list is not found in it
-below_none : (q : Input) (es : List (Input × Output)) → T (below_all input_cmp q es) → find input_cmp q es ≡ None
+pub below_none : (q : Input) (es : List (Input × Output)) → T (below_all input_cmp q es) → find input_cmp q es ≡ None
 below_none q [] h = refl
 below_none q (e ∷ es) h =
     ap (λ (r : Ordering). cond (is_eq r) (Some e.1) (find input_cmp q es)) (less (input_cmp q e.0) (first (is_lt (input_cmp q e.0)) (below_all input_cmp q es) h))

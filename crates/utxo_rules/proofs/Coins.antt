@@ -1,5 +1,5 @@
 -- How much lovelace pairs hold together when one is put in or taken out.
-use Rattle.std.proofs.Common.{◌≡◌, ℕ, ◌+◌, ◌-◌, ◌≤◌, Bool, true, false, cond, not, ◌&&◌, List, [], ◌∷◌, Option, Some, None, refl, sym, ap, subst, ◌∙◌, arith}
+use Rattle.std.proofs.Common.{◌≡◌, ℕ, ◌+◌, ◌-◌, ◌≤◌, true, false, cond, not, List, [], ◌∷◌, Option, Some, None, refl, sym, ap, subst, ◌∙◌, arith}
 use Rattle.std.specs.Prelude.{T}
 use Rattle.std.specs.FinMap.{find, put, is_sorted}
 use Rattle.std.specs.FinMap.Entries.{where_key, below_all, by_order}
@@ -8,29 +8,10 @@ use Rattle.std.specs.declared.cmp.Ordering.{Ordering}
 use Rattle.std.specs.declared.cmp.Ordering.TheVariants.{Less, Equal, Greater}
 use Rattle.model.specs.Transaction.{Input, Output, input_cmp}
 use Rattle.model.proofs.Unspent.{same_from, inputs_total}
+use Rattle.model.proofs.UtxoSums.{first, second, less, below_none}
 use Rattle.std.specs.Cmp.{IsTotalOrder}
 use Rattle.persistent_map.specs.Order.{Rise, without}
 use Rattle.utxo_rules.specs.Inside.{coin_in, coin_at}
-
-first : (a b : Bool) → T (a && b) → T a
-first true b h = tt
-first false b h = absurd h
-
-second : (a b : Bool) → T (a && b) → T b
-second true b h = h
-second false b h = absurd h
-
-less : (o : Ordering) → T (is_lt o) → o ≡ Less
-less Less h = refl
-less Equal h = absurd h
-less Greater h = absurd h
-
--- an input below all of a list is not found in it
-below_none : (q : Input) (es : List (Input × Output)) → T (below_all input_cmp q es) → find input_cmp q es ≡ None
-below_none q [] h = refl
-below_none q (e ∷ es) h =
-    ap (λ (r : Ordering). cond (is_eq r) (Some e.1) (find input_cmp q es)) (less (input_cmp q e.0) (first (is_lt (input_cmp q e.0)) (below_all input_cmp q es) h))
-    ∙ below_none q es (second (is_lt (input_cmp q e.0)) (below_all input_cmp q es) h)
 
 -- an input below the first of a list that rises is below all
 below_more : (q : Input) (e : Input × Output) (es : List (Input × Output)) → input_cmp q e.0 ≡ Less → T (below_all input_cmp e.0 es) → find input_cmp q es ≡ None
