@@ -3,7 +3,7 @@
 use Rattle.std.specs.Prelude.{ℕ, List, length, Option, Some, None, ◌==◌, if◌then◌else◌}
 use Rattle.cbor.specs.Reading.{◌>>=◌, fixed_at}
 use Rattle.cbor.specs.Shapes.{Reading, as_at, bounded_at, optional_at, both_at, array_at, list_array_at}
-use Rattle.model.specs.Limits.{hash_size, number_limit}
+use Rattle.model.specs.Limits.{transaction_nesting_limit, hash_size, number_limit}
 use Rattle.model.specs.Transaction.{Transaction}
 use Rattle.model.specs.Block.{Header, Block}
 use Rattle.tx.specs.TransactionReading.{nested_transaction_at}
@@ -25,7 +25,7 @@ header_at bytes =
 
 -- the transactions of a body, an array; in a block they may nest 62 deep, so that the block nests 64 deep
 unfoldable pub transactions_at : Reading (List Transaction)
-transactions_at bytes = list_array_at (nested_transaction_at 62) bytes
+transactions_at bytes = list_array_at (nested_transaction_at transaction_nesting_limit) bytes
 
 -- a block of these parts
 abbrev pub block_with : Header × List Transaction → Block

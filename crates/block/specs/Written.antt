@@ -2,6 +2,7 @@
 use Rattle.std.specs.Prelude.{◌≡◌, ℕ, ◌<◌, ◌≤◌, List, take, Option, Some, slice_get}
 use Rattle.std.specs.List.{AllByRecursion}
 use Rattle.sha2.specs.Sha256.{sha256}
+use Rattle.model.specs.Limits.{transaction_nesting_limit}
 use Rattle.model.specs.Cbor.{nesting, text_of}
 use Rattle.model.specs.Transaction.{Transaction, item_of_transaction, SpellsTransaction}
 use Rattle.model.specs.Block.{Header, Block, IsHeader, SpellsBlock, body_hash_of, item_of_transactions}
@@ -26,7 +27,7 @@ full_block number slot previous transactions =
 -- A transaction of a block: it has a text, and stands two deep in a block, which nests at most 64 deep.
 pub record FitsBlock (t : Transaction) : Type 0 where
   pub spelled : SpellsTransaction t (text_of (item_of_transaction t))
-  pub nests : nesting (item_of_transaction t) ≤ 62
+  pub nests : nesting (item_of_transaction t) ≤ transaction_nesting_limit
 
 -- the bytes are the text of a body of these transactions, which all fit
 pub record IsBodyText (txs : List Transaction) (text : List ℕ) : Type 0 where
@@ -42,7 +43,7 @@ header_over number slot previous body =
 pub record IsFirstTooDeep (index : ℕ) (transactions : List Transaction) : Type 0 where
   pub transaction : Transaction
   pub place : slice_get transactions index ≡ Some transaction
-  pub deep : 62 < nesting (item_of_transaction transaction)
+  pub deep : transaction_nesting_limit < nesting (item_of_transaction transaction)
   pub before : AllByRecursion FitsBlock (take index transactions)
 
 -- its numbers are in range, and this transaction is too deep

@@ -6,7 +6,7 @@ use Rattle.std.specs.Prelude.{if◌then◌else◌}
 use Rattle.std.specs.List.{list_any, count_by, AllZip}
 use Rattle.sha2.specs.Sha256.{sha256}
 use Rattle.model.specs.Cbor.{nesting}
-use Rattle.model.specs.Limits.{name_size_limit}
+use Rattle.model.specs.Limits.{script_nesting_limit, signature_size, name_size_limit, output_limit}
 use Rattle.model.specs.Script.{Script, item_of_script, script_hash_of}
 use Rattle.model.specs.Transaction.{Address, Input, Output, KeyWitness, Transaction, transaction_id_of}
 use Rattle.model.specs.Value.{Mint}
@@ -94,11 +94,11 @@ is_at_fault assets =
 
 -- there are as many outputs as an index can name
 abbrev pub are_full : List DraftOutput → Bool
-are_full outputs = nat_le 65536 (length outputs)
+are_full outputs = nat_le output_limit (length outputs)
 
 -- the script nests too deep to stand in a transaction
 abbrev pub is_deep : Script → Bool
-is_deep script = nat_lt 61 (nesting (item_of_script script))
+is_deep script = nat_lt script_nesting_limit (nesting (item_of_script script))
 
 -- ---- what is added
 
@@ -146,7 +146,7 @@ AreOnce {K = K} is xs = (key : K) → ¬ (1 < count_by (is key) xs)
 pub record AreSound (inputs : List Input) (outputs : List DraftOutput) (mint : List (AssetQuantity ℤ))
     (signers : List Signer) (scripts : List Script) : Type 0 where
   pub inputs_once : AreOnce same_input inputs
-  pub outputs_few : length outputs ≤ 65536
+  pub outputs_few : length outputs ≤ output_limit
   pub names_short : list_any (λ a. is_long a.name) mint ≡ false
   pub none_zero : list_any (λ a. is_zero a.quantity) mint ≡ false
   pub assets_once : AreOnce (λ (asset : List ℕ × List ℕ). is_of asset.0 asset.1) mint
@@ -167,7 +167,10 @@ good_signature key message = sha256 (key ++ message) ++ sha256 (key ++ message)
 -- what a signer makes of an identifier: the good signature, or 64 zero bytes
 abbrev pub witness_by : List ℕ → Signer → KeyWitness
 witness_by id signer =
-    record { key = signer.key; signature = if signer.good then good_signature signer.key id else replicate 64 0 }
+    record {
+      key = signer.key;
+      signature = if signer.good then good_signature signer.key id else replicate signature_size 0;
+    }
 
 -- the output has this address, this coin and just these assets
 pub record IsOutputOf (draft : DraftOutput) (output : Output) : Type 0 where

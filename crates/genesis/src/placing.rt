@@ -1,6 +1,7 @@
 //! The addresses of the outputs.
 
 ghost use Rattle.std.specs.Prelude.{◌≡◌, ◌<◌, map, ok_or, option_map};
+ghost use Rattle.model.specs.Limits.{network_limit};
 ghost use Rattle.tx.specs.View.{address_of};
 ghost use Rattle.genesis.specs.declared.genesis_fault.GenesisFault.TheVariants.{BadAddress};
 ghost use Rattle.genesis.specs.Steps.{each, Gives};
@@ -38,7 +39,7 @@ fn address_of_text(network: u8, text: &str) -> Option<Address>
 /// The address on this network that the hash of a key unlocks.
 #[tactic(auto, unfolding(crate::specs::Judgement::address_of_lock, model::specs::Transaction::key_hash_of))]
 fn address_of_key(network: u8, text: &str) -> Option<Address>
-    requires { network < 16 }
+    requires { network < network_limit }
     ensures { option_map address_of result ≡ address_of_lock network (ByKey text.now) }
 {
     let key = <[u8; 32]>::from_hex(text).ok()?;
@@ -48,7 +49,7 @@ fn address_of_key(network: u8, text: &str) -> Option<Address>
 impl Placed {
     /// The output with its address on this network, where it has one.
     fn of_entry(network: u8, entry: &Entry<'_>) -> Option<Placed>
-        requires { network < 16 }
+        requires { network < network_limit }
         ensures { option_map placed_view result ≡ placed_of network (entry_view entry.now) }
     {
         let address = match entry.lock {
@@ -64,7 +65,7 @@ impl Placed {
 
 /// The outputs with their addresses, where each has one on this network.
 pub fn place(alloc: Global, network: u8, entries: &[Entry<'_>]) -> Result<Vec<Placed>, GenesisFault>
-    requires { network < 16 }
+    requires { network < network_limit }
     ensures { Gives (λ placed. map placed_view placed.items) result
         (ok_or (each (placed_of network) (map entry_view entries.now)) BadAddress) }
 {

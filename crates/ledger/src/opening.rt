@@ -2,7 +2,7 @@
 
 ghost use Rattle.std.specs.Prelude.{◌≡◌, ◌≤◌, ◌<◌, length, map, IfOk, option_map};
 ghost use Rattle.std.specs.FinMap as finite;
-ghost use Rattle.model.specs.Limits.{number_limit};
+ghost use Rattle.model.specs.Limits.{output_limit, greatest_index, number_limit};
 ghost use Rattle.model.specs.Utxo.{place, with_pairs, pairs_from, outputs_of, coin_of};
 ghost use Rattle.model.specs.Genesis.{opening_id, opening_utxo};
 ghost use Rattle.tx.specs.View.{input_of};
@@ -45,7 +45,7 @@ pub fn open_params(genesis: &Genesis) -> Params
 /// The input that would spend the grant of this place in the genesis.
 #[tactic(auto, unfolding(model::specs::Genesis::opening_id))]
 fn place_of(index: usize) -> Input
-    requires { index ≤ 65535 }
+    requires { index ≤ greatest_index }
     ensures { input_of result ≡ place opening_id index }
 {
     Input {
@@ -56,7 +56,7 @@ fn place_of(index: usize) -> Input
 
 /// What these grants leave to be spent, counted from 0.
 fn grant_all(alloc: Global, grants: &[Grant]) -> Result<Utxo, AllocError>
-    requires { length grants.now ≤ 65536 }
+    requires { length grants.now ≤ output_limit }
     ensures { IfOk result (λ utxo.
         utxo ≡ with_pairs (pairs_from opening_id 0 (map granted_output grants.now)) finite.empty) }
 {

@@ -1,6 +1,7 @@
 -- What a forged block takes of the transactions that wait.
 use Rattle.std.specs.Prelude.{◌≡◌, ℕ, ◌^◌, ◌<◌, ◌≤◌, List, [], ◌∷◌, ◌++◌, length, map, is_some, if◌then◌else◌}
 use Rattle.std.specs.List.{AllByRecursion}
+use Rattle.model.specs.Limits.{transaction_nesting_limit}
 use Rattle.model.specs.Cbor.{text_of, items_of, items_text, nesting, items_nesting}
 use Rattle.model.specs.Transaction.{Transaction, SpellsTransaction, item_of_transaction}
 use Rattle.model.specs.Signature.{Verifies}
@@ -21,14 +22,14 @@ texts_of txs = items_text (items_of (map item_of_transaction txs))
 -- transaction of a block may.
 pub record AreMeasured (txs : List Transaction) (size : ℕ) : Type 0 where
   pub together : size ≡ length (texts_of txs)
-  pub nests : items_nesting (items_of (map item_of_transaction txs)) ≤ 62
+  pub nests : items_nesting (items_of (map item_of_transaction txs)) ≤ transaction_nesting_limit
   pub spelled : AllByRecursion IsSpelled txs
 
 -- one more has a text, with which they can be measured still, and nests no deeper
 pub record IsRoomFor (txs : List Transaction) (t : Transaction) : Type 0 where
   pub spelled : IsSpelled t
   pub few : length (texts_of (txs ++ t ∷ [])) < 2 ^ 64
-  pub nests : nesting (item_of_transaction t) ≤ 62
+  pub nests : nesting (item_of_transaction t) ≤ transaction_nesting_limit
 
 -- one more transaction is taken where there is no reason against it, and the body has room for it
 abbrev pub offered : Verifies → Params → ℕ → Waiting → Transaction → Waiting

@@ -5,13 +5,37 @@ use Rattle.std.specs.Prelude.{ℕ, ◌^◌}
 abbrev pub nesting_limit : ℕ
 nesting_limit = 64
 
+-- how deep a transaction of a block may nest, since it stands two items deep there
+abbrev pub transaction_nesting_limit : ℕ
+transaction_nesting_limit = 62
+
+-- how deep a script of a transaction may nest, since it stands three items deep there
+abbrev pub script_nesting_limit : ℕ
+script_nesting_limit = 61
+
 -- how many bytes a hash, an identifier or a key has
 abbrev pub hash_size : ℕ
 hash_size = 32
 
+-- how many bytes a signature has
+abbrev pub signature_size : ℕ
+signature_size = 64
+
 -- how many bytes the name of an asset has at most (Shelley-MA)
 abbrev pub name_size_limit : ℕ
 name_size_limit = 32
+
+-- networks are below this number, since an address has four bits for them (Shelley, the address formats)
+abbrev pub network_limit : ℕ
+network_limit = 16
+
+-- how many outputs a transaction has at most: their indices are below this number
+abbrev pub output_limit : ℕ
+output_limit = 65536
+
+-- the greatest of these indices
+abbrev pub greatest_index : ℕ
+greatest_index = 65535
 
 -- block numbers, slots and minted quantities are below this number
 abbrev pub number_limit : ℕ

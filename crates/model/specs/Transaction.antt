@@ -6,7 +6,7 @@ use Rattle.std.specs.Ordering.{nat_cmp, ordering_then}
 use Rattle.std.specs.declared.cmp.Ordering.{Ordering}
 use Rattle.std.specs.Cmp.Lexicographic.{slice_cmp}
 use Rattle.sha2.specs.Sha256.{sha256}
-use Rattle.model.specs.Limits.{hash_size}
+use Rattle.model.specs.Limits.{hash_size, signature_size, network_limit, output_limit, greatest_index}
 use Rattle.model.specs.Cbor.{Item, Unsigned, Bytes, Null, array_of, map_of, text_of, Spells}
 use Rattle.model.specs.Value.{Value, Mint, item_of_value, item_of_assets, item_of_number, IsValue, IsMint}
 use Rattle.model.specs.Script.{Script, Interval, item_of_script, IsScript, script_hash_of}
@@ -99,12 +99,12 @@ payment_hash (KeyHash hash) = hash
 payment_hash (ScriptHash hash) = hash
 
 pub record IsAddress (address : Address) : Type 0 where
-  pub network : address.network < 16
+  pub network : address.network < network_limit
   pub hash : length (payment_hash address.payment) ≡ hash_size
 
 pub record IsInput (input : Input) : Type 0 where
   pub transaction : length input.transaction ≡ hash_size
-  pub index : input.index ≤ 65535
+  pub index : input.index ≤ greatest_index
 
 pub record IsOutput (output : Output) : Type 0 where
   pub address : IsAddress output.address
@@ -112,7 +112,7 @@ pub record IsOutput (output : Output) : Type 0 where
 
 pub record IsKeyWitness (witness : KeyWitness) : Type 0 where
   pub key : length witness.key ≡ hash_size
-  pub signature : length witness.signature ≡ 64
+  pub signature : length witness.signature ≡ signature_size
 
 -- by the bytes of the transaction's identifier, then by the index
 abbrev pub input_cmp : Input → Input → Ordering
@@ -130,7 +130,7 @@ pub record IsTransaction (t : Transaction) : Type 0 where
   pub inputs : AllByRecursion IsInput t.inputs
   pub inputs_rise : IsStrictlySortedBy input_cmp t.inputs
   pub outputs : AllByRecursion IsOutput t.outputs
-  pub outputs_count : length t.outputs ≤ 65536
+  pub outputs_count : length t.outputs ≤ output_limit
   pub mint : IsMint t.mint
   pub signatures : AllByRecursion IsKeyWitness t.signatures
   pub signatures_rise : IsStrictlySortedBy witness_cmp t.signatures

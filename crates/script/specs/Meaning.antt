@@ -4,7 +4,7 @@ use Rattle.std.specs.Prelude.{take, replicate}
 use Rattle.std.specs.Prelude.{Option, Some, None, option_map, option_and_then, Result, Ok, Err, is_some, nat_lt, nat_le}
 use Rattle.std.specs.Prelude.{◌==◌, if◌then◌else◌}
 use Rattle.std.specs.List.{list_all}
-use Rattle.model.specs.Limits.{number_limit}
+use Rattle.model.specs.Limits.{transaction_nesting_limit, number_limit}
 use Rattle.model.specs.Cbor.{nesting}
 use Rattle.model.specs.Script.{Script, SpellsScript, script_hash_of}
 use Rattle.model.specs.Transaction.{Address, Credential, KeyHash, ScriptHash, Transaction, SpellsTransaction}
@@ -201,7 +201,7 @@ bound_raw bytes = record { bytes = bytes; place = None }
 
 -- a transaction nests two items deeper in a block, which nests at most 64 deep
 abbrev pub fits_block : Transaction → Bool
-fits_block tx = nat_le (nesting (item_of_transaction tx)) 62
+fits_block tx = nat_le (nesting (item_of_transaction tx)) transaction_nesting_limit
 
 -- the block, if its number and its slot are below the limit, and its transactions fit
 abbrev pub built : Base → ℕ → List Transaction → Result Bound LineFault

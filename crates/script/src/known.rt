@@ -1,6 +1,7 @@
 //! What the parts of a transaction and the blocks may name.
 
 ghost use Rattle.std.specs.Prelude.{◌<◌};
+ghost use Rattle.model.specs.Limits.{network_limit};
 
 use crate::name_table::NameTable;
 use std::alloc::Global;
@@ -15,5 +16,5 @@ pub struct Known {
     pub keys: NameTable<[u8; 32]>,
     pub scripts: NameTable<Script>,
     pub txs: NameTable<Tx>,
-    pub ghost in_range: { network < 16 },
+    pub ghost in_range: { network < network_limit },
 }

@@ -2,6 +2,7 @@
 
 ghost use Rattle.std.specs.Prelude.{◌≡◌, ◌++◌, ◌↔◌, IsTrue, ℕ, List, length, map, ◌<◌, ◌≤◌, ◌+◌, IfOk, IfErr};
 ghost use Rattle.std.specs.Prelude.{OnOk, OnErr, vec_len, vec_capacity};
+ghost use Rattle.model.specs.Limits.{nesting_limit};
 ghost use Rattle.model.specs.Cbor.{text_of, nesting};
 ghost use Rattle.model.specs.Script as model;
 ghost use Rattle.model.specs.Script.{item_of_script, SpellsScript, script_hash_of, Holds};
@@ -167,7 +168,7 @@ impl Script {
     /// scripts that stand in it. Linear in the script. No memory is taken.
     pub fn nesting(&self) -> usize
         ensures deep { result ≡ nesting (item_of_script self.now) }
-        ensures within { result ≤ 64 }
+        ensures within { result ≤ nesting_limit }
         ensures spelled { SpellsScript self.now (text_of (item_of_script self.now)) }
     {
         nesting_of(&self.timelock)

@@ -2,6 +2,7 @@
 use Rattle.std.specs.Prelude.{ℕ, ◌≤◌, List, [], ◌∷◌, ◌++◌, length, map, Option}
 use Rattle.std.specs.List.{AllByRecursion}
 use Rattle.std.specs.List.Sorted.{IsStrictlySortedBy}
+use Rattle.model.specs.Limits.{output_limit}
 use Rattle.model.specs.Cbor.{Item, Unsigned, array_of}
 use Rattle.model.specs.Script.{Script}
 use Rattle.model.specs.Value.{Mint, item_of_assets, item_of_number, IsMint}
@@ -51,5 +52,5 @@ pub record IsBody (body : Body) : Type 0 where
   pub inputs : AllByRecursion IsInput body.inputs
   pub inputs_rise : IsStrictlySortedBy input_cmp body.inputs
   pub outputs : AllByRecursion IsOutput body.outputs
-  pub outputs_count : length body.outputs ≤ 65536
+  pub outputs_count : length body.outputs ≤ output_limit
   pub mint : IsMint body.mint

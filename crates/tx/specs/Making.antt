@@ -4,6 +4,7 @@ use Rattle.std.specs.Cmp.Lexicographic.{slice_cmp}
 use Rattle.std.specs.List.{AllByRecursion}
 use Rattle.std.specs.List.Sorted.{IsPermutation, IsSortedBy, IsStrictlySortedBy}
 use Rattle.std.specs.Ordering.{is_lt, nat_cmp}
+use Rattle.model.specs.Limits.{script_nesting_limit, output_limit}
 use Rattle.model.specs.Cbor.{nesting, items_of, items_nesting, HasText}
 use Rattle.model.specs.Script.{Script, item_of_script, script_hash_of}
 use Rattle.model.specs.Transaction.{KeyWitness, Transaction, input_cmp, item_of_output, item_of_transaction}
@@ -49,7 +50,7 @@ pub record AreSaid (p : Parts) : Type 0 where
   pub outputs : AllByRecursion IsSaidOutput p.outputs
   pub outputs_nest : items_nesting (items_of (map item_of_output p.outputs)) ≤ 5
   pub scripts : AllByRecursion IsSaidScript p.scripts
-  pub scripts_nest : items_nesting (items_of (map item_of_script p.scripts)) ≤ 61
+  pub scripts_nest : items_nesting (items_of (map item_of_script p.scripts)) ≤ script_nesting_limit
   pub mint : IsMint p.mint
   pub mint_text : HasText (item_of_assets item_of_number p.mint)
   pub mint_nests : nesting (item_of_assets item_of_number p.mint) ≤ 3
@@ -57,7 +58,7 @@ pub record AreSaid (p : Parts) : Type 0 where
 -- parts without a fault
 pub record AreSound (p : Parts) : Type 0 where
   pub inputs_rise : IsStrictlySortedBy input_cmp p.inputs
-  pub outputs_count : length p.outputs ≤ 65536
+  pub outputs_count : length p.outputs ≤ output_limit
   pub keys_rise : IsStrictlySortedBy (slice_cmp nat_cmp) (keys_of p)
   pub hashes_rise : IsStrictlySortedBy (slice_cmp nat_cmp) (hashes_of p)
   pub said : AreSaid p

@@ -5,6 +5,7 @@ use Rattle.std.specs.Cmp.Lexicographic.{slice_cmp}
 use Rattle.std.specs.List.{Any}
 use Rattle.std.specs.List.Sorted.{IsPermutation}
 use Rattle.std.specs.Ordering.{nat_cmp}
+use Rattle.model.specs.Limits.{script_nesting_limit, output_limit}
 use Rattle.model.specs.Cbor.{nesting}
 use Rattle.model.specs.Script.{Script, Interval, item_of_script, script_hash_of}
 use Rattle.model.specs.Transaction.{Input, Output, KeyWitness, Transaction, interval_of_transaction, input_cmp}
@@ -49,7 +50,7 @@ HasRepeatedInput p = (input : Input) × IsRepeated same_input p.inputs input
 
 -- there are more outputs than an index can name
 abbrev pub HasManyOutputs : Parts → Type 0
-HasManyOutputs p = 65536 < length p.outputs
+HasManyOutputs p = output_limit < length p.outputs
 
 -- a key signed more than once
 abbrev pub HasRepeatedKey : Parts → Type 0
@@ -61,7 +62,7 @@ HasRepeatedScript p = (hash : List ℕ) × IsRepeated bytes_eq (hashes_of p) has
 
 -- the text of a script nests too deep to stand in a transaction's
 abbrev pub HasDeepScript : Parts → Type 0
-HasDeepScript p = Any (λ script. 61 < nesting (item_of_script script)) p.scripts
+HasDeepScript p = Any (λ script. script_nesting_limit < nesting (item_of_script script)) p.scripts
 
 -- inputs and outputs are not at fault
 pub record AreEndsSound (p : Parts) : Type 0 where

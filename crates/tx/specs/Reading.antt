@@ -4,7 +4,7 @@ use Rattle.std.specs.Prelude.{ℕ, ◌/◌, ◌%◌, List, [], ◌∷◌, length
 use Rattle.cbor.specs.Reading.{◌>>=◌, fixed_at}
 use Rattle.cbor.specs.Shapes.{Reading, made_at, such_at, as_at, bounded_at, both_at, array_at, list_array_at}
 use Rattle.cbor.specs.Shapes.{nonempty_at}
-use Rattle.model.specs.Limits.{hash_size}
+use Rattle.model.specs.Limits.{hash_size, signature_size, output_limit}
 use Rattle.model.specs.Value.{Value}
 use Rattle.model.specs.Transaction.{Credential, KeyHash, ScriptHash, Address, Input, Output, KeyWitness}
 use Rattle.model.specs.Transaction.{input_cmp, witness_cmp}
@@ -19,7 +19,7 @@ input_with parts = record { transaction = parts.0; index = parts.1 }
 
 -- an input: an array of the transaction's identifier and the index
 unfoldable pub input_at : Reading Input
-input_at bytes = as_at input_with (array_at 2 (both_at (fixed_at hash_size) (bounded_at 65536))) bytes
+input_at bytes = as_at input_with (array_at 2 (both_at (fixed_at hash_size) (bounded_at output_limit))) bytes
 
 -- inputs that rise strictly
 unfoldable pub inputs_at : Reading (List Input)
@@ -55,7 +55,7 @@ output_at bytes = as_at output_with (array_at 2 (both_at address_at value_at)) b
 
 -- outputs, not too many
 unfoldable pub outputs_at : Reading (List Output)
-outputs_at bytes = such_at (λ outputs. nat_le (length outputs) 65536) (list_array_at output_at) bytes
+outputs_at bytes = such_at (λ outputs. nat_le (length outputs) output_limit) (list_array_at output_at) bytes
 
 -- ---- signatures
 
@@ -65,7 +65,7 @@ witness_with parts = record { key = parts.0; signature = parts.1 }
 
 -- a signature: an array of the key and what it signed with
 unfoldable pub witness_at : Reading KeyWitness
-witness_at bytes = as_at witness_with (array_at 2 (both_at (fixed_at hash_size) (fixed_at 64))) bytes
+witness_at bytes = as_at witness_with (array_at 2 (both_at (fixed_at hash_size) (fixed_at signature_size))) bytes
 
 -- signatures whose keys rise strictly, one at least
 unfoldable pub signatures_at : Reading (List KeyWitness)

@@ -3,6 +3,7 @@ use Rattle.std.specs.Prelude.{ℕ, ◌-◌, min, List, [], Option, Some, None}
 use Rattle.cbor.specs.Reading.{◌>>=◌, null_at}
 use Rattle.cbor.specs.Shapes.{Reading, FieldsReading, such_at, as_at, both_at, array_at, list_array_at, nonempty_at}
 use Rattle.cbor.specs.Shapes.{optional_field_at, fields_at, as_fields_at, record_at}
+use Rattle.model.specs.Limits.{nesting_limit}
 use Rattle.model.specs.Script.{Script}
 use Rattle.model.specs.Transaction.{KeyWitness, Transaction, script_cmp}
 use Rattle.timelock.specs.Reading.{nested_script_at}
@@ -50,4 +51,4 @@ transaction_at depth bytes =
 -- a transaction none of whose scripts, which stand three deep in it, reaches deeper than this, nor deeper than any item
 -- may; what else is in it nests at most eight deep, and is not held against a lower number
 unfoldable pub nested_transaction_at : ℕ → Reading Transaction
-nested_transaction_at depth bytes = transaction_at (min depth 64 - 3) bytes
+nested_transaction_at depth bytes = transaction_at (min depth nesting_limit - 3) bytes

@@ -1,6 +1,7 @@
 //! Enterprise addresses (Shelley, 4.2): who may spend an output.
 
 ghost use Rattle.std.specs.Prelude.{◌≡◌, ◌↔◌, ◌<◌, length, option_map, IfSome, IfNone, IsSome};
+ghost use Rattle.model.specs.Limits.{network_limit};
 ghost use Rattle.model.specs.Transaction as model;
 ghost use Rattle.model.specs.Transaction.{address_bytes, IsAddress};
 
@@ -32,7 +33,7 @@ pub enum Credential {
 pub struct Address {
     network: u8,
     payment: Credential,
-    ghost in_range: { network < 16 },
+    ghost in_range: { network < network_limit },
 }
 
 impl Address {
@@ -43,7 +44,7 @@ impl Address {
     pub fn new(network: u8, payment: Credential) -> Option<Address>
         ensures some { IfSome result (λ address.
             address_of address ≡ record { network = network; payment = credential_of payment }) }
-        ensures range { IsSome result ↔ (network < 16) }
+        ensures range { IsSome result ↔ (network < network_limit) }
     {
         if network >= NETWORK_LIMIT {
             return None;
@@ -54,7 +55,7 @@ impl Address {
     /// The network, 0 to 15.
     pub fn network(&self) -> u8
         ensures is { result ≡ (address_of self.now).network }
-        ensures range { result < 16 }
+        ensures range { result < network_limit }
     {
         self.network
     }

@@ -1,6 +1,7 @@
 //! Inputs: what a transaction spends.
 
 ghost use Rattle.std.specs.Prelude.{◌≡◌, ◌<◌, ◌≤◌, ◌+◌, ◌++◌, length, option_map, OnOk, OnErr, vec_len, vec_capacity};
+ghost use Rattle.model.specs.Limits.{greatest_index};
 ghost use Rattle.model.specs.Cbor.{text_of};
 ghost use Rattle.model.specs.Transaction as model;
 ghost use Rattle.model.specs.Transaction.{item_of_input};
@@ -17,7 +18,7 @@ pub struct Input {
     pub transaction: TxId,
     /// The place of the output among those of its transaction, from 0 on.
     pub index: u16,
-    pub ghost in_range: { index ≤ 65535 },
+    pub ghost in_range: { index ≤ greatest_index },
 }
 
 impl Input {

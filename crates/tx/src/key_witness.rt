@@ -2,6 +2,7 @@
 
 ghost use Rattle.std.specs.Prelude.{◌≡◌, ◌<◌, ◌≤◌, ◌+◌, ◌++◌, ℕ, length, slice_index, option_map};
 ghost use Rattle.std.specs.Prelude.{OnOk, OnErr, vec_len, vec_capacity};
+ghost use Rattle.model.specs.Limits.{hash_size, signature_size};
 ghost use Rattle.model.specs.Cbor.{text_of};
 ghost use Rattle.model.specs.Transaction as model;
 ghost use Rattle.model.specs.Transaction.{item_of_witness, key_hash_of};
@@ -18,9 +19,9 @@ pub struct KeyWitness {
     pub key: [u8; 32],
     /// What the key made of the identifier.
     pub signature: [u8; 64],
-    pub ghost key_sized: { length key ≡ 32 },
+    pub ghost key_sized: { length key ≡ hash_size },
     pub ghost key_fits: { (i : ℕ) → slice_index key i < 256 },
-    pub ghost signature_sized: { length signature ≡ 64 },
+    pub ghost signature_sized: { length signature ≡ signature_size },
     pub ghost signature_fits: { (i : ℕ) → slice_index signature i < 256 },
 }
 

@@ -2,6 +2,7 @@
 
 ghost use Rattle.std.specs.Prelude.{◌≡◌, ◌≤◌, map};
 ghost use Rattle.std.specs.List.{AllByRecursion};
+ghost use Rattle.model.specs.Limits.{nesting_limit};
 ghost use Rattle.model.specs.Cbor.{nesting, items_nesting, items_of};
 ghost use Rattle.model.specs.Script.{item_of_script};
 ghost use Rattle.model.specs.Transaction.{item_of_input, item_of_output};
@@ -46,7 +47,7 @@ pub fn outputs_nesting(outputs: &[Output]) -> usize
 /// them.
 pub fn scripts_nesting(scripts: &[Script]) -> usize
     ensures deep { result ≡ items_nesting (items_of (map item_of_script scripts.now)) }
-    ensures within { result ≤ 64 }
+    ensures within { result ≤ nesting_limit }
     ensures said { AllByRecursion IsSaidScript scripts.now }
 {
     let mut deepest: usize = 0;

@@ -2,6 +2,7 @@
 
 ghost use Rattle.std.specs.Prelude.{◌≡◌, ◌++◌, ℕ, List, length, map, ◌<◌, ◌≤◌, ◌+◌, IfOk, IfErr, OnOk, OnErr};
 ghost use Rattle.std.specs.Prelude.{vec_len, vec_capacity};
+ghost use Rattle.model.specs.Limits.{nesting_limit, script_nesting_limit};
 ghost use Rattle.model.specs.Cbor.{text_of, nesting};
 ghost use Rattle.model.specs.Transaction as model;
 ghost use Rattle.model.specs.Transaction.{item_of_transaction, SpellsTransaction, transaction_id_of, size_of};
@@ -63,7 +64,7 @@ impl Tx {
     /// The transaction that stands first, each of whose scripts nests at most `depth` deep, and the bytes after it.
     #[tactic(auto, unfolding(crate::specs::TransactionReading::transaction_at, crate::specs::TransactionReading::nothing_more_at, cbor::specs::Shapes::as_at, cbor::specs::Shapes::array_at, cbor::specs::Shapes::both_at))]
     fn first(alloc: Global, depth: usize, bytes: &[u8]) -> Result<(Tx, &[u8]), CborFault>
-        requires { depth ≤ 61 }
+        requires { depth ≤ script_nesting_limit }
         ensures exact { Gives (λ x. (x.0, x.1.now)) result (transaction_at depth bytes.now) }
         ensures want { IfErr result (λ fault. IfWant fault
             (GivesNo (λ x. IsBare x.0) (transaction_at depth bytes.now))) }
@@ -239,7 +240,7 @@ impl Tx {
     /// items deeper. Linear in the outputs and the scripts. No memory is taken.
     pub fn nesting(&self) -> usize
         ensures deep { result ≡ nesting (item_of_transaction self.now) }
-        ensures within { result ≤ 64 }
+        ensures within { result ≤ nesting_limit }
         // The transaction has a text, whose nesting that is.
         ensures spelled { SpellsTransaction self.now (text_of (item_of_transaction self.now)) }
     {

@@ -1,6 +1,7 @@
 //! What a transaction makes of the unspent outputs.
 
 ghost use Rattle.std.specs.Prelude.{◌≡◌, ◌≤◌, ◌+◌, ℕ, map, length, None, IfOk, OnOk, OnErr};
+ghost use Rattle.model.specs.Limits.{output_limit};
 ghost use Rattle.model.specs.Signature.{Verifies};
 ghost use Rattle.model.specs.Utxo.{utxo_after, without, with_pairs, pairs_from, outputs_of, coin_of};
 ghost use Rattle.model.specs.Rules as rules;
@@ -44,7 +45,7 @@ fn take_all(utxo: &mut Utxo, inputs: &[Input]) -> Result<Vec<Pair>, AllocError>
 
 /// Puts in the outputs of the transaction with this identifier, counted from 0 on.
 fn place(utxo: &mut Utxo, id: TxId, outputs: &[Output]) -> Result<(), AllocError>
-    requires { length outputs.now ≤ 65536 }
+    requires { length outputs.now ≤ output_limit }
     ensures { OnOk result (utxo.new ≡ with_pairs (pairs_from id.bytes 0 (map output_of outputs.now)) utxo.old) }
 {
     for (index, output) in outputs.iter().enumerate() {

@@ -19,6 +19,7 @@ pub struct Diff {
 
 impl Model for Diff {
     ghost use Rattle.std.specs.Prelude.{◌≤◌};
+    ghost use Rattle.model.specs.Limits.{output_limit};
     ghost use Rattle.utxo_rules.specs.Diffs as diffs;
     ghost use Rattle.utxo_rules.specs.Diffs.{coded_diff, places_from};
 
@@ -28,7 +29,7 @@ impl Model for Diff {
 
     ghost view = { λ d. record { spent = d.spent.items; made = places_from d.id.bytes 0 d.count; fee = d.fee } };
 
-    ghost invariant = { λ d. d.count ≤ 65536 };
+    ghost invariant = { λ d. d.count ≤ output_limit };
 }
 
 impl Diff {

@@ -17,6 +17,7 @@ pub struct Place {
 
 impl Model for Place {
     ghost use Rattle.std.specs.Prelude.{◌≤◌};
+    ghost use Rattle.model.specs.Limits.{greatest_index};
     ghost use Rattle.model.specs.Transaction.{Input};
     ghost use Rattle.model.specs.Codes.{coded_input};
 
@@ -26,7 +27,7 @@ impl Model for Place {
 
     ghost view = { λ p. record { transaction = p.transaction; index = p.index } };
 
-    ghost invariant = { λ p. p.index ≤ 65535 };
+    ghost invariant = { λ p. p.index ≤ greatest_index };
 
     ghost inverse = { λ i. record { transaction = i.transaction; index = i.index } };
 }

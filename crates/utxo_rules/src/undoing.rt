@@ -1,6 +1,7 @@
 //! How what a transaction changed is undone.
 
 ghost use Rattle.std.specs.Prelude.{◌≡◌, ◌≤◌, true, IfOk, OnOk, OnErr};
+ghost use Rattle.model.specs.Limits.{output_limit};
 ghost use Rattle.model.specs.Transaction.{Transaction};
 ghost use Rattle.model.specs.Utxo.{Utxo, utxo_after, without, with_pairs};
 ghost use Rattle.model.specs.Rules.{has_free_places};
@@ -16,7 +17,7 @@ use tx::Input;
 
 /// Takes out what stands at so many places of the transaction with this identifier, counted from 0 on.
 fn take_places(utxo: &mut Utxo, id: TxId, count: usize) -> Result<(), AllocError>
-    requires { count ≤ 65536 }
+    requires { count ≤ output_limit }
     ensures { OnOk result (utxo.new ≡ without (places_from id.bytes 0 count) utxo.old) }
 {
     for index in 0..count {
