@@ -6,7 +6,8 @@ use Rattle.std.specs.Prelude.{Result, Ok, sum_by}
 use Rattle.std.specs.Result.{result_ok}
 use Rattle.hex.specs.Hex.{decode_sized}
 use Rattle.toml.specs.Parse.{parse_document}
-use Rattle.model.specs.Limits.{number_limit}
+use Rattle.model.specs.Limits.{greatest_network, number_limit, greatest_number, k_limit, fee_rate_limit, coin_limit}
+use Rattle.model.specs.Limits.{tx_size_limit, body_size_limit, volatile_limit, mempool_limit, grant_count_limit}
 use Rattle.model.specs.Transaction.{Address, KeyHash, key_hash_of}
 use Rattle.model.specs.Rules.{SecondEra, Params}
 use Rattle.model.specs.Genesis.{Genesis, Grant}
@@ -26,8 +27,8 @@ within least most (negsuc n) = None
 -- the numbers of a second era, in their ranges
 unfoldable pub era_of : EraNumbers → Option SecondEra
 era_of numbers = do
-  first_slot ← within 1 9223372036854775807 numbers.first_slot
-  per_asset ← within 0 1000000000000 numbers.per_asset
+  first_slot ← within 1 greatest_number numbers.first_slot
+  per_asset ← within 0 coin_limit numbers.per_asset
   Some (record { first_slot = first_slot; per_asset = per_asset })
 
 -- where they are written
@@ -44,15 +45,15 @@ pub record Settings : Type 0 where
 
 unfoldable pub settings_of : Numbers → Option Settings
 settings_of numbers = do
-  network ← within 0 15 numbers.network
-  k ← within 1 10000 numbers.k
-  min_fee_a ← within 0 1000000 numbers.min_fee_a
-  min_fee_b ← within 0 1000000000000 numbers.min_fee_b
-  min_utxo ← within 0 1000000000000 numbers.min_utxo
-  max_tx_size ← within 1 65536 numbers.max_tx_size
-  max_body_size ← within 1 1048000 numbers.max_body_size
-  max_volatile ← within 1 100000 numbers.max_volatile
-  max_mempool ← within 1 100000 numbers.max_mempool
+  network ← within 0 greatest_network numbers.network
+  k ← within 1 k_limit numbers.k
+  min_fee_a ← within 0 fee_rate_limit numbers.min_fee_a
+  min_fee_b ← within 0 coin_limit numbers.min_fee_b
+  min_utxo ← within 0 coin_limit numbers.min_utxo
+  max_tx_size ← within 1 tx_size_limit numbers.max_tx_size
+  max_body_size ← within 1 body_size_limit numbers.max_body_size
+  max_volatile ← within 1 volatile_limit numbers.max_volatile
+  max_mempool ← within 1 mempool_limit numbers.max_mempool
   second_era ← era_if_written numbers.second_era
   Some (record {
     params = record {
@@ -104,7 +105,7 @@ placed_of network entry = do
 -- what is granted, which is something, and no more than there may be of all, 2^63 - 1
 abbrev pub grant_of : Placed → Option Grant
 grant_of placed = do
-  coin ← within 1 9223372036854775807 placed.coin
+  coin ← within 1 greatest_number placed.coin
   Some (record { address = placed.address; coin = coin })
 
 -- what is granted, where all of it is less than 2^63
@@ -118,7 +119,7 @@ grants_of placed = each grant_of placed >>= limited
 
 -- one grant at least, and 10,000 at most
 abbrev pub counted : List Grant → Option (List Grant)
-counted grants = if nat_le 1 (length grants) && nat_le (length grants) 10000 then Some grants else None
+counted grants = if nat_le 1 (length grants) && nat_le (length grants) grant_count_limit then Some grants else None
 
 abbrev pub genesis_with : Settings → List Grant → Genesis
 genesis_with settings grants =

@@ -8,6 +8,8 @@ use Rattle.toml.specs.Data.{Members}
 use Rattle.toml.specs.Parse.{parse_document}
 use Rattle.model.specs.Transaction.{Address, KeyHash, key_hash_of, address_bytes, IsAddress}
 use Rattle.model.specs.Rules.{SecondEra}
+use Rattle.model.specs.Limits.{greatest_network, greatest_number, k_limit, fee_rate_limit, coin_limit, tx_size_limit}
+use Rattle.model.specs.Limits.{body_size_limit, volatile_limit, mempool_limit, grant_count_limit}
 use Rattle.model.specs.Genesis.{Genesis, Grant, IsWithin, IsGenesis}
 use Rattle.model.specs.First.{IsFirst}
 use Rattle.genesis.specs.declared.genesis_fault.GenesisFault.{GenesisFault}
@@ -44,19 +46,19 @@ pub record IsInRange (least most : ℕ) (number : ℤ) : Type 0 where
   pub not_above : number ≤ℤ pos most
 
 pub record AreOfSecondEra (numbers : EraNumbers) : Type 0 where
-  pub first_slot : IsInRange 1 9223372036854775807 numbers.first_slot
-  pub per_asset : IsInRange 0 1000000000000 numbers.per_asset
+  pub first_slot : IsInRange 1 greatest_number numbers.first_slot
+  pub per_asset : IsInRange 0 coin_limit numbers.per_asset
 
 pub record AreInRange (numbers : Numbers) : Type 0 where
-  pub network : IsInRange 0 15 numbers.network
-  pub k : IsInRange 1 10000 numbers.k
-  pub min_fee_a : IsInRange 0 1000000 numbers.min_fee_a
-  pub min_fee_b : IsInRange 0 1000000000000 numbers.min_fee_b
-  pub min_utxo : IsInRange 0 1000000000000 numbers.min_utxo
-  pub max_tx_size : IsInRange 1 65536 numbers.max_tx_size
-  pub max_body_size : IsInRange 1 1048000 numbers.max_body_size
-  pub max_volatile : IsInRange 1 100000 numbers.max_volatile
-  pub max_mempool : IsInRange 1 100000 numbers.max_mempool
+  pub network : IsInRange 0 greatest_network numbers.network
+  pub k : IsInRange 1 k_limit numbers.k
+  pub min_fee_a : IsInRange 0 fee_rate_limit numbers.min_fee_a
+  pub min_fee_b : IsInRange 0 coin_limit numbers.min_fee_b
+  pub min_utxo : IsInRange 0 coin_limit numbers.min_utxo
+  pub max_tx_size : IsInRange 1 tx_size_limit numbers.max_tx_size
+  pub max_body_size : IsInRange 1 body_size_limit numbers.max_body_size
+  pub max_volatile : IsInRange 1 volatile_limit numbers.max_volatile
+  pub max_mempool : IsInRange 1 mempool_limit numbers.max_mempool
   pub second_era : IfSome numbers.second_era AreOfSecondEra
 
 -- 66 digits are the address's 33 bytes
@@ -91,7 +93,7 @@ sum_of_coins (entry ∷ entries) = entry.coin +ℤ sum_of_coins entries
 -- each output has something, and all together have at most 2^63 - 1
 pub record HaveCoins (outputs : List Entry) : Type 0 where
   pub something : AllByRecursion (λ entry. pos 1 ≤ℤ entry.coin) outputs
-  pub total : sum_of_coins outputs ≤ℤ pos 9223372036854775807
+  pub total : sum_of_coins outputs ≤ℤ pos greatest_number
 
 -- ---- the genesis
 
@@ -141,7 +143,7 @@ Applies text faults.OutOfRange = WritesWithout text (λ written. AreInRange writ
 Applies text faults.BadAddress =
     WritesWithout text (λ written. AllByRecursion (HasAddress written.numbers.network) written.outputs)
 Applies text faults.BadCoin = WritesWithout text (λ written. HaveCoins written.outputs)
-Applies text faults.BadOutputs = WritesWithout text (λ written. IsWithin 1 10000 (length written.outputs))
+Applies text faults.BadOutputs = WritesWithout text (λ written. IsWithin 1 grant_count_limit (length written.outputs))
 Applies text faults.OutOfMemory = ⊥
 
 -- it applies, and none of a lesser number does

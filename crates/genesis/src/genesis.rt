@@ -3,6 +3,7 @@
 ghost use Rattle.std.specs.Prelude.{◌≡◌, map, IfOk, IfSome, option_map, ok_or};
 ghost use Rattle.toml.specs.Parse.{parse_document};
 ghost use Rattle.toml.specs.View.{table_view};
+ghost use Rattle.model.specs.Limits.{greatest_network, k_limit, tx_size_limit, body_size_limit};
 ghost use Rattle.model.specs.Genesis as model;
 ghost use Rattle.model.specs.Genesis.{supply_of, IsGenesis, IsSecondEra, IsWithin};
 ghost use Rattle.genesis.specs.declared.genesis_fault.GenesisFault.TheVariants.{NotToml};
@@ -97,7 +98,7 @@ impl Genesis {
     /// The network, 0 to 15.
     pub fn network(&self) -> u8
         ensures is { result ≡ self.now.params.network }
-        ensures range { IsWithin 0 15 result }
+        ensures range { IsWithin 0 greatest_network result }
     {
         self.settings.network
     }
@@ -105,7 +106,7 @@ impl Genesis {
     /// How many blocks of the selected chain may be rolled back, 1 to 10,000.
     pub fn k(&self) -> u64
         ensures k { result ≡ self.now.k }
-        ensures range { IsWithin 1 10000 result }
+        ensures range { IsWithin 1 k_limit result }
     {
         self.settings.k
     }
@@ -135,7 +136,7 @@ impl Genesis {
     /// How many bytes a transaction has at most, 1 to 65,536.
     pub fn max_tx_size(&self) -> u64
         ensures size { result ≡ self.now.params.max_tx_size }
-        ensures range { IsWithin 1 65536 result }
+        ensures range { IsWithin 1 tx_size_limit result }
     {
         self.settings.max_tx_size
     }
@@ -143,7 +144,7 @@ impl Genesis {
     /// How many bytes the body of a block has at most, 1 to 1,048,000.
     pub fn max_body_size(&self) -> u64
         ensures size { result ≡ self.now.params.max_body_size }
-        ensures range { IsWithin 1 1048000 result }
+        ensures range { IsWithin 1 body_size_limit result }
     {
         self.settings.max_body_size
     }

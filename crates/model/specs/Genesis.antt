@@ -3,7 +3,9 @@
 use Rattle.std.specs.Prelude.{◌≡◌, ℕ, ◌≤◌, ◌<◌, List, [], length, map, replicate, sum_by, IfSome}
 use Rattle.std.specs.List.{AllByRecursion}
 use Rattle.std.specs.FinMap as finite
-use Rattle.model.specs.Limits.{hash_size, number_limit}
+use Rattle.model.specs.Limits.{hash_size, greatest_network, number_limit, greatest_number, k_limit, fee_rate_limit}
+use Rattle.model.specs.Limits.{coin_limit, tx_size_limit, body_size_limit, volatile_limit, mempool_limit}
+use Rattle.model.specs.Limits.{grant_count_limit}
 use Rattle.model.specs.Transaction.{Address, Input, Output, IsAddress}
 use Rattle.model.specs.Utxo.{Utxo, pairs_from, with_pairs}
 use Rattle.model.specs.Rules.{Params, SecondEra}
@@ -33,16 +35,16 @@ pub record IsWithin (least most number : ℕ) : Type 0 where
 
 -- it does not begin with the genesis, whose slot is 0, and it begins at a slot that a block may have
 pub record IsSecondEra (era : SecondEra) : Type 0 where
-  pub first_slot : IsWithin 1 9223372036854775807 era.first_slot
-  pub per_asset : IsWithin 0 1000000000000 era.per_asset
+  pub first_slot : IsWithin 1 greatest_number era.first_slot
+  pub per_asset : IsWithin 0 coin_limit era.per_asset
 
 pub record IsParams (params : Params) : Type 0 where
-  pub network : IsWithin 0 15 params.network
-  pub min_fee_a : IsWithin 0 1000000 params.min_fee_a
-  pub min_fee_b : IsWithin 0 1000000000000 params.min_fee_b
-  pub min_utxo : IsWithin 0 1000000000000 params.min_utxo
-  pub max_tx_size : IsWithin 1 65536 params.max_tx_size
-  pub max_body_size : IsWithin 1 1048000 params.max_body_size
+  pub network : IsWithin 0 greatest_network params.network
+  pub min_fee_a : IsWithin 0 fee_rate_limit params.min_fee_a
+  pub min_fee_b : IsWithin 0 coin_limit params.min_fee_b
+  pub min_utxo : IsWithin 0 coin_limit params.min_utxo
+  pub max_tx_size : IsWithin 1 tx_size_limit params.max_tx_size
+  pub max_body_size : IsWithin 1 body_size_limit params.max_body_size
   pub second_era : IfSome params.second_era IsSecondEra
 
 -- it grants something, at an address of this network
@@ -53,12 +55,12 @@ pub record IsGrant (network : ℕ) (grant : Grant) : Type 0 where
 
 pub record IsGenesis (genesis : Genesis) : Type 0 where
   pub ranges : IsParams genesis.params
-  pub k : IsWithin 1 10000 genesis.k
-  pub max_volatile : IsWithin 1 100000 genesis.max_volatile
-  pub max_mempool : IsWithin 1 100000 genesis.max_mempool
+  pub k : IsWithin 1 k_limit genesis.k
+  pub max_volatile : IsWithin 1 volatile_limit genesis.max_volatile
+  pub max_mempool : IsWithin 1 mempool_limit genesis.max_mempool
   pub each_grant : AllByRecursion (IsGrant genesis.params.network) genesis.grants
   pub supply : supply_of genesis < number_limit
-  pub count : IsWithin 1 10000 (length genesis.grants)
+  pub count : IsWithin 1 grant_count_limit (length genesis.grants)
 
 -- ---- the opening of the chain
 
