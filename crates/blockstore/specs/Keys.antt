@@ -5,6 +5,7 @@ use Rattle.std.specs.Option.{option_cmp}
 use Rattle.std.specs.Cmp.Lexicographic.{slice_cmp}
 use Rattle.std.specs.declared.cmp.Ordering.{Ordering}
 use Rattle.std.specs.BTreeMap.{BTreeMap, get}
+use Rattle.model.specs.Limits.{hash_size}
 use Rattle.model.specs.Block.{Block, block_hash_of}
 use Rattle.blockstore.specs.Stored.{Stored}
 use Rattle.blockstore.specs.declared.keys.Link.{Link}
@@ -24,7 +25,7 @@ age_cmp a b = ordering_then (nat_cmp a.number b.number) (slice_cmp nat_cmp a.has
 
 -- 32 bytes
 abbrev pub IsSized : List ℕ → Type 0
-IsSized hash = (length hash ≡ 32) × ((i : ℕ) → slice_index hash i < 256)
+IsSized hash = (length hash ≡ hash_size) × ((i : ℕ) → slice_index hash i < 256)
 
 -- the link names the block, and the one that it follows, if it follows one
 abbrev pub IsLinkOf : Block → Link → Type 0

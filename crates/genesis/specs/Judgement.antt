@@ -6,8 +6,9 @@ use Rattle.std.specs.Prelude.{Result, Ok, sum_by}
 use Rattle.std.specs.Result.{result_ok}
 use Rattle.hex.specs.Hex.{decode_sized}
 use Rattle.toml.specs.Parse.{parse_document}
-use Rattle.model.specs.Limits.{greatest_network, number_limit, greatest_number, k_limit, fee_rate_limit, coin_limit}
-use Rattle.model.specs.Limits.{tx_size_limit, body_size_limit, volatile_limit, mempool_limit, grant_count_limit}
+use Rattle.model.specs.Limits.{hash_size, greatest_network, number_limit, greatest_number, k_limit, fee_rate_limit}
+use Rattle.model.specs.Limits.{coin_limit, tx_size_limit, body_size_limit, volatile_limit, mempool_limit}
+use Rattle.model.specs.Limits.{grant_count_limit}
 use Rattle.model.specs.Transaction.{Address, KeyHash, key_hash_of}
 use Rattle.model.specs.Rules.{SecondEra, Params}
 use Rattle.model.specs.Genesis.{Genesis, Grant}
@@ -87,7 +88,7 @@ address_of_lock network (ByAddress text) = do
   address ← address_of_bytes bytes
   on_network network address
 address_of_lock network (ByKey text) = do
-  key ← decoded text 32
+  key ← decoded text hash_size
   Some (record { network = network; payment = KeyHash (key_hash_of key) })
 
 -- an output whose address is known

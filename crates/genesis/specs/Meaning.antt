@@ -8,8 +8,8 @@ use Rattle.toml.specs.Data.{Members}
 use Rattle.toml.specs.Parse.{parse_document}
 use Rattle.model.specs.Transaction.{Address, KeyHash, key_hash_of, address_bytes, IsAddress}
 use Rattle.model.specs.Rules.{SecondEra}
-use Rattle.model.specs.Limits.{greatest_network, greatest_number, k_limit, fee_rate_limit, coin_limit, tx_size_limit}
-use Rattle.model.specs.Limits.{body_size_limit, volatile_limit, mempool_limit, grant_count_limit}
+use Rattle.model.specs.Limits.{hash_size, greatest_network, greatest_number, k_limit, fee_rate_limit, coin_limit}
+use Rattle.model.specs.Limits.{tx_size_limit, body_size_limit, volatile_limit, mempool_limit, grant_count_limit}
 use Rattle.model.specs.Genesis.{Genesis, Grant, IsWithin, IsGenesis}
 use Rattle.model.specs.First.{IsFirst}
 use Rattle.genesis.specs.declared.genesis_fault.GenesisFault.{GenesisFault}
@@ -69,7 +69,7 @@ pub record IsAddressText (text : List ℕ) (address : Address) : Type 0 where
 -- 64 digits are a key's 32 bytes, and the key's hash unlocks the address
 pub record IsKeyText (text : List ℕ) (address : Address) : Type 0 where
   pub key : List ℕ
-  pub digits : decode_sized text 32 ≡ Ok key
+  pub digits : decode_sized text hash_size ≡ Ok key
   pub hash : address.payment ≡ KeyHash (key_hash_of key)
 
 abbrev pub IsLockText : Lock → Address → Type 0

@@ -3,6 +3,7 @@ use Rattle.std.specs.Prelude.{ℕ, ◌/◌, ◌%◌, List, length, Result, Ok, E
 use Rattle.hex.specs.Hex.{decode_pairs}
 use Rattle.hex.specs.declared.error.FromHexError.{FromHexError}
 use Rattle.hex.specs.declared.error.FromHexError.TheVariants as hex
+use Rattle.model.specs.Limits.{hash_size}
 use Rattle.ident.specs.declared.fault.IdentFault.{IdentFault}
 use Rattle.ident.specs.declared.fault.IdentFault.TheVariants.{WrongLength, OddDigits, NotADigit}
 
@@ -13,7 +14,7 @@ seen view (Err e) = Err e
 
 -- the bytes, if there are 32
 abbrev pub sized : List ℕ → Result (List ℕ) IdentFault
-sized bytes = if length bytes == 32 then Ok bytes else Err (WrongLength (length bytes))
+sized bytes = if length bytes == hash_size then Ok bytes else Err (WrongLength (length bytes))
 
 -- the answer for pairs of digits, of which the first character that is no digit is told
 abbrev pub from_pairs : Result (List ℕ) FromHexError → Result (List ℕ) IdentFault
@@ -27,5 +28,5 @@ from_pairs (Err hex.OutOfMemory) = Err OddDigits
 abbrev pub read_hex : List ℕ → Result (List ℕ) IdentFault
 read_hex text =
     if (length text % 2) == 1 then Err OddDigits
-    else if (length text / 2) == 32 then from_pairs (decode_pairs 0 text)
+    else if (length text / 2) == hash_size then from_pairs (decode_pairs 0 text)
     else Err (WrongLength (length text / 2))

@@ -2,6 +2,7 @@
 
 ghost use Rattle.std.specs.Prelude.{◌≡◌, ◌<◌, ◌∷◌, ℕ, ⊤, length, slice_index};
 ghost use Rattle.sha2.specs.Sha256.{sha256};
+ghost use Rattle.model.specs.Limits.{hash_size};
 
 use crate::digest;
 use crate::fault::IdentFault;
@@ -16,7 +17,7 @@ pub struct Id<Kind> {
     pub bytes: [u8; 32],
     #[derive_where(skip)]
     kind: PhantomData<Kind>,
-    pub ghost sized: { length bytes ≡ 32 },
+    pub ghost sized: { length bytes ≡ hash_size },
     pub ghost fits: { (i : ℕ) → slice_index bytes i < 256 },
 }
 

@@ -13,11 +13,12 @@ pub struct Point {
 
 impl Point {
     ghost use Rattle.std.specs.Prelude.{◌≡◌, replicate};
+    ghost use Rattle.model.specs.Limits.{hash_size};
 
     /// The point before the first block: number 0, and a hash of 32 zero bytes.
     pub fn genesis() -> Point
         ensures number { result.number ≡ 0 }
-        ensures hash { result.hash.bytes ≡ replicate 32 0 }
+        ensures hash { result.hash.bytes ≡ replicate hash_size 0 }
     {
         Point {
             number: 0,

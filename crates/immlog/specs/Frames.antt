@@ -3,6 +3,7 @@ use Rattle.std.specs.Prelude.{◌≡◌, ◌≢◌, ℕ, ◌+◌, ◌≤◌, Lis
 use Rattle.std.specs.List.{AllByRecursion}
 use Rattle.std.specs.Int.{w32, to_be_bytes}
 use Rattle.sha2.specs.Sha256.{sha256}
+use Rattle.model.specs.Limits.{hash_size}
 use Rattle.model.specs.Log.{IsLogBlock, body_of, IsClosed}
 
 -- the records that have these blocks and these digests, one after the other, and then more bytes
@@ -21,7 +22,7 @@ sizes_of (block ∷ blocks) = 37 + length block + sizes_of blocks
 pub record BeginsWithFrame (digest block bytes : List ℕ) : Type 0 where
   pub more : List ℕ
   pub size : IsLogBlock block
-  pub long : length digest ≡ 32
+  pub long : length digest ≡ hash_size
   pub text : bytes ≡ to_be_bytes w32 (length block) ++ (digest ++ (block ++ more))
 
 -- no record of any block begins behind its gate
@@ -40,7 +41,7 @@ pub record AreFrames (bytes : List ℕ) (place : ℕ) (blocks digests : List (Li
   pub text : bytes ≡ framed blocks digests (drop place bytes)
   pub place_is : place ≡ sizes_of blocks
   pub sizes : AllByRecursion IsLogBlock blocks
-  pub long : AllByRecursion (λ digest. length digest ≡ 32) digests
+  pub long : AllByRecursion (λ digest. length digest ≡ hash_size) digests
   pub many : length digests ≡ length blocks
 
 -- and there they end: the gate isn't open, or it is and no record begins behind it

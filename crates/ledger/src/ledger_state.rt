@@ -2,7 +2,7 @@
 
 ghost use Rattle.std.specs.Prelude.{◌≡◌, ◌+◌, ◌<◌, List, [], replicate, unwrap_or, IfOk};
 ghost use Rattle.std.specs.List.{AllByRecursion};
-ghost use Rattle.model.specs.Limits.{number_limit};
+ghost use Rattle.model.specs.Limits.{hash_size, number_limit};
 ghost use Rattle.model.specs.Signature.{Verifies};
 ghost use Rattle.model.specs.Utxo.{outputs_of, coin_of};
 ghost use Rattle.model.specs.Genesis.{supply_of};
@@ -101,7 +101,7 @@ impl LedgerState {
     /// Where the chain ends: the number and hash of the last block, or the genesis point.
     pub fn tip(&self) -> Point
         ensures number { result.number ≡ self.now.tip.number }
-        ensures hash { result.hash.bytes ≡ unwrap_or self.now.tip.hash (replicate 32 0) }
+        ensures hash { result.hash.bytes ≡ unwrap_or self.now.tip.hash (replicate hash_size 0) }
     {
         match self.tip.hash {
             Some(hash) => Point {

@@ -1,10 +1,11 @@
 -- What a line of a script says, by itself.
-use Rattle.std.specs.Prelude.{ℕ, zero, suc, ◌^◌, nat_lt, ℤ, pos, negsuc, Bool, true, false, ◌||◌, List, [], ◌∷◌, map}
+use Rattle.std.specs.Prelude.{ℕ, zero, suc, nat_lt, ℤ, pos, negsuc, Bool, true, false, ◌||◌, List, [], ◌∷◌, map}
 use Rattle.std.specs.Prelude.{Option, Some, None, option_map, unwrap_or, Result, Ok, Err, ◌==◌, if◌then◌else◌}
 use Rattle.std.specs.Prelude.{bytes_eq, codes}
 use Rattle.std.specs.List.{list_all}
 use Rattle.hex.specs.Hex.{decode_of}
 use Rattle.hex.specs.declared.error.FromHexError.{FromHexError}
+use Rattle.model.specs.Limits.{number_limit}
 use Rattle.script.specs.declared.line.Form.{Form}
 use Rattle.script.specs.declared.line.Form.TheVariants.{Whole, Cut, Extended}
 use Rattle.script.specs.Text.{content_of, is_printable, words_of, is_name, parse_number}
@@ -131,8 +132,8 @@ parse_quantity (b ∷ bs) =
 
 -- a quantity that may be minted has 64 bits
 abbrev pub is_quantity : ℤ → Bool
-is_quantity (pos n) = nat_lt n (2 ^ 63)
-is_quantity (negsuc n) = nat_lt n (2 ^ 63)
+is_quantity (pos n) = nat_lt n number_limit
+is_quantity (negsuc n) = nat_lt n number_limit
 
 -- an asset of these parts, where each of them is there
 abbrev pub asset_of_parts : {Q : Type 0} → (script : List ℕ) → Option (List ℕ) → Option Q → Option (NamedAsset Q)

@@ -1,10 +1,10 @@
 -- What a line means where some names are bound: what it does, or the first of its faults.
-use Rattle.std.specs.Prelude.{◌≡◌, ℕ, ◌+◌, ◌-◌, ◌^◌, ◌&&◌, Bool, true, false, IsTrue, List, [], ◌∷◌, ◌++◌, length}
+use Rattle.std.specs.Prelude.{◌≡◌, ℕ, ◌+◌, ◌-◌, ◌&&◌, Bool, true, false, IsTrue, List, [], ◌∷◌, ◌++◌, length}
 use Rattle.std.specs.Prelude.{take, replicate}
 use Rattle.std.specs.Prelude.{Option, Some, None, option_map, option_and_then, Result, Ok, Err, is_some, nat_lt, nat_le}
 use Rattle.std.specs.Prelude.{◌==◌, if◌then◌else◌}
 use Rattle.std.specs.List.{list_all}
-use Rattle.model.specs.Limits.{transaction_nesting_limit, number_limit}
+use Rattle.model.specs.Limits.{transaction_nesting_limit, hash_size, output_limit, number_limit}
 use Rattle.model.specs.Cbor.{nesting}
 use Rattle.model.specs.Script.{Script, SpellsScript, script_hash_of}
 use Rattle.model.specs.Transaction.{Address, Credential, KeyHash, ScriptHash, Transaction, SpellsTransaction}
@@ -93,14 +93,14 @@ with_one (Some x) (Some others) = Some (x ∷ others)
 -- a key has 32 bytes
 abbrev pub built_key : (name bytes : List ℕ) → Result Meaning LineFault
 built_key name bytes =
-    if length bytes == 32 then Ok (Defines (BindsKey (record { name = name; bound = bytes }))) else Err NotBuilt
+    if length bytes == hash_size then Ok (Defines (BindsKey (record { name = name; bound = bytes }))) else Err NotBuilt
 
 -- ---- parts of a transaction
 
 -- an input, whose index has 16 bits
 abbrev pub spends : (id : List ℕ) → (index : ℕ) → Draft → Result Draft LineFault
 spends id index d =
-    if nat_lt index (2 ^ 16) then where_built (with_input (record { transaction = id; index = index }) d)
+    if nat_lt index output_limit then where_built (with_input (record { transaction = id; index = index }) d)
     else Err NotBuilt
 
 module _ (names : AllNames) where
@@ -126,7 +126,7 @@ module _ (names : AllNames) where
 
   -- a draft with a part, or the first fault
   abbrev pub part_meaning : Part → Draft → Result Draft LineFault
-  part_meaning (SpendGrant index) d = spends (replicate 32 0) index d
+  part_meaning (SpendGrant index) d = spends (replicate hash_size 0) index d
   part_meaning (Spend tx index) d = where_known (bound_to tx names.of_txs) (λ t. spends (transaction_id_of t) index d)
   part_meaning (Pay owner coin assets) d =
       where_known (address_on owner)
@@ -146,7 +146,7 @@ module _ (names : AllNames) where
 
 -- the point before the first block
 abbrev pub genesis_point : Point
-genesis_point = record { number = 0; hash = replicate 32 0 }
+genesis_point = record { number = 0; hash = replicate hash_size 0 }
 
 -- the point of the block of a name. A name that isn't bound to a block of a `block` or `forge` line has none
 abbrev pub block_point : List Binding → (name : List ℕ) → Option Point

@@ -3,6 +3,7 @@
 ghost use Rattle.std.specs.Prelude.{◌≡◌, ◌==◌, IfOk, IsSome, None, Some, if◌then◌else◌, length, option_map};
 ghost use Rattle.std.specs.List.{list_all};
 ghost use Rattle.hex.specs.Hex.{is_hex_digit};
+ghost use Rattle.model.specs.Limits.{hash_size};
 ghost use Rattle.script.specs.Line.{digits_bytes, said_bytes};
 
 use hex::FromHex;
@@ -51,8 +52,8 @@ impl<'a> Digits<'a> {
 
     /// The 32 bytes of a key that they say, where they say so many. Takes no memory.
     pub fn key(&self) -> Option<[u8; 32]>
-        ensures { result ≡ (if length (said_bytes self.now.text.now) == 32 then Some (said_bytes self.now.text.now)
-            else None) }
+        ensures { result ≡ (if length (said_bytes self.now.text.now) == hash_size
+            then Some (said_bytes self.now.text.now) else None) }
     {
         <[u8; 32]>::from_hex(self.text).ok()
     }
