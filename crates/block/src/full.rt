@@ -12,11 +12,10 @@ ghost use Rattle.block.specs.Written.{IsUnspelled, IsWriteFault};
 
 use crate::fault::{NoText, WriteFault};
 use crate::header::{Header, NUMBER_LIMIT};
-use crate::reading::NESTING;
 use crate::writing::write_header;
 use ident::{BlockHash, BodyHash};
 use std::alloc::{AllocError, Global};
-use tx::Tx;
+use tx::{MAX_TX_NESTING, Tx};
 
 /// The largest size of what stands before the body, in bytes.
 const LARGEST_FRONT: usize = 88;
@@ -29,7 +28,7 @@ fn first_too_deep(transactions: &[Tx]) -> Option<usize>
 {
     let mut index = 0;
     for tx in transactions {
-        if tx.nesting() > NESTING {
+        if tx.nesting() > MAX_TX_NESTING {
             return Some(index);
         }
         index += 1;

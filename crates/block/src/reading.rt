@@ -13,10 +13,7 @@ use crate::header::{Header, NUMBER_LIMIT};
 use cbor::CborFault;
 use ident::{BlockHash, BodyHash};
 use std::alloc::Global;
-use tx::Tx;
-
-/// How deep a transaction may nest in a block: it stands two deep in it, and items nest at most 64 deep.
-pub const NESTING: usize = 62;
+use tx::{MAX_TX_NESTING, Tx};
 
 /// The hash of the block before, or null where there is none.
 #[tactic(auto, unfolding(crate::specs::Reading::previous_at, cbor::specs::Shapes::optional_at))]
@@ -54,7 +51,7 @@ fn transactions(alloc: Global, bytes: &[u8]) -> Result<(Vec<Tx>, &[u8]), CborFau
     ensures exact { Gives (λ x. (x.0.items, x.1.now)) result (transactions_at bytes.now) }
     ensures some { OnErr result ((rest : List ℕ) → transactions_at bytes.now ≡ Some ([], rest) → ⊥) }
 {
-    cbor::list_array::<Tx>(alloc, NESTING, bytes)
+    cbor::list_array::<Tx>(alloc, MAX_TX_NESTING, bytes)
 }
 
 /// A block's header and transactions, and the two parts of its text that are hashed.

@@ -20,17 +20,8 @@ use crate::values::value_with;
 use ident::ScriptHash;
 use std::alloc::{AllocError, Global};
 use timelock::{Interval, Script};
-use tx::{Address, Input, Output, Tx};
-use value::AssetQuantity;
-
-/// How many outputs a transaction has at most: the index of an input has 16 bits.
-const MAX_OUTPUTS: usize = 65_536;
-
-/// How many bytes an asset name has at most.
-const MAX_NAME_SIZE: usize = 32;
-
-/// How deep the item of a script may nest, so that the transaction's nests at most 64 deep.
-const MAX_SCRIPT_NESTING: usize = 61;
+use tx::{Address, Input, MAX_OUTPUTS, MAX_SCRIPT_NESTING, Output, Tx};
+use value::{AssetQuantity, MAX_NAME};
 
 /// Adds an output after the others. Err where memory runs out: they are as they were.
 fn append(outputs: &mut Vec<Output>, output: Output) -> Result<(), AllocError>
@@ -149,7 +140,7 @@ impl Draft {
         ensures { Adds (with_minted (record { policy = policy.bytes; name = name.items; quantity = quantity }))
             self.old self.new result }
     {
-        if name.len() > MAX_NAME_SIZE || quantity == 0 {
+        if name.len() > MAX_NAME || quantity == 0 {
             return Err(DraftFault::NotBuilt);
         }
         let key = (policy, name);

@@ -14,12 +14,9 @@ use cbor::Encode;
 use std::alloc::{AllocError, Global};
 use std::marker::Model;
 use std::sync::Arc;
-use tx::Tx;
+use tx::{MAX_TX_NESTING, Tx};
 use utxo_rules::{CheckFault, Params, Utxo, apply, check};
 use witness_pool::{CheckedTx, SigScheme};
-
-/// How deep a transaction of a block nests at most: it stands two items deep, and a block nests 64 deep at most.
-const NESTING: usize = 62;
 
 /// A transaction that was taken. It is shared with the mempool.
 #[derive(Drop)]
@@ -84,7 +81,7 @@ impl<S: SigScheme> Picked<S> {
         let head = cbor::head_size(self.txs.len() as u64 + 1);
         let size = self.size.saturating_add(tx.size()).saturating_add(head);
         let most = params.max_body_size;
-        size <= most.into() && tx.nesting() <= NESTING
+        size <= most.into() && tx.nesting() <= MAX_TX_NESTING
     }
 
     /// Takes a transaction after the others.

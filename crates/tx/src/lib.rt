@@ -24,6 +24,8 @@ pub use copying::clone_outputs;
 pub use input::Input;
 pub use key_witness::KeyWitness;
 pub use laws::one_tx_of_parts;
+pub use lists::MAX_OUTPUTS;
+pub use nesting::{MAX_SCRIPT_NESTING, MAX_TX_NESTING};
 pub use output::Output;
 pub use parts::TxParts;
 pub use tx::Tx;

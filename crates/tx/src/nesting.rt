@@ -16,6 +16,9 @@ use timelock::Script;
 /// How deep the scripts of a transaction nest at most: they stand three deep in it, and items nest at most 64 deep.
 pub const MAX_SCRIPT_NESTING: usize = 61;
 
+/// How deep a transaction of a block nests at most: it stands two deep in it, and items nest at most 64 deep.
+pub const MAX_TX_NESTING: usize = 62;
+
 /// How deep an input nests: an array of a byte string and a number.
 const INPUT_NESTING: usize = 2;
 
