@@ -6,6 +6,7 @@ ghost use Rattle.ledger.specs.BlockDiffs.{all_undone, undone_block};
 
 use crate::ledger_state::LedgerState;
 use crate::tip::Tip;
+use block::NUMBER_LIMIT;
 use std::alloc::AllocError;
 use std::marker::Model;
 use utxo_rules::{Diff, Utxo, undone};
@@ -35,14 +36,11 @@ impl Model for BlockDiff {
     ghost invariant = { λ d. d.tip.slot < number_limit };
 }
 
-/// What outputs and fees hold less than together, in lovelace.
-const LIMIT: u64 = 0x8000_0000_0000_0000;
-
 /// Whether the two are less than 2^63 lovelace together.
 fn is_within(coin: u128, fees: u64) -> bool
     ensures { IsTrue result ↔ (coin + fees < number_limit) }
 {
-    let limit = u128::from(LIMIT);
+    let limit = u128::from(NUMBER_LIMIT);
     coin < limit && coin + u128::from(fees) < limit
 }
 
