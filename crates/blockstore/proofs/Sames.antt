@@ -27,7 +27,7 @@ module _ (store : Store) (xs ys : List Stored) (same : IsSame xs ys) where
   set_same is_set = record {
     distinct = distinct_by_count (map block_of ys) (map block_of xs) is_set.distinct (λ b. (same_of xs ys same b).1) (λ b. (same_of xs ys same b).0)
         (let count = same.count in omega (arith, length-map xs block_of, length-map ys block_of, count));
-    room = let count = same.count in let room = is_set.room in omega (arith, count, room);
+    few = let count = same.count in let few = is_set.few in omega (arith, count, few);
   }
 
   pub read_same : AreRead ys → AreRead xs

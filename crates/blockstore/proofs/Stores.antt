@@ -55,7 +55,7 @@ set_marked store hash blocks is is_set =
     subst (λ (xs : List Stored). IsSet (with_blocks store xs)) (sym is)
     (record {
       distinct = subst HaveDistinctHashes (sym (same_blocks hash store.blocks)) is_set.distinct;
-      room = let room = is_set.room in omega (arith, length-map store.blocks (marked_at hash));
+      few = let few = is_set.few in omega (arith, length-map store.blocks (marked_at hash));
     })
 
 pub read_marked : (store : Store) (hash : List ℕ) (blocks : List Stored) → blocks ≡ map (marked_at hash) store.blocks → AreRead store.blocks → AreRead blocks
@@ -95,7 +95,7 @@ set_cut store number blocks is is_set =
     subst (λ (xs : List Stored). IsSet (with_blocks store xs)) (sym is)
     (record {
       distinct = subst HaveDistinctHashes (sym (past_blocks number store.blocks)) (distinct_filter (λ b. nat_lt number b.header.number) (blocks_of store) is_set.distinct);
-      room = let room = is_set.room in omega (arith, no_longer (is_past number) store.blocks);
+      few = let few = is_set.few in omega (arith, no_longer (is_past number) store.blocks);
     })
 
 pub read_cut : (store : Store) (number : ℕ) (blocks : List Stored) → blocks ≡ filter (is_past number) store.blocks → AreRead store.blocks → AreRead blocks
@@ -203,7 +203,7 @@ set_with store b blocks is is_set none room =
     (record {
       distinct = subst HaveDistinctHashes (sym (map_push block_of store.blocks (unmarked b)))
           (distinct_push (blocks_of store) b is_set.distinct (all_from_members (λ c. block_hash_of c ≢ block_hash_of b) (blocks_of store) none));
-      room = elim (cases_lt (length store.blocks) store.capacity) [
+      few = elim (cases_lt (length store.blocks) store.capacity) [
         | inl below ↦ omega (arith, length-append store.blocks (unmarked b ∷ []))
         | inr full ↦ absurd (room full)
       ];

@@ -22,7 +22,7 @@ IsFull store = store.capacity ≤ length store.blocks
 pub record IsAllowed (store : Store) (b : Block) : Type 0 where
   pub unknown : IsKnown store b → ⊥
   pub alone : IsClash store b → ⊥
-  pub room : IsFull store → ⊥
+  pub not_full : IsFull store → ⊥
 
 -- why the block doesn't come in: the first reason that applies, or want of memory, which is told where none does
 abbrev pub IsInsertFault : Store → Block → InsertFault → Type 0

@@ -49,4 +49,4 @@ HasBlock store b = Contains (blocks_of store) b
 -- as may be
 pub record IsSet (store : Store) : Type 0 where
   pub distinct : HaveDistinctHashes (blocks_of store)
-  pub room : length store.blocks ≤ store.capacity
+  pub few : length store.blocks ≤ store.capacity

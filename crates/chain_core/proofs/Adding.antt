@@ -32,12 +32,12 @@ use Rattle.chainsel.specs.declared.choice.Switch.{Switch}
 use Rattle.chainsel.proofs.ForCallers.{at_hand, dead_with, selection_at_hand, IsNextStore, settled_again, switched_at_hand, depth_next}
 use Rattle.chain_core.specs.declared.chain_db.ChainDb.{ChainDb}
 use Rattle.chain_core.specs.declared.chain_db.Change.{Change}
-use Rattle.mempool.specs.Pool.{Pool, Waiting}
+use Rattle.mempool.specs.Contents.{Mempool, Waiting}
 use Rattle.mempool.specs.Calls.{IsSubmission}
 use Rattle.mempool.specs.View.{reply_of}
 use Rattle.mempool.specs.declared.reply.SubmitReply.{SubmitReply as CodeReply}
-use Rattle.chain_core.specs.Pools.{IsPoolOf, IsBroughtTo}
-use Rattle.chain_core.proofs.Pools.{pool_brought, stay_brought, submits, pool_after}
+use Rattle.chain_core.specs.Mempools.{IsMempoolOf, IsResynced}
+use Rattle.chain_core.proofs.Mempools.{mempool_resynced, stay_resynced, submits, mempool_after}
 use Rattle.chain_core.specs.PastHashes.{IsNoted, IsBlockNoted}
 use Rattle.chain_core.proofs.PastHashes.{blocks_keep}
 use Rattle.chain_core.specs.ChainDbs.{IsWhole, IsAdded, IsTakenIn, IsCutBack, IsCommitted, IsTaken}
@@ -129,31 +129,31 @@ whole_same network old new opened chain store db mempool grows whole = record {
   settled = settled_same network old new chain store db whole;
   k = ap (λ (d : Database). d.k) db ∙ whole.k;
   capacity = ap (λ (x : Store). x.capacity) store ∙ whole.capacity;
-  pool = subst (λ (c : List Block). IsPoolOf network c new.mempool) (sym chain) (subst (IsPoolOf network old.chain.items) (sym mempool) whole.pool);
+  mempool = subst (λ (c : List Block). IsMempoolOf network c new.mempool) (sym chain) (subst (IsMempoolOf network old.chain.items) (sym mempool) whole.mempool);
   past = subst (λ (c : List Block). AllByRecursion (IsBlockNoted new.past) (immutable_part network c)) (sym chain) (blocks_keep old.past new.past grows (immutable_part network old.chain.items) whole.past);
 }
 
 -- ---- a submission, which leaves another mempool and nothing else
 
-pub taken : {S : Type 0} (network : Network) (old : ChainDb S) (pool : Pool) (state : LedgerState) (params : Params) (slot : ℕ) (bytes : List ℕ) (reply : SubmitReply) → IsWhole network old → IsStateOf network old.chain.items state → params ≡ state.params → slot ≡ state.tip.slot
-    → IsSubmission network.verifies params (slot + 1) old.mempool bytes reply pool → IsTaken network old bytes reply (record old { mempool = pool })
-taken network old pool state params slot bytes reply whole is params_is slot_is submission = record {
-  submits = submits network old.chain.items state is old.mempool pool whole.pool params slot bytes reply params_is slot_is submission;
+pub taken : {S : Type 0} (network : Network) (old : ChainDb S) (mempool : Mempool) (state : LedgerState) (params : Params) (slot : ℕ) (bytes : List ℕ) (reply : SubmitReply) → IsWhole network old → IsStateOf network old.chain.items state → params ≡ state.params → slot ≡ state.tip.slot
+    → IsSubmission network.verifies params (slot + 1) old.mempool bytes reply mempool → IsTaken network old bytes reply (record old { mempool = mempool })
+taken network old mempool state params slot bytes reply whole is params_is slot_is submission = record {
+  submits = submits network old.chain.items state is old.mempool mempool whole.mempool params slot bytes reply params_is slot_is submission;
   whole = record {
     opened = whole.opened;
     settled = whole.settled;
     k = whole.k;
     capacity = whole.capacity;
-    pool = pool_after network old.chain.items state is old.mempool pool whole.pool params slot bytes reply params_is slot_is submission;
+    mempool = mempool_after network old.chain.items state is old.mempool mempool whole.mempool params slot bytes reply params_is slot_is submission;
     past = whole.past;
   };
 }
 
 -- so it is whole after a submission, whatever is answered
-pub whole_after : {S : Type 0} (network : Network) (old : ChainDb S) (pool : Pool) (bytes : List ℕ) (result : Result CodeReply AllocError) → IfOk result (λ reply. IsTaken network old bytes (reply_of reply) (record old { mempool = pool })) → OnErr result (pool ≡ old.mempool)
-    → IsWhole network old → IsWhole network (record old { mempool = pool })
-whole_after network old pool bytes (Ok reply) ok err whole = ok.whole
-whole_after network old pool bytes (Err e) ok err whole = subst (λ (p : Pool). IsWhole network (record old { mempool = p })) (sym err) whole
+pub whole_after : {S : Type 0} (network : Network) (old : ChainDb S) (mempool : Mempool) (bytes : List ℕ) (result : Result CodeReply AllocError) → IfOk result (λ reply. IsTaken network old bytes (reply_of reply) (record old { mempool = mempool })) → OnErr result (mempool ≡ old.mempool)
+    → IsWhole network old → IsWhole network (record old { mempool = mempool })
+whole_after network old mempool bytes (Ok reply) ok err whole = ok.whole
+whole_after network old mempool bytes (Err e) ok err whole = subst (λ (p : Mempool). IsWhole network (record old { mempool = p })) (sym err) whole
 
 -- ---- hashes that are noted at a switch
 
@@ -206,7 +206,7 @@ module _ {S : Type 0} (network : Network) (old : ChainDb S) (new : Block) (whole
     selected = selected;
     change = no_change old.chain.items told.back told.added no_back none_added;
     live = λ kept holds. taken.marked.live network (new ∷ kept) old.chain.items (taken.gains network kept old.chain.items holds ready.past);
-    mempool = sym whole.pool.valid;
+    mempool = sym whole.mempool.valid;
     whole = record {
       opened = whole.opened;
       settled = settled_again network old.chain.items old.store old.db new ready old.chain.items next.store old.db selected
@@ -214,7 +214,7 @@ module _ {S : Type 0} (network : Network) (old : ChainDb S) (new : Block) (whole
           (kept_store network old.chain.items old.store old.db new ready invalid found next.store taken) ready.settled.database ready.settled.depth;
       k = whole.k;
       capacity = taken.marked.capacity ∙ (taken.inserted.capacity ∙ whole.capacity);
-      pool = whole.pool;
+      mempool = whole.mempool;
       past = whole.past;
     };
   })
@@ -230,16 +230,16 @@ module _ {S : Type 0} (network : Network) (old : ChainDb S) (new : Block) (whole
   -- or changes
   pub added_switched : (switch : Switch S) (mid : Store) (next : ChainDb S) (told : Change) → IsSwitch network old.chain.items old.store old.db new switch → IsTakenIn old.store new invalid mid
       → next.chain.items ≡ without_last switch.back old.chain.items ++ switch.blocks.items → IsCommitted old.db switch.prepared next.db → IsCutBack mid (length next.chain.items - depth next.db) next.store
-      → (waiting : Waiting) → IsBroughtTo network (without_last switch.back old.chain.items ++ switch.blocks.items) old.mempool.waiting.txs waiting → next.mempool ≡ record old.mempool { waiting = waiting }
+      → (waiting : Waiting) → IsResynced network (without_last switch.back old.chain.items ++ switch.blocks.items) old.mempool.waiting.txs waiting → next.mempool ≡ record old.mempool { waiting = waiting }
       → AllByRecursion (IsBlockNoted next.past) (immutable_part network (without_last switch.back old.chain.items ++ switch.blocks.items)) → next.opened ≡ old.opened → told.back ≡ switch.back → told.added ≡ length switch.blocks.items → IsAdded network old new next told
-  added_switched switch mid next told is taken chain_is committed cut waiting brought pool_is noted same_opened back_is added_is = record {
+  added_switched switch mid next told is taken chain_is committed cut waiting resynced mempool_is noted same_opened back_is added_is = record {
     selected = selected;
     change = subst (λ (n : ℕ). IsChange old.chain.items next.chain.items told.back n) (sym added_is)
         (subst (λ (n : ℕ). IsChange old.chain.items next.chain.items n (length switch.blocks.items)) (sym back_is)
         (subst (λ (c : List Block). IsChange old.chain.items c switch.back (length switch.blocks.items)) (sym chain_is) is.change));
     live = λ kept holds. cut.live network (new ∷ kept) old.chain.items next.chain.items
         (taken.marked.live network (new ∷ kept) old.chain.items (taken.gains network kept old.chain.items holds ready.past)) further number;
-    mempool = stay_brought network next.chain.items old.mempool next.mempool waiting brought_here pool_is;
+    mempool = stay_resynced network next.chain.items old.mempool next.mempool waiting resynced_here mempool_is;
     whole = record {
       opened = same_opened ∙ whole.opened;
       settled = settled_again network old.chain.items old.store old.db new ready next.chain.items next.store next.db selected
@@ -248,13 +248,13 @@ module _ {S : Type 0} (network : Network) (old : ChainDb S) (new : Block) (whole
           database deep;
       k = committed.k ∙ whole.k;
       capacity = cut.cut.capacity ∙ (taken.marked.capacity ∙ (taken.inserted.capacity ∙ whole.capacity));
-      pool = pool_brought network next.chain.items old.mempool next.mempool waiting whole.pool.capacity brought_here pool_is;
+      mempool = mempool_resynced network next.chain.items old.mempool next.mempool waiting whole.mempool.capacity resynced_here mempool_is;
       past = subst (λ (c : List Block). AllByRecursion (IsBlockNoted next.past) (immutable_part network c)) (sym chain_is) noted;
     };
   }
     where
-      brought_here : IsBroughtTo network next.chain.items old.mempool.waiting.txs waiting
-      brought_here = subst (λ (c : List Block). IsBroughtTo network c old.mempool.waiting.txs waiting) (sym chain_is) brought
+      resynced_here : IsResynced network next.chain.items old.mempool.waiting.txs waiting
+      resynced_here = subst (λ (c : List Block). IsResynced network c old.mempool.waiting.txs waiting) (sym chain_is) resynced
 
       selected : IsSelected network old.store old.chain.items new next.chain.items
       selected = subst (IsSelected network old.store old.chain.items new) (sym chain_is) is.selected
@@ -302,10 +302,10 @@ module _ {S : Type 0} (network : Network) (old : ChainDb S) (new : Block) (whole
   pub added_at_switch : (switch : Switch S) (mid next : ChainDb S) (result : Result Change AllocError) → IsSwitch network old.chain.items old.store old.db new switch → IsTakenIn old.store new invalid mid.store
       → mid.chain.items ≡ old.chain.items → mid.db ≡ old.db → OnOk result (next.chain.items ≡ without_last switch.back mid.chain.items ++ switch.blocks.items) → OnOk result (IsCommitted mid.db switch.prepared next.db)
       → OnOk result (IsCutBack mid.store (length next.chain.items - depth next.db) next.store)
-      → (waiting : Waiting) → IsBroughtTo network (without_last switch.prepared.back old.chain.items ++ switch.blocks.items) old.mempool.waiting.txs waiting → next.mempool ≡ record old.mempool { waiting = waiting }
+      → (waiting : Waiting) → IsResynced network (without_last switch.prepared.back old.chain.items ++ switch.blocks.items) old.mempool.waiting.txs waiting → next.mempool ≡ record old.mempool { waiting = waiting }
       → AllByRecursion (IsBlockNoted next.past) (immutable_part network (without_last switch.back old.chain.items ++ switch.blocks.items)) → next.opened ≡ old.opened → IfOk result (λ told. (told.back ≡ switch.back) × (told.added ≡ length switch.blocks.items)) → IfOk result (IsAdded network old new next)
-  added_at_switch switch mid next (Err e) is taken same_chain same_db chain_is committed cut waiting brought pool_is noted same_opened told_is = tt
-  added_at_switch switch mid next (Ok told) is taken same_chain same_db chain_is committed cut waiting brought pool_is noted same_opened told_is =
+  added_at_switch switch mid next (Err e) is taken same_chain same_db chain_is committed cut waiting resynced mempool_is noted same_opened told_is = tt
+  added_at_switch switch mid next (Ok told) is taken same_chain same_db chain_is committed cut waiting resynced mempool_is noted same_opened told_is =
       added_switched switch mid.store next told is taken (chain_is ∙ ap (λ (c : List Block). without_last switch.back c ++ switch.blocks.items) same_chain)
       (subst (λ (d : Database). IsCommitted d switch.prepared next.db) same_db committed) cut waiting
-      (subst (λ (n : ℕ). IsBroughtTo network (without_last n old.chain.items ++ switch.blocks.items) old.mempool.waiting.txs waiting) is.back brought) pool_is noted same_opened told_is.0 told_is.1
+      (subst (λ (n : ℕ). IsResynced network (without_last n old.chain.items ++ switch.blocks.items) old.mempool.waiting.txs waiting) is.back resynced) mempool_is noted same_opened told_is.0 told_is.1

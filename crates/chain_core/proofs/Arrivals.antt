@@ -17,7 +17,7 @@ use Rattle.model.specs.History.{State, Refusal, TooOld, Known, Clash, VolatileFu
 use Rattle.model.proofs.Lists.{all_from_members, all_weaker, contains_later}
 use Rattle.std.specs.Prelude.{IfOk, OnErr}
 use Rattle.std.specs.declared.alloc.AllocError.{AllocError}
-use Rattle.mempool.specs.Pool.{Pool}
+use Rattle.mempool.specs.Contents.{Mempool}
 use Rattle.mempool.specs.View.{reply_of as answer_of}
 use Rattle.mempool.specs.declared.reply.SubmitReply.{SubmitReply}
 use Rattle.blockstore.specs.Stored.{Stored, blocks_of}
@@ -31,7 +31,7 @@ use Rattle.chain_core.specs.declared.chain_db.Change.{Change}
 use Rattle.chain_core.specs.ChainDbs.{IsWhole, HasState, IsAdded, IsTaken}
 use Rattle.chain_core.specs.Views.{submit_reply_of}
 use Rattle.chain_core.specs.Held.{Held, Stands, held_of, network_held}
-use Rattle.chain_core.specs.Judgements.{IsJudged}
+use Rattle.chain_core.specs.Judgements.{IsFirstRefusal}
 
 -- ---- a block to which no refusal applies may be put in
 
@@ -42,7 +42,7 @@ at_rest a = record { kept = blocks_of a.store; chain = a.chain.items; mempool = 
 pub rests : {S : Type 0} (network : Network) (a : ChainDb S) → IsWhole network a → HasState network a (at_rest a)
 rests network a whole = record { chain = refl; live = settled_live network a.chain.items a.store a.db whole.settled }
 
-is_ready : {S : Type 0} (network : Network) (a : ChainDb S) (b : Block) (bytes : List ℕ) → IsWhole network a → IsRead b bytes → IsJudged network (at_rest a) b None → IsReady network a.chain.items a.store a.db b
+is_ready : {S : Type 0} (network : Network) (a : ChainDb S) (b : Block) (bytes : List ℕ) → IsWhole network a → IsRead b bytes → IsFirstRefusal network (at_rest a) b None → IsReady network a.chain.items a.store a.db b
 is_ready network a b bytes whole read judged =
     let none : (r : Refusal) → Applies network (at_rest a) bytes r → ⊥ = judged bytes read in
     let live = (rests network a whole).live in
@@ -54,7 +54,7 @@ is_ready network a b bytes whole read judged =
     }
 
 -- and there is room for it
-pub may_be_added : {S : Type 0} (network : Network) (a : ChainDb S) (b : Block) (bytes : List ℕ) → IsWhole network a → IsRead b bytes → IsJudged network (at_rest a) b None → IsReady network a.chain.items a.store a.db b × (IsFull a.store → ⊥)
+pub may_be_added : {S : Type 0} (network : Network) (a : ChainDb S) (b : Block) (bytes : List ℕ) → IsWhole network a → IsRead b bytes → IsFirstRefusal network (at_rest a) b None → IsReady network a.chain.items a.store a.db b × (IsFull a.store → ⊥)
 may_be_added network a b bytes whole read judged = (
   is_ready network a b bytes whole read judged,
   λ full. judged bytes read VolatileFull ((full_over network (at_rest a) a.store bytes (record { live = (rests network a whole).live; capacity = whole.capacity })).0 full),
@@ -69,18 +69,18 @@ state_of network a followers s stands = record {
 }
 
 -- the block is judged so beside each state
-abbrev pub IsJudgedAt : {S : Type 0} → Network → ChainDb S → Block → Option Refusal → Type 0
-IsJudgedAt network a b answer = (s : State) → HasState network a s → IsJudged network s b answer
+abbrev pub IsFirstRefusalAt : {S : Type 0} → Network → ChainDb S → Block → Option Refusal → Type 0
+IsFirstRefusalAt network a b answer = (s : State) → HasState network a s → IsFirstRefusal network s b answer
 
 -- a refusal
 pub refused_arrival : {S : Type 0} (network : Network) (a : ChainDb S) (followers : Places) (now : Held) (bytes : List ℕ) (b : Block) (r : Refusal) → held_of network.genesis network.opened (blocks_of a.store) a.chain.items a.mempool.waiting.txs followers ≡ now → IsRead b bytes
-    → IsJudgedAt network a b (Some r) → (s : State) → Stands now s → (t : State) × Step (network_held now network.verifies) s (Arrive bytes) (Refused r) t × Stands now t
+    → IsFirstRefusalAt network a b (Some r) → (s : State) → Stands now s → (t : State) × Step (network_held now network.verifies) s (Arrive bytes) (Refused r) t × Stands now t
 refused_arrival network a followers now bytes b r view read judged =
     subst (λ (h : Held). (s : State) → Stands h s → (t : State) × Step (network_held h network.verifies) s (Arrive bytes) (Refused r) t × Stands h t) view
     (λ s stands. (s, (judged s (state_of network a followers s stands) bytes read, refl), stands))
 
 -- where none is told, none applies
-pub none_applies : {S : Type 0} (network : Network) (a : ChainDb S) (followers : Places) (now : Held) (bytes : List ℕ) (b : Block) → held_of network.genesis network.opened (blocks_of a.store) a.chain.items a.mempool.waiting.txs followers ≡ now → IsRead b bytes → IsJudgedAt network a b None
+pub none_applies : {S : Type 0} (network : Network) (a : ChainDb S) (followers : Places) (now : Held) (bytes : List ℕ) (b : Block) → held_of network.genesis network.opened (blocks_of a.store) a.chain.items a.mempool.waiting.txs followers ≡ now → IsRead b bytes → IsFirstRefusalAt network a b None
     → (s : State) → Stands now s → (r : Refusal) → Applies (network_held now network.verifies) s bytes r → ⊥
 none_applies network a followers now bytes b view read judged =
     subst (λ (h : Held). (s : State) → Stands h s → (r : Refusal) → Applies (network_held h network.verifies) s bytes r → ⊥) view (λ s stands. judged s (state_of network a followers s stands) bytes read)
@@ -91,7 +91,7 @@ selection_members network kept old new members (Changes c chosen) = chosen.candi
 
 -- a block that is kept
 pub kept_arrival : {S : Type 0} (network : Network) (old new : ChainDb S) (followers moved : Places) (now : Held) (bytes : List ℕ) (b : Block) (told : Change) → held_of network.genesis network.opened (blocks_of old.store) old.chain.items old.mempool.waiting.txs followers ≡ now → IsRead b bytes
-    → IsJudgedAt network old b None → IsAdded network old b new told → moved ≡ moved_places (length new.chain.items - told.added) followers
+    → IsFirstRefusalAt network old b None → IsAdded network old b new told → moved ≡ moved_places (length new.chain.items - told.added) followers
     → (s : State) → Stands now s → (t : State) × Step (network_held now network.verifies) s (Arrive bytes) (Kept told.back told.added) t × Stands (held_of network.genesis network.opened (blocks_of new.store) new.chain.items new.mempool.waiting.txs moved) t
 kept_arrival {S} network old new followers moved now bytes b told view read judged added moves =
     subst (λ (h : Held). (s : State) → Stands h s → (t : State) × Step (network_held h network.verifies) s (Arrive bytes) (Kept told.back told.added) t × Stands (held_of network.genesis network.opened (blocks_of new.store) new.chain.items new.mempool.waiting.txs moved) t) view each
@@ -142,7 +142,7 @@ pub submitted : {S : Type 0} (network : Network) (old new : ChainDb S) (follower
     → IfOk result (λ reply. (genesis : Genesis) (opened : List Block) → IsWhole (network_on genesis network.verifies opened) old → IsTaken (network_on genesis network.verifies opened) old bytes (answer_of reply) new) → new ≡ record old { mempool = new.mempool } → OnErr result (new.mempool ≡ old.mempool)
     → SubmitSteps network new followers bytes now result
 submitted {S} network old new followers now bytes (Err e) view whole ok frame err =
-    let same : new ≡ old = frame ∙ ap (λ (p : Pool). record old { mempool = p }) err in
+    let same : new ≡ old = frame ∙ ap (λ (p : Mempool). record old { mempool = p }) err in
     subst (λ (h : Held). SubmitSteps network new followers bytes h (Err e)) view
     (λ s stands. (s, refl, subst (λ (a : ChainDb S). Stands (held_of network.genesis network.opened (blocks_of a.store) a.chain.items a.mempool.waiting.txs followers) s) (sym same) stands))
 submitted {S} network old new followers now bytes (Ok reply) view whole ok frame err =

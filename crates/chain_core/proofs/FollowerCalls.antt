@@ -20,17 +20,17 @@ use Rattle.followers.specs.declared.fault.OpenFollowerFault.{OpenFollowerFault}
 use Rattle.followers.specs.declared.fault.OpenFollowerFault.TheVariants as open'
 use Rattle.followers.specs.declared.fault.UnknownFollower.{UnknownFollower}
 use Rattle.followers.specs.declared.place.Place.{Place}
-use Rattle.followers.specs.declared.place.Step as code
-use Rattle.followers.specs.declared.place.Step.TheVariants.{Add, RollBack}
-use Rattle.followers.specs.Places.{Places, standing, step_of, stepped_place}
-use Rattle.followers.specs.Calls.{IsOpened, IsOpenFault, IsStepped, IsForwarded, IsClosed}
-use Rattle.followers.specs.Standing.{ArePlacesOf, IsStepOf}
+use Rattle.followers.specs.declared.place.Due as code
+use Rattle.followers.specs.declared.place.Due.TheVariants.{Add, RollBack}
+use Rattle.followers.specs.Places.{Places, standing, due_of, place_after}
+use Rattle.followers.specs.Calls.{IsOpened, IsOpenFault, IsMovedOn, IsForwarded, IsClosed}
+use Rattle.followers.specs.Standing.{ArePlacesOf, IsDueOf}
 use Rattle.followers.proofs.ForCallers.{the_lengths}
 use Rattle.chain_core.specs.declared.follower.Instruction.{Instruction}
 use Rattle.chain_core.specs.declared.follower.NextFault.{NextFault}
 use Rattle.chain_core.specs.declared.follower.NextFault.TheVariants as next
 use Rattle.chain_core.specs.Views.{open_reply_of, next_reply_of, forward_reply_of, close_reply_of, instruction_of}
-use Rattle.chain_core.specs.FollowerCalls.{IsWantAtOpening, IsWantAtNext, Peeks}
+use Rattle.chain_core.specs.FollowerCalls.{IsWantAtOpen, IsWantAtNext, Peeks}
 use Rattle.chain_core.specs.Held.{Held, Stands, held_of, network_held}
 
 there_is : {X : Type 0} (xs : List X) (i : ℕ) → i < length xs → (x : X) × (slice_get xs i ≡ Some x)
@@ -78,17 +78,17 @@ module _ (verifies : Verifies) (genesis : Genesis) (opened_on live chain : List 
   opened old new now (Ok id) view ok fault err = subst (λ (h : Held). OpenSteps new h (Ok id)) view (λ s stands.
       let are = beside old s stands in (
         record s { followers = with_opened s.followers },
-        record { is_free = ok.is_free ∙ sym (the_lengths.free s.chain old s.followers are); room = ok.room; after = refl },
+        record { is_free = ok.is_free ∙ sym (the_lengths.free s.chain old s.followers are); few = ok.few; after = refl },
         followed old new s (with_opened s.followers) stands (subst (λ (p : Places). ArePlacesOf s.chain p (with_opened s.followers)) (sym ok.after) (the_lengths.opened s.chain old s.followers are)),
       ))
   opened old new now (Err open'.TooManyFollowers) view ok fault err = subst (λ (h : Held). OpenSteps new h (Err open'.TooManyFollowers)) view
       (λ s stands. (s, (subst (λ n. follower_limit ≤ n) (sym (the_lengths.free s.chain old s.followers (beside old s stands))) fault, refl), still old new s err stands))
   opened old new now (Err open'.OutOfMemory) view ok fault err = subst (λ (h : Held). OpenSteps new h (Err open'.OutOfMemory)) view (λ s stands. (s, refl, still old new s err stands))
 
-  pub want_at_opening : (old : Places) (now : Held) (result : Result FollowerId OpenFollowerFault) → held_of genesis opened_on live chain txs old ≡ now → IfErr result (IsOpenFault old) → IfErr result (IsWantAtOpening now)
-  want_at_opening old now (Ok id) view fault = tt
-  want_at_opening old now (Err open'.TooManyFollowers) view fault = λ is. absurd cc
-  want_at_opening old now (Err open'.OutOfMemory) view fault = λ is. subst (λ (h : Held). free_id h.followers < follower_limit) view fault
+  pub want_at_open : (old : Places) (now : Held) (result : Result FollowerId OpenFollowerFault) → held_of genesis opened_on live chain txs old ≡ now → IfErr result (IsOpenFault old) → IfErr result (IsWantAtOpen now)
+  want_at_open old now (Ok id) view fault = tt
+  want_at_open old now (Err open'.TooManyFollowers) view fault = λ is. absurd cc
+  want_at_open old now (Err open'.OutOfMemory) view fault = λ is. subst (λ (h : Held). free_id h.followers < follower_limit) view fault
 
   -- ---- a follower is told what comes next
 
@@ -96,26 +96,26 @@ module _ (verifies : Verifies) (genesis : Genesis) (opened_on live chain : List 
   NextSteps new id now result = (s : State) → Stands now s → (t : State) × Step (network_held now verifies) s (Next id) (next_reply_of result) t × Stands (held_of genesis opened_on live chain txs new) t
 
   pub instructed : {S : Type 0} (old new : Places) (id : ℕ) (now : Held) (height : ℕ) (place : Place) (instruction : Option (Instruction S)) → held_of genesis opened_on live chain txs old ≡ now → height ≡ length chain → follower_of old id ≡ Some place
-      → IsStepOf chain (step_of height place) (instruction_of instruction) → new ≡ slice_set old id (Some (stepped_place height place)) → NextSteps new id now (Ok instruction)
+      → IsDueOf chain (due_of height place) (instruction_of instruction) → new ≡ slice_set old id (Some (place_after height place)) → NextSteps new id now (Ok instruction)
   instructed old new id now height place instruction view high open_at step after = subst (λ (h : Held). NextSteps new id h (Ok instruction)) view (λ s stands.
       let are = beside old s stands in
       let here : height ≡ length s.chain = high ∙ ap length stands.chain in
-      let step_here : IsStepOf s.chain (step_of (length s.chain) place) (instruction_of instruction) =
-      subst (λ n. IsStepOf s.chain (step_of n place) (instruction_of instruction)) here (subst (λ (c : List Block). IsStepOf c (step_of height place) (instruction_of instruction)) stands.chain step) in
+      let step_here : IsDueOf s.chain (due_of (length s.chain) place) (instruction_of instruction) =
+      subst (λ n. IsDueOf s.chain (due_of n place) (instruction_of instruction)) here (subst (λ (c : List Block). IsDueOf c (due_of height place) (instruction_of instruction)) stands.chain step) in
       let told = the_lengths.next s.chain old s.followers id place are open_at (instruction_of instruction) step_here in
-      let becomes : new ≡ slice_set old id (Some (stepped_place (length s.chain) place)) = after ∙ ap (λ n. slice_set old id (Some (stepped_place n place))) here in (
+      let becomes : new ≡ slice_set old id (Some (place_after (length s.chain) place)) = after ∙ ap (λ n. slice_set old id (Some (place_after n place))) here in (
         record s { followers = slice_set s.followers id (Some told.1) },
         record { old = told.0; new = told.1; is_open = told.2; next = told.3; after = refl },
         followed old new s (slice_set s.followers id (Some told.1)) stands (subst (λ (p : Places). ArePlacesOf s.chain p (slice_set s.followers id (Some told.1))) (sym becomes) told.4),
       ))
 
   -- from what the two calls on the follower's place say
-  pub instructed_by : {S : Type 0} (old new : Places) (id : ℕ) (now : Held) (height : ℕ) (shown : List Block) (step told : Option code.Step) (instruction : Option (Instruction S)) → held_of genesis opened_on live chain txs old ≡ now → height ≡ length now.chain → shown ≡ chain
-      → (place : Place) × (follower_of old id ≡ Some place) × (step ≡ step_of height place) → IsStepOf shown step (instruction_of instruction) → IsStepped old id height told new → NextSteps new id now (Ok instruction)
+  pub instructed_by : {S : Type 0} (old new : Places) (id : ℕ) (now : Held) (height : ℕ) (shown : List Block) (step told : Option code.Due) (instruction : Option (Instruction S)) → held_of genesis opened_on live chain txs old ≡ now → height ≡ length now.chain → shown ≡ chain
+      → (place : Place) × (follower_of old id ≡ Some place) × (step ≡ due_of height place) → IsDueOf shown step (instruction_of instruction) → IsMovedOn old id height told new → NextSteps new id now (Ok instruction)
   instructed_by old new id now height shown step told instruction view high same due is stepped =
       let one : due.0 ≡ stepped.place = same_Some due.0 stepped.place (sym due.1 ∙ stepped.is_open) in
       instructed old new id now height stepped.place instruction view (high ∙ sym (ap (λ (h : Held). length h.chain) view)) stepped.is_open
-      (subst (λ (x : Option code.Step). IsStepOf chain x (instruction_of instruction)) (due.2 ∙ ap (step_of height) one) (subst (λ (c : List Block). IsStepOf c step (instruction_of instruction)) same is)) stepped.after
+      (subst (λ (x : Option code.Due). IsDueOf chain x (instruction_of instruction)) (due.2 ∙ ap (due_of height) one) (subst (λ (c : List Block). IsDueOf c step (instruction_of instruction)) same is)) stepped.after
 
   pub next_unknown : {S : Type 0} (old new : Places) (id : ℕ) (now : Held) (result : Result (Option (Instruction S)) NextFault) → held_of genesis opened_on live chain txs old ≡ now → IsErrAnd result (λ e. e ≡ next.UnknownFollower) → follower_of old id ≡ None → new ≡ old → NextSteps new id now result
   next_unknown old new id now (Ok i) view is nobody same = absurd is
@@ -130,12 +130,12 @@ module _ (verifies : Verifies) (genesis : Genesis) (opened_on live chain : List 
   peek_nothing id now (Ok i) is = absurd is
   peek_nothing {S} id now (Err e) is = subst (λ (f : NextFault). Peeks verifies now id (next_reply_of {S = S} (Err f))) (sym is) (λ s stands. (s, refl))
 
-  pub peeked : {S : Type 0} (old : Places) (id : ℕ) (now : Held) (height : ℕ) (shown : List Block) (step : Option code.Step) (instruction : Option (Instruction S)) → held_of genesis opened_on live chain txs old ≡ now → height ≡ length now.chain → shown ≡ chain
-      → (place : Place) × (follower_of old id ≡ Some place) × (step ≡ step_of height place) → IsStepOf shown step (instruction_of instruction) → Peeks verifies now id (next_reply_of (Ok instruction))
+  pub peeked : {S : Type 0} (old : Places) (id : ℕ) (now : Held) (height : ℕ) (shown : List Block) (step : Option code.Due) (instruction : Option (Instruction S)) → held_of genesis opened_on live chain txs old ≡ now → height ≡ length now.chain → shown ≡ chain
+      → (place : Place) × (follower_of old id ≡ Some place) × (step ≡ due_of height place) → IsDueOf shown step (instruction_of instruction) → Peeks verifies now id (next_reply_of (Ok instruction))
   peeked {S} old id now height shown step instruction view high same due is =
-      let new = slice_set old id (Some (stepped_place height due.0)) in
+      let new = slice_set old id (Some (place_after height due.0)) in
       peek_of new id now (Ok instruction) (instructed old new id now height due.0 instruction view (high ∙ sym (ap (λ (h : Held). length h.chain) view)) due.1
-      (subst (λ (x : Option code.Step). IsStepOf chain x (instruction_of instruction)) due.2 (subst (λ (c : List Block). IsStepOf c step (instruction_of instruction)) same is)) refl)
+      (subst (λ (x : Option code.Due). IsDueOf chain x (instruction_of instruction)) due.2 (subst (λ (c : List Block). IsDueOf c step (instruction_of instruction)) same is)) refl)
 
   -- memory is asked for only where a block comes next
   add_is_due : (height : ℕ) (place : Place) (after : ℕ) (back more : Bool) → nat_lt place.agreed place.told ≡ back → nat_lt place.told height ≡ more
@@ -144,8 +144,8 @@ module _ (verifies : Verifies) (genesis : Genesis) (opened_on live chain : List 
   add_is_due height place after false true back_is more_is is = (ltb-false place.agreed place.told back_is, ltb-true place.told height more_is)
   add_is_due height place after false false back_is more_is is = absurd (let e : None ≡ Some (Add after) = is in cc)
 
-  pub want_at_next : {S : Type 0} (old : Places) (id : ℕ) (now : Held) (height : ℕ) (step : Option code.Step) (result : Result (Option (Instruction S)) NextFault) → held_of genesis opened_on live chain txs old ≡ now → height ≡ length now.chain
-      → (place : Place) × (follower_of old id ≡ Some place) × (step ≡ step_of height place) → (after : ℕ) × (step ≡ Some (Add after)) → IfErr result (IsWantAtNext now id)
+  pub want_at_next : {S : Type 0} (old : Places) (id : ℕ) (now : Held) (height : ℕ) (step : Option code.Due) (result : Result (Option (Instruction S)) NextFault) → held_of genesis opened_on live chain txs old ≡ now → height ≡ length now.chain
+      → (place : Place) × (follower_of old id ≡ Some place) × (step ≡ due_of height place) → (after : ℕ) × (step ≡ Some (Add after)) → IfErr result (IsWantAtNext now id)
   want_at_next old id now height step (Ok i) view high due add = tt
   want_at_next old id now height step (Err e) view high due add = λ is. subst (λ (h : Held). (s : State) → Stands h s → HasDue s id) view (λ s stands.
       let place = due.0 in

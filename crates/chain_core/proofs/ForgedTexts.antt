@@ -36,7 +36,7 @@ use Rattle.chain_core.specs.ChainDbs.{IsWhole}
 use Rattle.chain_core.specs.Held.{Held, Stands, held_of, network_held}
 use Rattle.chain_core.specs.ForgedBlocks.{IsForgedAs}
 use Rattle.chain_core.proofs.Arrivals.{state_of}
-use Rattle.chain_core.proofs.Pools.{outputs_are}
+use Rattle.chain_core.proofs.Mempools.{outputs_are}
 
 abbrev pub AreRead : List Stored → Type 0
 AreRead blocks = AllByRecursion (λ x. IsRead x.block (block_text x.block)) blocks

@@ -1,5 +1,5 @@
 pub mod NextStores
-pub mod Pools
+pub mod Mempools
 pub mod PastHashes
 pub mod Adding
 pub mod Tips

@@ -16,7 +16,7 @@ use Rattle.blockstore.specs.Answers.{HasNoneAt, IsAt}
 use Rattle.blockstore.proofs.ForCallers.{HoldsState, IsChainClash, known_over, clash_over, full_over}
 use Rattle.chain_core.specs.declared.chain_db.ChainDb.{ChainDb}
 use Rattle.chain_core.specs.ChainDbs.{IsWhole, HasState}
-use Rattle.chain_core.specs.Judgements.{IsClashWith, IsJudged}
+use Rattle.chain_core.specs.Judgements.{IsClashWith, IsFirstRefusal}
 
 pub refused_by : (network : Network) (s : State) (bytes : List ℕ) (r : Refusal) → NoneBelow refusal_number (Applies network s bytes) (refusal_number r) → Applies network s bytes r → IsRefused network s bytes r
 refused_by network s bytes r below applies = record { applies = applies; first = below }
@@ -62,7 +62,7 @@ module _ {S : Type 0} (network : Network) (a : ChainDb S) (s : State) (whole : I
   at_chain : (n : ℕ) → n ≡ immutable_length network a.chain.items → n ≡ immutable_length network s.chain
   at_chain n is = is ∙ ap (immutable_length network) has.chain
 
-  pub judged_old : (n : ℕ) → n ≡ immutable_length network a.chain.items → b.header.number ≤ n → IsJudged network s b (Some TooOld)
+  pub judged_old : (n : ℕ) → n ≡ immutable_length network a.chain.items → b.header.number ≤ n → IsFirstRefusal network s b (Some TooOld)
   judged_old n is old bytes read =
       refused_by network s bytes TooOld (none_of_reading network s b bytes read) ((old_applies network s b bytes read).1 (let e = at_chain n is in omega (arith, e, old)))
 
@@ -71,7 +71,7 @@ module _ {S : Type 0} (network : Network) (a : ChainDb S) (s : State) (whole : I
       none_below_next refusal_number (Applies network s bytes) one_number TooOld (none_of_reading network s b bytes read)
       (λ applies. let le = (old_applies network s b bytes read).0 applies in let e = at_chain (immutable_length network a.chain.items) refl in omega (arith, le, e, young))
 
-  pub judged_known : IsYoung → IsKnown a.store b → IsJudged network s b (Some Known)
+  pub judged_known : IsYoung → IsKnown a.store b → IsFirstRefusal network s b (Some Known)
   judged_known young known bytes read =
       refused_by network s bytes Known (below_known young bytes read) ((known_over network s a.store b bytes holds read.read).0 known)
 
@@ -79,7 +79,7 @@ module _ {S : Type 0} (network : Network) (a : ChainDb S) (s : State) (whole : I
   below_clash young unknown bytes read =
       none_below_next refusal_number (Applies network s bytes) one_number Known (below_known young bytes read) (λ applies. unknown ((known_over network s a.store b bytes holds read.read).1 applies))
 
-  pub judged_clash : IsYoung → (IsKnown a.store b → ⊥) → IsClash a.store b ⊎ IsChainClash s b → IsJudged network s b (Some Clash)
+  pub judged_clash : IsYoung → (IsKnown a.store b → ⊥) → IsClash a.store b ⊎ IsChainClash s b → IsFirstRefusal network s b (Some Clash)
   judged_clash young unknown clash bytes read =
       refused_by network s bytes Clash (below_clash young unknown bytes read) ((clash_over network s a.store b bytes holds read.read).0 clash)
 
@@ -88,11 +88,11 @@ module _ {S : Type 0} (network : Network) (a : ChainDb S) (s : State) (whole : I
       none_below_next refusal_number (Applies network s bytes) one_number Clash (below_clash young unknown bytes read)
       (λ applies. elim ((clash_over network s a.store b bytes holds read.read).1 applies) [ inl live ↦ alone live | inr there ↦ no_clash there ])
 
-  pub judged_full : IsYoung → (IsKnown a.store b → ⊥) → (IsClash a.store b → ⊥) → (IsChainClash s b → ⊥) → IsFull a.store → IsJudged network s b (Some VolatileFull)
+  pub judged_full : IsYoung → (IsKnown a.store b → ⊥) → (IsClash a.store b → ⊥) → (IsChainClash s b → ⊥) → IsFull a.store → IsFirstRefusal network s b (Some VolatileFull)
   judged_full young unknown alone no_clash full bytes read =
       refused_by network s bytes VolatileFull (below_full young unknown alone no_clash bytes read) ((full_over network s a.store bytes holds).0 full)
 
-  pub judged_none : IsYoung → (IsKnown a.store b → ⊥) → (IsClash a.store b → ⊥) → (IsChainClash s b → ⊥) → (IsFull a.store → ⊥) → IsJudged network s b None
+  pub judged_none : IsYoung → (IsKnown a.store b → ⊥) → (IsClash a.store b → ⊥) → (IsChainClash s b → ⊥) → (IsFull a.store → ⊥) → IsFirstRefusal network s b None
   judged_none young unknown alone no_clash room bytes read =
       none_at_all refusal_number (Applies network s bytes) 8 at_most_7
       (none_below_next refusal_number (Applies network s bytes) one_number VolatileFull (below_full young unknown alone no_clash bytes read) (λ applies. room ((full_over network s a.store bytes holds).1 applies)))

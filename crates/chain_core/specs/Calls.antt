@@ -12,7 +12,7 @@ use Rattle.chain_core.specs.declared.event.Reply.{Reply}
 use Rattle.chain_core.specs.declared.event.Reply.TheVariants as reply
 use Rattle.chain_core.specs.Held.{Held, Stands, network_held}
 use Rattle.chain_core.specs.Steps.{Steps}
-use Rattle.chain_core.specs.FollowerCalls.{IsWantAtOpening, IsWantAtNext}
+use Rattle.chain_core.specs.FollowerCalls.{IsWantAtOpen, IsWantAtNext}
 use Rattle.chain_core.specs.Views.{event_of, reply_of, IsReplyTo}
 
 -- where the bytes are the text of a block without transactions, memory is asked for only where no refusal applies
@@ -29,7 +29,7 @@ abbrev pub IsWantAt : {S : Type 0} → Verifies → Held → RawEvent → Reply 
 IsWantAt verifies held (event.Arrive bytes) (reply.Arrive answer) =
     OnErr answer (IsWantAtArrival verifies held bytes.items) × OnErr answer (length bytes.items ≤ block_size_limit)
 IsWantAt verifies held (event.Submit bytes) (reply.Submit answer) = OnErr answer (IsWantAtSubmission bytes.items)
-IsWantAt verifies held event.Open (reply.Open answer) = IfErr answer (IsWantAtOpening held)
+IsWantAt verifies held event.Open (reply.Open answer) = IfErr answer (IsWantAtOpen held)
 IsWantAt verifies held (event.Next id) (reply.Next answer) = IfErr answer (IsWantAtNext held id.number)
 IsWantAt verifies held e r = Unit {0}
 

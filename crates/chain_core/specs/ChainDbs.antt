@@ -17,7 +17,7 @@ use Rattle.ledgerdb.specs.Values.{Database, Prepared, depth, count}
 use Rattle.ledgerdb.specs.Chains.{without_last, IsDatabaseOf, IsPreparedOf}
 use Rattle.chainsel.specs.Ready.{IsSettled}
 use Rattle.chainsel.specs.Choices.{IsSelected}
-use Rattle.chain_core.specs.Pools.{IsPoolOf}
+use Rattle.chain_core.specs.Mempools.{IsMempoolOf}
 use Rattle.chain_core.specs.PastHashes.{IsBlockNoted}
 use Rattle.chain_core.specs.declared.chain_db.ChainDb.{ChainDb}
 use Rattle.chain_core.specs.declared.chain_db.Change.{Change}
@@ -28,7 +28,7 @@ pub record IsWhole {S : Type 0} (network : Network) (a : ChainDb S) : Type 0 whe
   pub settled : IsSettled network a.chain.items a.store a.db
   pub k : a.db.k ≡ network.genesis.k
   pub capacity : a.store.capacity ≡ network.genesis.max_volatile
-  pub pool : IsPoolOf network a.chain.items a.mempool
+  pub mempool : IsMempoolOf network a.chain.items a.mempool
   pub past : AllByRecursion (IsBlockNoted a.past) (immutable_part network a.chain.items)
   pub opened : a.opened ≡ length network.opened
 
@@ -44,9 +44,9 @@ pub record HasState {S : Type 0} (network : Network) (a : ChainDb S) (s : State)
 -- A block was kept, and the selection rule asked. Where the store had what was live of the kept blocks, it then has
 -- what is live of these and this one. The mempool was brought up to date.
 pub record IsAdded {S : Type 0} (network : Network) (old : ChainDb S) (block : Block) (new : ChainDb S)
-    (told : Change) : Type 0 where
+    (counts : Change) : Type 0 where
   pub selected : IsSelected network old.store old.chain.items block new.chain.items
-  pub change : IsChange old.chain.items new.chain.items told.back told.added
+  pub change : IsChange old.chain.items new.chain.items counts.back counts.added
   pub live : (kept : List Block) → HoldsLive network kept old.chain.items old.store
       → HoldsLive network (block ∷ kept) new.chain.items new.store
   pub mempool : new.mempool.waiting.txs ≡ revalidated network new.chain.items old.mempool.waiting.txs

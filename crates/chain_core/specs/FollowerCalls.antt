@@ -7,15 +7,15 @@ use Rattle.model.specs.History as history
 use Rattle.model.specs.History.{State, Next, Reply, HasDue}
 use Rattle.followers.specs.declared.fault.OpenFollowerFault.{OpenFollowerFault}
 use Rattle.followers.specs.declared.fault.OpenFollowerFault.TheVariants as open'
-use Rattle.followers.specs.declared.place.Step.{Step}
-use Rattle.followers.specs.declared.place.Step.TheVariants.{Add}
+use Rattle.followers.specs.declared.place.Due.{Due}
+use Rattle.followers.specs.declared.place.Due.TheVariants.{Add}
 use Rattle.chain_core.specs.declared.follower.NextFault.{NextFault}
 use Rattle.chain_core.specs.declared.follower.NextFault.TheVariants as next
 use Rattle.chain_core.specs.Held.{Held, Stands, network_held}
 
 -- memory is asked for only where a number is free
-abbrev pub IsWantAtOpening : Held → OpenFollowerFault → Type 0
-IsWantAtOpening held fault = fault ≡ open'.OutOfMemory → free_id held.followers < follower_limit
+abbrev pub IsWantAtOpen : Held → OpenFollowerFault → Type 0
+IsWantAtOpen held fault = fault ≡ open'.OutOfMemory → free_id held.followers < follower_limit
 
 -- memory is asked for only where a block comes next for the follower of this number
 abbrev pub IsWantAtNext : Held → ℕ → NextFault → Type 0
@@ -27,5 +27,5 @@ Peeks verifies held id reply = (s : State) → Stands held s → (t : State)
     × history.Step (network_held held verifies) s (Next id) reply t
 
 -- a block that is to be put on is one of so many
-abbrev pub IsWithin : ℕ → Option Step → Type 0
-IsWithin height step = (after : ℕ) → step ≡ Some (Add after) → after < height
+abbrev pub IsWithin : ℕ → Option Due → Type 0
+IsWithin height due = (after : ℕ) → due ≡ Some (Add after) → after < height

@@ -15,7 +15,7 @@ abbrev pub IsPointOf : Point → Block → Type 0
 IsPointOf point b = (point.number ≡ b.header.number) × (point.hash.bytes ≡ block_hash_of b)
 
 -- the answer of a state to the bytes of a block that was read
-abbrev pub IsJudged : Network → State → Block → Option Refusal → Type 0
-IsJudged network s b answer = (bytes : List ℕ) → IsRead b bytes → MatchOption answer
+abbrev pub IsFirstRefusal : Network → State → Block → Option Refusal → Type 0
+IsFirstRefusal network s b answer = (bytes : List ℕ) → IsRead b bytes → MatchOption answer
     ((refusal : Refusal) → Applies network s bytes refusal → ⊥)
     (IsRefused network s bytes)

@@ -1,6 +1,6 @@
 pub mod Held
 pub mod Steps
-pub mod Pools
+pub mod Mempools
 pub mod ChainDbs
 pub mod Views
 pub mod Texts

@@ -20,7 +20,7 @@ ghost use Rattle.ledgerdb.specs.Chains.{without_last, IsDatabaseOf, IsPreparedOf
 ghost use Rattle.chain_core.specs.ChainDbs.{IsWhole, IsAdded, AreMarked, IsTakenIn, IsCutBack, IsCommitted};
 ghost use Rattle.chain_core.specs.ChainDbs.{IsTaken, network_db};
 ghost use Rattle.chain_core.specs.PastHashes.{IsNoted, IsBlockNoted};
-ghost use Rattle.chain_core.specs.Pools.{IsBroughtTo, IsWantOf};
+ghost use Rattle.chain_core.specs.Mempools.{IsResynced, IsWantOf};
 
 use crate::past::{Bytes, note_all};
 use crate::reopening::OpenedChain;
@@ -167,7 +167,7 @@ impl<S: SigScheme> ChainDb<S> {
         ensures { IfOk result (λ resynced. (genesis : Genesis) (opened chain blocks : List Block) →
             IsDatabaseOf (network_on genesis S.verifies opened) chain self.now.db →
             IsPreparedOf (network_on genesis S.verifies opened) (without_last switch.now.prepared.back chain) blocks
-            switch.now.prepared → IsBroughtTo (network_on genesis S.verifies opened)
+            switch.now.prepared → IsResynced (network_on genesis S.verifies opened)
             (without_last switch.now.prepared.back chain ++ blocks) self.now.mempool.waiting.txs resynced) }
     {
         let state = self.db.state_after(&switch.prepared);

@@ -1,14 +1,14 @@
 //! What followers are told.
 
 ghost use Rattle.std.specs.Prelude.{◌≡◌, IfOk, OnErr, Some, ℕ, length};
-ghost use Rattle.followers.specs.declared.place.Step.TheVariants.{Add};
-ghost use Rattle.followers.specs.Standing.{IsStepOf};
+ghost use Rattle.followers.specs.declared.place.Due.TheVariants.{Add};
+ghost use Rattle.followers.specs.Standing.{IsDueOf};
 ghost use Rattle.chain_core.specs.FollowerCalls.{IsWithin};
 ghost use Rattle.chain_core.specs.Views.{instruction_of};
 
 use crate::place::point_at;
 use block::CheckedBlock;
-use followers::{Step, UnknownFollower};
+use followers::{Due, UnknownFollower};
 use ident::Point;
 use std::alloc::AllocError;
 use std::fmt;
@@ -74,19 +74,19 @@ impl From<UnknownFollower> for NextFault {
     }
 }
 
-/// The instruction that a step is beside the chain. Shares the block, and copies none of its bytes.
+/// The instruction that what is due is beside the chain. Shares the block, and copies none of its bytes.
 pub fn instruction_for<S: SigScheme>(
     chain: &[CheckedBlock<S>],
-    step: Option<Step>,
+    due: Option<Due>,
 ) -> Result<Option<Instruction<S>>, AllocError>
-    requires { IsWithin (length chain.now) step }
-    ensures ok { IfOk result (λ instruction. IsStepOf chain.now step (instruction_of instruction)) }
-    ensures memory { OnErr result ((after : ℕ) × (step ≡ Some (Add after))) }
+    requires { IsWithin (length chain.now) due }
+    ensures ok { IfOk result (λ instruction. IsDueOf chain.now due (instruction_of instruction)) }
+    ensures memory { OnErr result ((after : ℕ) × (due ≡ Some (Add after))) }
 {
-    match step {
+    match due {
         None => Ok(None),
-        Some(Step::RollBack { to }) => Ok(Some(Instruction::RollBack(point_at(chain, to)))),
-        Some(Step::Add { after }) => {
+        Some(Due::RollBack { to }) => Ok(Some(Instruction::RollBack(point_at(chain, to)))),
+        Some(Due::Add { after }) => {
             let block = chain[after as usize].try_clone()?;
             Ok(Some(Instruction::AddBlock(block)))
         }

@@ -82,8 +82,8 @@ impl<S: SigScheme> Core<S> {
     ghost use Rattle.chain_core.specs.Views.{AreRepliesTo};
     ghost use Rattle.chain_core.specs.Steps.{Steps};
     ghost use Rattle.chain_core.specs.Calls.{IsWantAtArrival, IsWantAtSubmission, IsWantAt, IsLeftAt, AreCalls};
-    ghost use Rattle.chain_core.specs.Pools.{IsWantOf};
-    ghost use Rattle.chain_core.specs.FollowerCalls.{IsWantAtOpening, IsWantAtNext, Peeks};
+    ghost use Rattle.chain_core.specs.Mempools.{IsWantOf};
+    ghost use Rattle.chain_core.specs.FollowerCalls.{IsWantAtOpen, IsWantAtNext, Peeks};
     ghost use Rattle.chain_core.specs.ForgedBlocks.{IsForgedAs, IsForgeFault};
     ghost use Rattle.chain_core.specs.Held.{opening_held, network_held, Stands};
     ghost use Rattle.chain_core.specs.Numbers.{block_numbered};
@@ -302,7 +302,7 @@ impl<S: SigScheme> Core<S> {
     pub fn open(&mut self) -> Result<FollowerId, OpenFollowerFault>
         ensures step { Steps S.verifies self.old Open (open_reply_of result) self.new }
         // Memory is asked for only where a number is free.
-        ensures memory { IfErr result (IsWantAtOpening self.old) }
+        ensures memory { IfErr result (IsWantAtOpen self.old) }
         ensures genesis { self.new.genesis ≡ self.old.genesis }
         ensures opened { self.new.opened ≡ self.old.opened }
         ensures err { OnErr result (self.new ≡ self.old) }
@@ -328,8 +328,8 @@ impl<S: SigScheme> Core<S> {
         ensures err { OnErr result (self.new ≡ self.old) }
     {
         let height = self.height();
-        let step = self.followers.due(id, height)?;
-        let instruction = instruction_for(&self.chain_db.chain, step)?;
+        let due = self.followers.due(id, height)?;
+        let instruction = instruction_for(&self.chain_db.chain, due)?;
         self.followers.next(id, height)?;
         Ok(instruction)
     }
@@ -344,8 +344,8 @@ impl<S: SigScheme> Core<S> {
         ensures memory { IfErr result (IsWantAtNext self.now id.number) }
     {
         let height = self.height();
-        let step = self.followers.due(id, height)?;
-        let instruction = instruction_for(&self.chain_db.chain, step)?;
+        let due = self.followers.due(id, height)?;
+        let instruction = instruction_for(&self.chain_db.chain, due)?;
         Ok(instruction)
     }
 

@@ -8,7 +8,7 @@ ghost use Rattle.model.specs.History.{State};
 ghost use Rattle.blockstore.specs.Answers.{HasNoneAt};
 ghost use Rattle.chain_core.specs.Views.{refusal_of};
 ghost use Rattle.chain_core.specs.ChainDbs.{IsWhole, HasState};
-ghost use Rattle.chain_core.specs.Judgements.{IsClashWith, IsPointOf, IsJudged};
+ghost use Rattle.chain_core.specs.Judgements.{IsClashWith, IsPointOf, IsFirstRefusal};
 
 use crate::arrival::Refusal;
 use crate::chain_db::ChainDb;
@@ -56,7 +56,7 @@ pub fn first_refusal<S: SigScheme>(
     // It is that of each state with this chain and these live blocks.
     ensures { (network : Network) (s : State) (block : Plain) → IsWhole network chain_db.now
         → HasState network chain_db.now s → IsRead block bytes.now → IsPointOf point block
-        → IsJudged network s block (option_map refusal_of result) }
+        → IsFirstRefusal network s block (option_map refusal_of result) }
 {
     if point.number <= chain_db.immutable() as u64 {
         return Some(Refusal::TooOld);

@@ -20,7 +20,7 @@ use Rattle.ledgerdb.proofs.ForCallers.{database_valid}
 use Rattle.chainsel.specs.Dead.{HaveOnePlace, IsUnused, IsDead}
 use Rattle.chainsel.specs.Ready.{IsReady}
 use Rattle.chainsel.specs.Choices.{IsFoundDead}
-use Rattle.chainsel.specs.Paths.{IsStep}
+use Rattle.chainsel.specs.Paths.{IsOnPath}
 use Rattle.chainsel.proofs.Places.{distinct_placed, one_number}
 
 -- the one that came, the live ones and those of the chain
@@ -72,7 +72,7 @@ module _ (network : Network) (chain : List Block) (store : Store) (db : Database
 
   -- so what a valid chain has past the immutable part is the one that came, or fit
   step_of : (invalid : List BlockHash) → AllByRecursion (IsFoundDead network chain (new ∷ blocks_of store)) invalid → (b : Block) → Contains (new ∷ blocks_of store) b
-      → (IsUnused network (at_hand chain store new) b → ⊥) → IsStep store invalid new b
+      → (IsUnused network (at_hand chain store new) b → ⊥) → IsOnPath store invalid new b
   step_of invalid found b member used =
       elim (contains_cases new (blocks_of store) b member) [
         | inl is ↦ inl (sym is)
@@ -95,13 +95,13 @@ module _ (network : Network) (chain : List Block) (store : Store) (db : Database
 
   -- the blocks of a candidate past the immutable part
   pub candidate_steps : (invalid : List BlockHash) → AllByRecursion (IsFoundDead network chain (new ∷ blocks_of store)) invalid → (c : List Block) → IsCandidate network (at_hand chain store new) chain c
-      → AllByRecursion (IsStep store invalid new) (drop (immutable_length network chain) c)
+      → AllByRecursion (IsOnPath store invalid new) (drop (immutable_length network chain) c)
   candidate_steps invalid found c candidate =
       let m = immutable_length network chain in
       let splits = candidate_front network (at_hand chain store new) chain c candidate in
       let long : m ≤ length c = omega (arith, ap length splits, length-append (immutable_part network chain) (drop m c), length_immutable network chain) in
       let live = live_rest network (at_hand chain store new) chain c candidate long in
-      all_from_members (IsStep store invalid new) (drop m c)
+      all_from_members (IsOnPath store invalid new) (drop m c)
       (λ b member.
       let is_live = all_of_member (Contains (live_blocks network (at_hand chain store new) chain)) (drop m c) b live member in
       let past = live_number network (at_hand chain store new) chain b is_live in

@@ -20,7 +20,7 @@ use Rattle.chainsel.specs.Ready.{IsReady}
 use Rattle.chainsel.specs.Choices.{IsFoundDead, IsOpenPath, IsNoBetter, IsExplained}
 use Rattle.chainsel.specs.declared.choice.Choice.{Choice}
 use Rattle.chainsel.specs.declared.choice.Choice.TheVariants as choice
-use Rattle.chainsel.specs.Paths.{IsFitLive, IsStep, Descends, IsBest, IsWay, HasNoWay, last_block}
+use Rattle.chainsel.specs.Paths.{IsFitLive, IsOnPath, Descends, IsBest, IsWay, HasNoWay, last_block}
 use Rattle.chainsel.proofs.AtHand.{at_hand, chain_valid, candidate_steps}
 use Rattle.chainsel.proofs.Lists.{all_front, all_rest}
 use Rattle.chainsel.proofs.Tips.{linked_take}
@@ -59,14 +59,14 @@ module _ (network : Network) (chain : List Block) (store : Store) (db : Database
     at_new : IsLinked (tip_after root before) (new ∷ after)
     at_new = linked_rest root before (new ∷ after) linked
 
-    steps : AllByRecursion (IsStep store told new) (before ++ new ∷ after)
-    steps = subst (AllByRecursion (IsStep store told new)) parts is.members
+    steps : AllByRecursion (IsOnPath store told new) (before ++ new ∷ after)
+    steps = subst (AllByRecursion (IsOnPath store told new)) parts is.members
 
     goes_on : Descends store told new (last_block new after)
     goes_on = record {
       path = after;
       linked = at_new.1;
-      members = fit_after store told new after at_new.1 (all_rest (IsStep store told new) before (new ∷ after) steps).1;
+      members = fit_after store told new after at_new.1 (all_rest (IsOnPath store told new) before (new ∷ after) steps).1;
       last = refl;
     }
 
@@ -113,7 +113,7 @@ module _ (network : Network) (chain : List Block) (store : Store) (db : Database
       between_linked : IsLinked start between
       between_linked = linked_rest genesis_tip (take m chain) between (subst (IsLinked genesis_tip) (sym kept) chain_linked)
 
-      between_steps : AllByRecursion (IsStep store told new) between
+      between_steps : AllByRecursion (IsOnPath store told new) between
       between_steps =
           let far : m + (keep - m) ≡ keep = let low = is.low in omega arith in
           let same : drop m (take keep chain) ≡ take (keep - m) (drop m chain) = ap (λ (n : ℕ). drop m (take n chain)) (sym far) ∙ drop-take m (keep - m) chain in
@@ -122,7 +122,7 @@ module _ (network : Network) (chain : List Block) (store : Store) (db : Database
             members = all_from_members (Contains (at_hand chain store new)) chain (λ b member. Contains-append_right (new ∷ blocks_of store) chain b member);
             begins = begins_with_itself network chain;
           }) in
-          subst (AllByRecursion (IsStep store told new)) (sym same) (all_take (IsStep store told new) (keep - m) (drop m chain) all)
+          subst (AllByRecursion (IsOnPath store told new)) (sym same) (all_take (IsOnPath store told new) (keep - m) (drop m chain) all)
 
       leads : (b : Block) → Descends store told new b → HasNoWay store told chain m new b → ⊥
       leads b goes no_way =
@@ -133,10 +133,10 @@ module _ (network : Network) (chain : List Block) (store : Store) (db : Database
           linked_join start between (before ++ new ∷ goes.path) between_linked (subst (λ (t : Tip). IsLinked t (before ++ new ∷ goes.path)) (sym reaches) on) in
           let to_it : between ++ (before ++ new ∷ goes.path) ≡ ((between ++ before) ++ front.0) ++ b ∷ [] =
           sym (append_assoc between before (new ∷ goes.path)) ∙ (ap (λ (bs : List Block). (between ++ before) ++ bs) whole ∙ sym (append_assoc (between ++ before) front.0 (b ∷ []))) in
-          let onward : AllByRecursion (IsStep store told new) (new ∷ goes.path) = (inl refl, all_weaker (IsFitLive store told) (IsStep store told new) goes.path (λ d fit. inr fit) goes.members) in
-          let are : AllByRecursion (IsStep store told new) ((between ++ before) ++ front.0) = all_append (IsStep store told new) (between ++ before) front.0
-          (all_append (IsStep store told new) between before between_steps (all_front (IsStep store told new) before (new ∷ after) steps))
-          (all_front (IsStep store told new) front.0 (b ∷ []) (subst (AllByRecursion (IsStep store told new)) whole onward)) in
+          let onward : AllByRecursion (IsOnPath store told new) (new ∷ goes.path) = (inl refl, all_weaker (IsFitLive store told) (IsOnPath store told new) goes.path (λ d fit. inr fit) goes.members) in
+          let are : AllByRecursion (IsOnPath store told new) ((between ++ before) ++ front.0) = all_append (IsOnPath store told new) (between ++ before) front.0
+          (all_append (IsOnPath store told new) between before between_steps (all_front (IsOnPath store told new) before (new ∷ after) steps))
+          (all_front (IsOnPath store told new) front.0 (b ∷ []) (subst (AllByRecursion (IsOnPath store told new)) whole onward)) in
           no_way ((between ++ before) ++ front.0) are (subst (IsLinked start) to_it all)
 
   -- ---- where the chain stays

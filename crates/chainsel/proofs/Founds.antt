@@ -9,7 +9,7 @@ use Rattle.model.proofs.Lists.{all_of_member, all_from_members, all_append, cont
 use Rattle.model.proofs.Sets.{no_more_than}
 use Rattle.ident.specs.Kinds.{BlockHash}
 use Rattle.blockstore.specs.Stored.{Stored, Store, blocks_of}
-use Rattle.chainsel.specs.Paths.{IsFitLive, IsStep, IsWay, Descends}
+use Rattle.chainsel.specs.Paths.{IsFitLive, IsOnPath, IsWay, Descends}
 use Rattle.chainsel.proofs.Through.{fit_is_live}
 use Rattle.chainsel.proofs.Keeping.{end_is_step}
 
@@ -53,8 +53,8 @@ found_fewer store invalid found =
 pub way_fit : (store : Store) (invalid : List BlockHash) (chain : List Block) (immutable : ℕ) (new end : Block) (keep : ℕ) (blocks : List Block) → IsWay store invalid chain immutable new end keep blocks → Descends store invalid new end
     → (b : Block) → Contains blocks b → block_hash_of b ≢ block_hash_of new → IsFitLive store invalid b
 way_fit store invalid chain immutable new end keep blocks way descends b member other =
-    elim (all_of_member (IsStep store invalid new) blocks b
-    (subst (AllByRecursion (IsStep store invalid new)) (sym way.ends) (all_append (IsStep store invalid new) way.before (end ∷ []) way.members (end_is_step store invalid new end descends, tt))) member) [
+    elim (all_of_member (IsOnPath store invalid new) blocks b
+    (subst (AllByRecursion (IsOnPath store invalid new)) (sym way.ends) (all_append (IsOnPath store invalid new) way.before (end ∷ []) way.members (end_is_step store invalid new end descends, tt))) member) [
       | inl is ↦ absurd (other (ap block_hash_of is))
       | inr fit ↦ fit
     ]

@@ -15,7 +15,7 @@ use Rattle.blockstore.specs.Stored.{Store, blocks_of}
 use Rattle.ledgerdb.specs.Values.{Database}
 use Rattle.chainsel.specs.Ready.{IsReady}
 use Rattle.chainsel.specs.Choices.{IsSelected, IsFoundDead}
-use Rattle.chainsel.specs.Paths.{IsFitLive, IsStep, Descends, IsBest, HasNoWay, last_block}
+use Rattle.chainsel.specs.Paths.{IsFitLive, IsOnPath, Descends, IsBest, HasNoWay, last_block}
 use Rattle.chainsel.proofs.AtHand.{at_hand, found_unused}
 use Rattle.chainsel.proofs.Deaths.{all_in_front}
 use Rattle.chainsel.proofs.Through.{GoesThrough, candidate_cases, through_length, has_new}
@@ -36,10 +36,10 @@ last_has P x [] all = all.0
 last_has P x (y ∷ ys) all = last_has P y ys all.1
 
 -- what goes on from the block that came is a step
-pub end_is_step : (store : Store) (invalid : List BlockHash) (new b : Block) → Descends store invalid new b → IsStep store invalid new b
+pub end_is_step : (store : Store) (invalid : List BlockHash) (new b : Block) → Descends store invalid new b → IsOnPath store invalid new b
 end_is_step store invalid new b is =
-    subst (IsStep store invalid new) is.last
-    (last_has (IsStep store invalid new) new is.path (inl refl, all_weaker (IsFitLive store invalid) (IsStep store invalid new) is.path (λ c fit. inr fit) is.members))
+    subst (IsOnPath store invalid new) is.last
+    (last_has (IsOnPath store invalid new) new is.path (inl refl, all_weaker (IsFitLive store invalid) (IsOnPath store invalid new) is.path (λ c fit. inr fit) is.members))
 
 module _ (network : Network) (chain : List Block) (store : Store) (db : Database) (new : Block) (ready : IsReady network chain store db new) where
   -- the selection among the blocks at hand is that among all that were kept
@@ -95,8 +95,8 @@ module _ (network : Network) (chain : List Block) (store : Store) (db : Database
         tip : Tip
         tip = tip_after genesis_tip (immutable_part network chain)
 
-        steps : AllByRecursion (IsStep store invalid new) (new ∷ is.path)
-        steps = (inl refl, all_weaker (IsFitLive store invalid) (IsStep store invalid new) is.path (λ d fit. inr fit) is.members)
+        steps : AllByRecursion (IsOnPath store invalid new) (new ∷ is.path)
+        steps = (inl refl, all_weaker (IsFitLive store invalid) (IsOnPath store invalid new) is.path (λ d fit. inr fit) is.members)
 
         leads : GoesThrough network chain store db new ready invalid found c → ⊥
         leads through =
@@ -106,9 +106,9 @@ module _ (network : Network) (chain : List Block) (store : Store) (db : Database
             let at_new = linked_rest tip through.before (new ∷ through.after) through.linked in
             let linked : IsLinked tip (through.before ++ new ∷ is.path) = linked_join tip through.before (new ∷ is.path) before (at_new.0, is.linked) in
             let to_it : through.before ++ new ∷ is.path ≡ (through.before ++ front.0) ++ b ∷ [] = ap (λ (bs : List Block). through.before ++ bs) whole ∙ sym (append_assoc through.before front.0 (b ∷ [])) in
-            let are : AllByRecursion (IsStep store invalid new) (through.before ++ front.0) = all_append (IsStep store invalid new) through.before front.0
-            (all_weaker (IsFitLive store invalid) (IsStep store invalid new) through.before (λ d fit. inr fit) through.fit)
-            (all_in_front (IsStep store invalid new) front.0 (b ∷ []) (subst (AllByRecursion (IsStep store invalid new)) whole steps)) in
+            let are : AllByRecursion (IsOnPath store invalid new) (through.before ++ front.0) = all_append (IsOnPath store invalid new) through.before front.0
+            (all_weaker (IsFitLive store invalid) (IsOnPath store invalid new) through.before (λ d fit. inr fit) through.fit)
+            (all_in_front (IsOnPath store invalid new) front.0 (b ∷ []) (subst (AllByRecursion (IsOnPath store invalid new)) whole steps)) in
             no_way (through.before ++ front.0) are (subst (IsLinked tip) to_it linked)
 
     -- where the block that came is dead

@@ -9,7 +9,7 @@ use Rattle.model.proofs.Chains.{one_with_hash}
 use Rattle.ident.specs.Kinds.{BlockHash}
 use Rattle.blockstore.specs.Stored.{Stored, Store, blocks_of}
 use Rattle.blockstore.specs.Answers.{IsAt}
-use Rattle.chainsel.specs.Paths.{IsFit, IsFitLive, IsStep}
+use Rattle.chainsel.specs.Paths.{IsFit, IsFitLive, IsOnPath}
 
 -- of stored blocks with distinct hashes, those with one hash are one
 pub one_stored : (ss : List Stored) (s t : Stored) → HaveDistinctHashes (map (λ x. x.block) ss) → Contains ss s → Contains ss t → block_hash_of s.block ≡ block_hash_of t.block → s ≡ t
@@ -33,12 +33,12 @@ pub fit_member : (store : Store) (invalid : List BlockHash) (b : Block) → IsFi
 fit_member store invalid b live = subst (Contains (blocks_of store)) live.block (contains_map (λ s. s.block) store.blocks live.stored live.member)
 
 -- what a path is made of is the new block or live
-pub step_member : (store : Store) (invalid : List BlockHash) (new b : Block) → IsStep store invalid new b → Contains (new ∷ blocks_of store) b
+pub step_member : (store : Store) (invalid : List BlockHash) (new b : Block) → IsOnPath store invalid new b → Contains (new ∷ blocks_of store) b
 step_member store invalid new b (inl is) = subst (Contains (new ∷ blocks_of store)) (sym is) (contains_first new (blocks_of store))
 step_member store invalid new b (inr live) = contains_later new (blocks_of store) b (fit_member store invalid b live)
 
 -- blocks that a path is made of and that one block follows are one
-pub one_before : (store : Store) (invalid : List BlockHash) (new b c d : Block) → HaveDistinctHashes (new ∷ blocks_of store) → IsStep store invalid new b → IsStep store invalid new c → Follows (tip_at b) d → Follows (tip_at c) d → b ≡ c
+pub one_before : (store : Store) (invalid : List BlockHash) (new b c d : Block) → HaveDistinctHashes (new ∷ blocks_of store) → IsOnPath store invalid new b → IsOnPath store invalid new c → Follows (tip_at b) d → Follows (tip_at c) d → b ≡ c
 one_before store invalid new b c d distinct step other follows follows_too =
     one_with_hash (new ∷ blocks_of store) b c distinct (step_member store invalid new b step) (step_member store invalid new c other)
     (same_Some (block_hash_of b) (block_hash_of c) (sym follows.previous ∙ follows_too.previous))

@@ -23,7 +23,7 @@ use Rattle.ledgerdb.specs.Values.{Database}
 use Rattle.chainsel.specs.Dead.{IsDead}
 use Rattle.chainsel.specs.Ready.{IsReady}
 use Rattle.chainsel.specs.Choices.{IsFoundDead}
-use Rattle.chainsel.specs.Paths.{IsStep, IsBest, IsWay, last_block}
+use Rattle.chainsel.specs.Paths.{IsOnPath, IsBest, IsWay, last_block}
 use Rattle.chainsel.proofs.AtHand.{at_hand, chain_valid}
 use Rattle.chainsel.proofs.Places.{tip_of_end}
 use Rattle.chainsel.proofs.Deaths.{all_in_front, fault_dead}
@@ -56,8 +56,8 @@ module _ (network : Network) (chain : List Block) (store : Store) (db : Database
   -- its blocks are steps
   pub blocks_there : AllByRecursion (Contains (new ∷ blocks_of store)) blocks
   blocks_there =
-      all_weaker (IsStep store invalid new) (Contains (new ∷ blocks_of store)) blocks (step_is_there store invalid new)
-      (subst (AllByRecursion (IsStep store invalid new)) (sym way.ends) (all_append (IsStep store invalid new) way.before (end ∷ []) way.members (end_is_step store invalid new end best.descends, tt)))
+      all_weaker (IsOnPath store invalid new) (Contains (new ∷ blocks_of store)) blocks (step_is_there store invalid new)
+      (subst (AllByRecursion (IsOnPath store invalid new)) (sym way.ends) (all_append (IsOnPath store invalid new) way.before (end ∷ []) way.members (end_is_step store invalid new end best.descends, tt)))
 
   pub led_at_hand : AllByRecursion (Contains (at_hand chain store new)) led
   led_at_hand =

@@ -15,7 +15,7 @@ use Rattle.blockstore.specs.Stored.{Stored, Store, blocks_of}
 use Rattle.ledgerdb.specs.Values.{Database}
 use Rattle.chainsel.specs.Ready.{IsReady}
 use Rattle.chainsel.specs.Choices.{IsFoundDead}
-use Rattle.chainsel.specs.Paths.{IsFitLive, IsStep, Descends, last_block}
+use Rattle.chainsel.specs.Paths.{IsFitLive, IsOnPath, Descends, last_block}
 use Rattle.chainsel.proofs.AtHand.{at_hand, candidate_steps}
 
 -- ---- steps, with the block that came among them or not
@@ -25,9 +25,9 @@ pub record HasNew (store : Store) (invalid : List BlockHash) (new : Block) (step
   pub after : List Block
   pub parts : steps ≡ before ++ new ∷ after
   pub fit : AllByRecursion (IsFitLive store invalid) before
-  pub rest : AllByRecursion (IsStep store invalid new) after
+  pub rest : AllByRecursion (IsOnPath store invalid new) after
 
-first_new : (store : Store) (invalid : List BlockHash) (new : Block) (steps : List Block) → AllByRecursion (IsStep store invalid new) steps → HasNew store invalid new steps ⊎ AllByRecursion (IsFitLive store invalid) steps
+first_new : (store : Store) (invalid : List BlockHash) (new : Block) (steps : List Block) → AllByRecursion (IsOnPath store invalid new) steps → HasNew store invalid new steps ⊎ AllByRecursion (IsFitLive store invalid) steps
 first_new store invalid new [] all = inr tt
 first_new store invalid new (x ∷ xs) all =
     elim all.0 [
@@ -39,19 +39,19 @@ first_new store invalid new (x ∷ xs) all =
     ]
 
 -- past the block that came all are fit
-pub fit_after : (store : Store) (invalid : List BlockHash) (new : Block) (after : List Block) → IsLinked (tip_at new) after → AllByRecursion (IsStep store invalid new) after → AllByRecursion (IsFitLive store invalid) after
+pub fit_after : (store : Store) (invalid : List BlockHash) (new : Block) (after : List Block) → IsLinked (tip_at new) after → AllByRecursion (IsOnPath store invalid new) after → AllByRecursion (IsFitLive store invalid) after
 fit_after store invalid new after linked steps =
-    all_weaker (λ b. (new.header.number < b.header.number) × IsStep store invalid new b) (IsFitLive store invalid) after one
-    (all_both (λ b. new.header.number < b.header.number) (IsStep store invalid new) after (numbers_past (tip_at new) after linked) steps)
+    all_weaker (λ b. (new.header.number < b.header.number) × IsOnPath store invalid new b) (IsFitLive store invalid) after one
+    (all_both (λ b. new.header.number < b.header.number) (IsOnPath store invalid new) after (numbers_past (tip_at new) after linked) steps)
   where
-    one : (b : Block) → (new.header.number < b.header.number) × IsStep store invalid new b → IsFitLive store invalid b
+    one : (b : Block) → (new.header.number < b.header.number) × IsOnPath store invalid new b → IsFitLive store invalid b
     one b (past, inl is) = absurd (let e : b.header.number ≡ new.header.number = ap (λ (c : Block). c.header.number) is in omega (arith, past, e))
     one b (past, inr fit) = fit
 
 pub fit_is_live : (store : Store) (invalid : List BlockHash) (b : Block) → IsFitLive store invalid b → Contains (blocks_of store) b
 fit_is_live store invalid b fit = subst (Contains (blocks_of store)) fit.block (contains_map (λ (s : Stored). s.block) store.blocks fit.stored fit.member)
 
-pub step_is_there : (store : Store) (invalid : List BlockHash) (new b : Block) → IsStep store invalid new b → Contains (new ∷ blocks_of store) b
+pub step_is_there : (store : Store) (invalid : List BlockHash) (new b : Block) → IsOnPath store invalid new b → Contains (new ∷ blocks_of store) b
 step_is_there store invalid new b (inl is) = subst (Contains (new ∷ blocks_of store)) (sym is) (contains_first new (blocks_of store))
 step_is_there store invalid new b (inr fit) = contains_later new (blocks_of store) b (fit_is_live store invalid b fit)
 

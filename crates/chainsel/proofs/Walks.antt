@@ -9,7 +9,7 @@ use Rattle.model.specs.Chain.{Tip, genesis_tip, tip_at, tip_after, Follows, IsLi
 use Rattle.model.proofs.Chains.{linked_rest, linked_front, tip_number}
 use Rattle.ident.specs.Kinds.{BlockHash}
 use Rattle.blockstore.specs.Stored.{Store, blocks_of}
-use Rattle.chainsel.specs.Paths.{IsStep, IsWay}
+use Rattle.chainsel.specs.Paths.{IsOnPath, IsWay}
 use Rattle.chainsel.proofs.Lists.{last_cases, before_last}
 use Rattle.chainsel.proofs.Tips.{tip_of_place, tip_of_pushed, linked_take}
 use Rattle.chainsel.proofs.Parents.{one_before}
@@ -19,14 +19,14 @@ pub record IsPath (store : Store) (invalid : List BlockHash) (chain : List Block
   pub distinct : HaveDistinctHashes (new ∷ blocks_of store)
   pub chain_linked : IsLinked genesis_tip chain
   pub within : immutable ≤ length chain
-  pub members : AllByRecursion (IsStep store invalid new) steps
+  pub members : AllByRecursion (IsOnPath store invalid new) steps
   pub linked : IsLinked (tip_after genesis_tip (take immutable chain)) (steps ++ end ∷ [])
 
 -- the way back from the end as far as this block, with those that come after it
 pub record IsWalk (store : Store) (invalid : List BlockHash) (chain : List Block) (immutable : ℕ) (new end first : Block) (rest : List Block) : Type 0 where
   pub before : List Block
   pub ends : first ∷ rest ≡ before ++ end ∷ []
-  pub members : AllByRecursion (IsStep store invalid new) before
+  pub members : AllByRecursion (IsOnPath store invalid new) before
   pub linked : IsLinked (tip_at first) rest
   pub only : (steps : List Block) → IsPath store invalid chain immutable new end steps → (front : List Block) × (steps ++ end ∷ [] ≡ front ++ first ∷ rest)
   pub apart : length chain < end.header.number → (place : ℕ) → place + 1 ≡ first.header.number → slice_get chain place ≢ Some first
@@ -52,7 +52,7 @@ module _ (store : Store) (invalid : List BlockHash) (chain : List Block) (immuta
 
   -- of a path, what goes before a block: nothing, so that it follows the immutable part, or a step
   pub goes_before : (first : Block) (rest steps : List Block) → IsPath store invalid chain immutable new end steps → (front : List Block) → steps ++ end ∷ [] ≡ front ++ first ∷ rest
-      → ((first.header.number ≡ immutable + 1) × Follows (tip_after genesis_tip (take immutable chain)) first) ⊎ ((more : List Block) × (b : Block) × (front ≡ more ++ b ∷ []) × IsStep store invalid new b × Follows (tip_at b) first)
+      → ((first.header.number ≡ immutable + 1) × Follows (tip_after genesis_tip (take immutable chain)) first) ⊎ ((more : List Block) × (b : Block) × (front ≡ more ++ b ∷ []) × IsOnPath store invalid new b × Follows (tip_at b) first)
   goes_before first rest steps path front is =
       let tip : Tip = tip_after genesis_tip (take immutable chain) in
       let linked : IsLinked tip (front ++ first ∷ rest) = subst (IsLinked tip) is path.linked in
@@ -63,7 +63,7 @@ module _ (store : Store) (invalid : List BlockHash) (chain : List Block) (immuta
         | inr some ↦
             let parts : (some.0 ++ some.1 ∷ []) ++ first ∷ rest ≡ some.0 ++ some.1 ∷ first ∷ rest = append_assoc some.0 (some.1 ∷ []) (first ∷ rest) in
             let split : front ++ first ∷ rest ≡ some.0 ++ some.1 ∷ first ∷ rest = ap (λ bs. bs ++ first ∷ rest) some.2 ∙ parts in
-            let step : IsStep store invalid new some.1 = before_last (IsStep store invalid new) steps some.0 rest end some.1 first path.members (is ∙ split) in
+            let step : IsOnPath store invalid new some.1 = before_last (IsOnPath store invalid new) steps some.0 rest end some.1 first path.members (is ∙ split) in
             let on : IsLinked (tip_after tip (some.0 ++ some.1 ∷ [])) (first ∷ rest) = linked_rest tip (some.0 ++ some.1 ∷ []) (first ∷ rest) (subst (λ (bs : List Block). IsLinked tip (bs ++ first ∷ rest)) some.2 linked) in
             inr (some.0, some.1, some.2, step, subst (λ (t : Tip). Follows t first) (tip_of_pushed tip some.0 some.1) on.0)
       ]
@@ -71,7 +71,7 @@ module _ (store : Store) (invalid : List BlockHash) (chain : List Block) (immuta
   -- where a block doesn't follow the first blocks of the chain, nor a step, no path to the end goes through it
   pub no_way_further : (first : Block) (rest : List Block) (keep : ℕ) → IsWalk store invalid chain immutable new end first rest → keep + 1 ≡ first.header.number
       → (keep ≤ length chain → Follows (tip_after genesis_tip (take keep chain)) first → ⊥)
-      → (HaveDistinctHashes (new ∷ blocks_of store) → (b : Block) → IsStep store invalid new b → Follows (tip_at b) first → ⊥)
+      → (HaveDistinctHashes (new ∷ blocks_of store) → (b : Block) → IsOnPath store invalid new b → Follows (tip_at b) first → ⊥)
       → (steps : List Block) → IsPath store invalid chain immutable new end steps → ⊥
   no_way_further first rest keep walk number refused none steps path =
       let through = walk.only steps path in
@@ -99,7 +99,7 @@ module _ (store : Store) (invalid : List BlockHash) (chain : List Block) (immuta
   -- one step back
   pub walk_step : (first found : Block) (rest : List Block) (keep : ℕ) → IsWalk store invalid chain immutable new end first rest → keep + 1 ≡ first.header.number
       → (keep ≤ length chain → Follows (tip_after genesis_tip (take keep chain)) first → ⊥)
-      → IsStep store invalid new found → Follows (tip_at found) first → IsWalk store invalid chain immutable new end found (first ∷ rest)
+      → IsOnPath store invalid new found → Follows (tip_at found) first → IsWalk store invalid chain immutable new end found (first ∷ rest)
   walk_step first found rest keep walk number refused step follows = record {
     before = found ∷ walk.before;
     ends = ap (λ bs. found ∷ bs) walk.ends;

@@ -16,7 +16,7 @@ use Rattle.blockstore.specs.Live.{HoldsLive}
 use Rattle.ledgerdb.specs.Values.{Database, depth, count}
 use Rattle.ledgerdb.specs.Chains.{without_last, IsPreparedOf}
 use Rattle.chainsel.specs.Dead.{IsDead}
-use Rattle.chainsel.specs.Paths.{IsStep}
+use Rattle.chainsel.specs.Paths.{IsOnPath}
 use Rattle.chainsel.specs.Ready.{IsReady}
 use Rattle.chainsel.specs.declared.choice.Choice.{Choice}
 use Rattle.chainsel.specs.declared.choice.Choice.TheVariants as choice
@@ -77,7 +77,7 @@ pub record IsOpenPath (network : Network) (chain : List Block) (store : Store) (
   pub high : keep ≤ length chain
   pub linked : IsLinked (tip_after genesis_tip (take keep chain)) path
   pub through : Contains path new
-  pub members : AllByRecursion (IsStep store told new) path
+  pub members : AllByRecursion (IsOnPath store told new) path
   pub untold : AllByRecursion (λ hash. hash.bytes ≢ block_hash_of new) told
 
 -- it isn't longer than the selected one, nor as long with a lesser hash at its end

@@ -42,8 +42,8 @@ pub record IsBest (store : Store) (invalid : List BlockHash) (new best : Block) 
       → slice_cmp nat_cmp (block_hash_of best) (block_hash_of b) ≢ Greater
 
 -- the new block, or one that is fit: what paths are made of
-abbrev pub IsStep : Store → List BlockHash → (new : Block) → Block → Type 0
-IsStep store invalid new b = (b ≡ new) ⊎ IsFitLive store invalid b
+abbrev pub IsOnPath : Store → List BlockHash → (new : Block) → Block → Type 0
+IsOnPath store invalid new b = (b ≡ new) ⊎ IsFitLive store invalid b
 
 -- After the first `keep` blocks of the chain, which are no fewer than `immutable`, come these, each following the one
 -- before, up to this end. The first of them isn't the next one of the chain, where the end is past the chain.
@@ -54,12 +54,12 @@ pub record IsWay (store : Store) (invalid : List BlockHash) (chain : List Block)
   pub linked : IsLinked (tip_after genesis_tip (take keep chain)) blocks
   pub before : List Block
   pub ends : blocks ≡ before ++ end ∷ []
-  pub members : AllByRecursion (IsStep store invalid new) before
+  pub members : AllByRecursion (IsOnPath store invalid new) before
   pub apart : length chain < end.header.number
       → (b : Block) → slice_get blocks 0 ≡ Some b → slice_get chain keep ≢ Some b
 
 -- no such blocks come after the immutable part of the chain
 abbrev pub HasNoWay : Store → List BlockHash → (chain : List Block) → (immutable : ℕ) → (new end : Block) → Type 0
 HasNoWay store invalid chain immutable new end =
-    (before : List Block) → AllByRecursion (IsStep store invalid new) before
+    (before : List Block) → AllByRecursion (IsOnPath store invalid new) before
     → IsLinked (tip_after genesis_tip (take immutable chain)) (before ++ end ∷ []) → ⊥

@@ -4,7 +4,7 @@ ghost use Rattle.std.specs.Prelude.{◌∷◌, ◌≤◌, length, MatchOption, I
 ghost use Rattle.model.specs.Block.{Block};
 ghost use Rattle.model.specs.Chain.{genesis_tip, tip_at, Follows, IsLinked, HaveDistinctHashes};
 ghost use Rattle.blockstore.specs.Stored.{blocks_of};
-ghost use Rattle.chainsel.specs.Paths.{IsFitLive, IsStep, IsWay, HasNoWay};
+ghost use Rattle.chainsel.specs.Paths.{IsFitLive, IsOnPath, IsWay, HasNoWay};
 
 use crate::links::{follows, follows_chain, is_fit};
 use block::CheckedBlock;
@@ -47,9 +47,9 @@ fn parent<'a, S: SigScheme>(
     block: &CheckedBlock<S>,
 ) -> Option<&'a CheckedBlock<S>>
     ensures { MatchOption result
-        (HaveDistinctHashes (blocks_of store.now) → (b : Block) → IsStep store.now invalid.now new.now b
+        (HaveDistinctHashes (blocks_of store.now) → (b : Block) → IsOnPath store.now invalid.now new.now b
         → Follows (tip_at b) block.now → ⊥)
-        (λ found. IsStep store.now invalid.now new.now found.now × Follows (tip_at found.now) block.now) }
+        (λ found. IsOnPath store.now invalid.now new.now found.now × Follows (tip_at found.now) block.now) }
 {
     if follows(new, block) {
         Some(new)

@@ -26,14 +26,14 @@ use Rattle.draft.specs.declared.keyed.Keyed.{Keyed}
 use Rattle.draft.specs.declared.signer.Signer.{Signer as CodeSigner}
 use Rattle.draft.specs.Draft.{Draft, Signer, has_input, has_key, has_hash, has_asset, is_deep, is_long, is_zero, with_input, with_signer, with_script, with_minted, with_output, are_full, is_at_fault, IsOutputOf}
 use Rattle.draft.specs.SignerView.{signer_of}
-use Rattle.draft.specs.View.{Stands, IsWith, IsWithout, code_input_cmp, key_cmp, hash_cmp, named_cmp}
+use Rattle.draft.specs.View.{IsDraftOf, IsWith, IsWithout, code_input_cmp, key_cmp, hash_cmp, named_cmp}
 use Rattle.std.proofs.lemmas.Bool.Decides.{nat_tests}
 use Rattle.draft.proofs.Soundness.{input_sound, output_sound, mint_sound, signer_sound, script_sound}
 use Rattle.draft.proofs.Holding.{ruled_out, let_in, some_in, both_false, right_true, left_true, below_false, at_most_false, at_most_true, zip_more, held_more, held_same, input_tie, bytes_tie, named_tie}
 
 -- ---- inputs
 
-pub input_more : (old : CodeDraft) (k : Keyed CodeInput CodeInput) (i : CodeInput) (d : Draft) → Stands old d → contains code_input_cmp old.inputs.keys i ≡ false
+pub input_more : (old : CodeDraft) (k : Keyed CodeInput CodeInput) (i : CodeInput) (d : Draft) → IsDraftOf old d → contains code_input_cmp old.inputs.keys i ≡ false
     → k.items.items ≡ old.inputs.items.items ++ i ∷ [] → ((q : CodeInput) → contains code_input_cmp k.keys q ≡ is_eq (code_input_cmp i q) || contains code_input_cmp old.inputs.keys q)
     → IsWith (with_input (input_of i) d) (record old { inputs = k })
 input_more old k i d s free items keys = record {
@@ -52,7 +52,7 @@ input_more old k i d s free items keys = record {
   };
 }
 
-pub input_same : (old : CodeDraft) (k : Keyed CodeInput CodeInput) (i : CodeInput) (d : Draft) → Stands old d → contains code_input_cmp old.inputs.keys i ≡ false
+pub input_same : (old : CodeDraft) (k : Keyed CodeInput CodeInput) (i : CodeInput) (d : Draft) → IsDraftOf old d → contains code_input_cmp old.inputs.keys i ≡ false
     → k.items.items ≡ old.inputs.items.items → ((q : CodeInput) → contains code_input_cmp k.keys q ≡ contains code_input_cmp old.inputs.keys q)
     → IsWithout d (with_input (input_of i) d) OutOfMemory (record old { inputs = k })
 input_same old k i d s free items keys = record {
@@ -72,7 +72,7 @@ input_same old k i d s free items keys = record {
 
 -- ---- signers
 
-pub signer_more : (old : CodeDraft) (k : Keyed (List ℕ) CodeSigner) (signer : CodeSigner) (d : Draft) → Stands old d → contains key_cmp old.signers.keys signer.key ≡ false
+pub signer_more : (old : CodeDraft) (k : Keyed (List ℕ) CodeSigner) (signer : CodeSigner) (d : Draft) → IsDraftOf old d → contains key_cmp old.signers.keys signer.key ≡ false
     → k.items.items ≡ old.signers.items.items ++ signer ∷ [] → ((q : List ℕ) → contains key_cmp k.keys q ≡ is_eq (key_cmp signer.key q) || contains key_cmp old.signers.keys q)
     → IsWith (with_signer (signer_of signer) d) (record old { signers = k })
 signer_more old k signer d s free items keys = record {
@@ -91,7 +91,7 @@ signer_more old k signer d s free items keys = record {
   };
 }
 
-pub signer_same : (old : CodeDraft) (k : Keyed (List ℕ) CodeSigner) (signer : Signer) (d : Draft) → Stands old d → contains key_cmp old.signers.keys signer.key ≡ false
+pub signer_same : (old : CodeDraft) (k : Keyed (List ℕ) CodeSigner) (signer : Signer) (d : Draft) → IsDraftOf old d → contains key_cmp old.signers.keys signer.key ≡ false
     → k.items.items ≡ old.signers.items.items → ((q : List ℕ) → contains key_cmp k.keys q ≡ contains key_cmp old.signers.keys q)
     → IsWithout d (with_signer signer d) OutOfMemory (record old { signers = k })
 signer_same old k signer d s free items keys = record {
@@ -112,13 +112,13 @@ signer_same old k signer d s free items keys = record {
 -- ---- scripts
 
 -- the script is not ruled out
-script_fits : (old : CodeDraft) (hash : ScriptHash) (script : Script) (d : Draft) → Stands old d → hash.bytes ≡ script_hash_of script → nesting (item_of_script script) ≤ 61 → contains hash_cmp old.scripts.keys hash ≡ false
+script_fits : (old : CodeDraft) (hash : ScriptHash) (script : Script) (d : Draft) → IsDraftOf old d → hash.bytes ≡ script_hash_of script → nesting (item_of_script script) ≤ 61 → contains hash_cmp old.scripts.keys hash ≡ false
     → is_deep script || has_hash (script_hash_of script) d.scripts ≡ false
 script_fits old hash script d s is flat free =
     both_false (is_deep script) (has_hash (script_hash_of script) d.scripts) (below_false 61 (nesting (item_of_script script)) flat)
     (ap (λ (h : List ℕ). has_hash h d.scripts) (sym is) ∙ sym (s.scripts.keys hash) ∙ free)
 
-pub script_more : (old : CodeDraft) (k : Keyed ScriptHash Script) (hash : ScriptHash) (script : Script) (d : Draft) → Stands old d → hash.bytes ≡ script_hash_of script → nesting (item_of_script script) ≤ 61 → contains hash_cmp old.scripts.keys hash ≡ false
+pub script_more : (old : CodeDraft) (k : Keyed ScriptHash Script) (hash : ScriptHash) (script : Script) (d : Draft) → IsDraftOf old d → hash.bytes ≡ script_hash_of script → nesting (item_of_script script) ≤ 61 → contains hash_cmp old.scripts.keys hash ≡ false
     → k.items.items ≡ old.scripts.items.items ++ script ∷ [] → ((q : ScriptHash) → contains hash_cmp k.keys q ≡ is_eq (hash_cmp hash q) || contains hash_cmp old.scripts.keys q)
     → IsWith (with_script script d) (record old { scripts = k })
 script_more old k hash script d s is flat free items keys = record {
@@ -137,7 +137,7 @@ script_more old k hash script d s is flat free items keys = record {
   };
 }
 
-pub script_same : (old : CodeDraft) (k : Keyed ScriptHash Script) (hash : ScriptHash) (script : Script) (d : Draft) → Stands old d → hash.bytes ≡ script_hash_of script → nesting (item_of_script script) ≤ 61 → contains hash_cmp old.scripts.keys hash ≡ false
+pub script_same : (old : CodeDraft) (k : Keyed ScriptHash Script) (hash : ScriptHash) (script : Script) (d : Draft) → IsDraftOf old d → hash.bytes ≡ script_hash_of script → nesting (item_of_script script) ≤ 61 → contains hash_cmp old.scripts.keys hash ≡ false
     → k.items.items ≡ old.scripts.items.items → ((q : ScriptHash) → contains hash_cmp k.keys q ≡ contains hash_cmp old.scripts.keys q)
     → IsWithout d (with_script script d) OutOfMemory (record old { scripts = k })
 script_same old k hash script d s is flat free items keys = record {
@@ -158,7 +158,7 @@ script_same old k hash script d s is flat free items keys = record {
 -- ---- what is minted
 
 -- the asset is not ruled out
-pub mint_fits : (old : CodeDraft) (key : ScriptHash × Vec ℕ) (quantity : ℤ) (d : Draft) → Stands old d → is_long key.1.items ≡ false → is_zero quantity ≡ false → contains named_cmp old.mint.keys key ≡ false
+pub mint_fits : (old : CodeDraft) (key : ScriptHash × Vec ℕ) (quantity : ℤ) (d : Draft) → IsDraftOf old d → is_long key.1.items ≡ false → is_zero quantity ≡ false → contains named_cmp old.mint.keys key ≡ false
     → is_long key.1.items || (is_zero quantity || has_asset key.0.bytes key.1.items d.mint) ≡ false
 mint_fits old key quantity d s short some free =
     both_false (is_long key.1.items) (is_zero quantity || has_asset key.0.bytes key.1.items d.mint) short
@@ -167,7 +167,7 @@ mint_fits old key quantity d s short some free =
 abbrev minted_of : ScriptHash × Vec ℕ → ℤ → AssetQuantity ℤ
 minted_of key quantity = record { policy = key.0.bytes; name = key.1.items; quantity = quantity }
 
-pub mint_more : (old : CodeDraft) (k : Keyed (ScriptHash × Vec ℕ) (CodeAssetQuantity ℤ)) (key : ScriptHash × Vec ℕ) (item : CodeAssetQuantity ℤ) (d : Draft) → Stands old d → item.policy.bytes ≡ key.0.bytes → item.name.items ≡ key.1.items
+pub mint_more : (old : CodeDraft) (k : Keyed (ScriptHash × Vec ℕ) (CodeAssetQuantity ℤ)) (key : ScriptHash × Vec ℕ) (item : CodeAssetQuantity ℤ) (d : Draft) → IsDraftOf old d → item.policy.bytes ≡ key.0.bytes → item.name.items ≡ key.1.items
     → is_long key.1.items ≡ false → is_zero item.quantity ≡ false → contains named_cmp old.mint.keys key ≡ false
     → k.items.items ≡ old.mint.items.items ++ item ∷ [] → ((q : ScriptHash × Vec ℕ) → contains named_cmp k.keys q ≡ is_eq (named_cmp key q) || contains named_cmp old.mint.keys q)
     → IsWith (with_minted (minted_of key item.quantity) d) (record old { mint = k })
@@ -189,7 +189,7 @@ mint_more old k key item d s policy name short some free items keys = record {
   };
 }
 
-pub mint_same : (old : CodeDraft) (k : Keyed (ScriptHash × Vec ℕ) (CodeAssetQuantity ℤ)) (key : ScriptHash × Vec ℕ) (quantity : ℤ) (d : Draft) → Stands old d
+pub mint_same : (old : CodeDraft) (k : Keyed (ScriptHash × Vec ℕ) (CodeAssetQuantity ℤ)) (key : ScriptHash × Vec ℕ) (quantity : ℤ) (d : Draft) → IsDraftOf old d
     → is_long key.1.items ≡ false → is_zero quantity ≡ false → contains named_cmp old.mint.keys key ≡ false
     → k.items.items ≡ old.mint.items.items → ((q : ScriptHash × Vec ℕ) → contains named_cmp k.keys q ≡ contains named_cmp old.mint.keys q)
     → IsWithout d (with_minted (minted_of key quantity) d) OutOfMemory (record old { mint = k })
@@ -215,7 +215,7 @@ not_zero (pos (suc n)) some = grind (arith, nat_tests)
 not_zero (negsuc n) some = refl
 
 -- an asset that is there is ruled out
-pub mint_taken : (old : CodeDraft) (key : ScriptHash × Vec ℕ) (quantity : ℤ) (d : Draft) → Stands old d → contains named_cmp old.mint.keys key ≡ true
+pub mint_taken : (old : CodeDraft) (key : ScriptHash × Vec ℕ) (quantity : ℤ) (d : Draft) → IsDraftOf old d → contains named_cmp old.mint.keys key ≡ true
     → IsWithout d (with_minted (minted_of key quantity) d) NotBuilt old
 mint_taken old key quantity d s taken = record {
   refusal = ruled_out (is_long key.1.items || (is_zero quantity || has_asset key.0.bytes key.1.items d.mint)) (record d { mint = d.mint ++ minted_of key quantity ∷ [] })
@@ -225,15 +225,15 @@ mint_taken old key quantity d s taken = record {
 
 -- ---- outputs
 
-few_there : (old : CodeDraft) (d : Draft) → Stands old d → length old.outputs.items < 65536 → length d.outputs < 65536
+few_there : (old : CodeDraft) (d : Draft) → IsDraftOf old d → length old.outputs.items < 65536 → length d.outputs < 65536
 few_there old d s few =
     let same : length d.outputs ≡ length old.outputs.items = sym (AllZip-long IsOutputOf d.outputs (map output_of old.outputs.items) s.outputs) ∙ length-map old.outputs.items output_of in
     omega (arith, same, few)
 
-room : (old : CodeDraft) (d : Draft) → Stands old d → length old.outputs.items < 65536 → are_full d.outputs ≡ false
+room : (old : CodeDraft) (d : Draft) → IsDraftOf old d → length old.outputs.items < 65536 → are_full d.outputs ≡ false
 room old d s few = at_most_false 65536 (length d.outputs) (few_there old d s few)
 
-pub output_full : (old : CodeDraft) (address : Address) (coin : ℕ) (assets : List (AssetQuantity ℕ)) (d : Draft) → Stands old d → 65536 ≤ length old.outputs.items → IsWithout d (with_output address coin assets d) NotBuilt old
+pub output_full : (old : CodeDraft) (address : Address) (coin : ℕ) (assets : List (AssetQuantity ℕ)) (d : Draft) → IsDraftOf old d → 65536 ≤ length old.outputs.items → IsWithout d (with_output address coin assets d) NotBuilt old
 output_full old address coin assets d s many =
     let same : length d.outputs ≡ length old.outputs.items = sym (AllZip-long IsOutputOf d.outputs (map output_of old.outputs.items) s.outputs) ∙ length-map old.outputs.items output_of in
     record {
@@ -242,7 +242,7 @@ output_full old address coin assets d s many =
       stands = s;
     }
 
-pub output_refused : (old : CodeDraft) (address : Address) (coin : ℕ) (assets : List (AssetQuantity ℕ)) (fault : DraftFault) (d : Draft) → Stands old d → length old.outputs.items < 65536 → IsFaultRefusal (is_at_fault assets) fault
+pub output_refused : (old : CodeDraft) (address : Address) (coin : ℕ) (assets : List (AssetQuantity ℕ)) (fault : DraftFault) (d : Draft) → IsDraftOf old d → length old.outputs.items < 65536 → IsFaultRefusal (is_at_fault assets) fault
     → IsWithout d (with_output address coin assets d) fault old
 output_refused old address coin assets NotBuilt d s few why = record {
   refusal = ruled_out (are_full d.outputs || is_at_fault assets) (record d { outputs = d.outputs ++ record { address = address; coin = coin; assets = assets } ∷ [] }) (right_true (are_full d.outputs) (is_at_fault assets) why);
@@ -253,7 +253,7 @@ output_refused old address coin assets OutOfMemory d s few why = record {
   stands = s;
 }
 
-pub output_same : (old : CodeDraft) (outputs : Vec CodeOutput) (address : Address) (coin : ℕ) (assets : List (AssetQuantity ℕ)) (d : Draft) → Stands old d → length old.outputs.items < 65536 → is_at_fault assets ≡ false
+pub output_same : (old : CodeDraft) (outputs : Vec CodeOutput) (address : Address) (coin : ℕ) (assets : List (AssetQuantity ℕ)) (d : Draft) → IsDraftOf old d → length old.outputs.items < 65536 → is_at_fault assets ≡ false
     → outputs.items ≡ old.outputs.items → IsWithout d (with_output address coin assets d) OutOfMemory (record old { outputs = outputs })
 output_same old outputs address coin assets d s few sound items = record {
   refusal = some_in (are_full d.outputs || is_at_fault assets) (record d { outputs = d.outputs ++ record { address = address; coin = coin; assets = assets } ∷ [] }) (both_false (are_full d.outputs) (is_at_fault assets) (room old d s few) sound);
@@ -270,7 +270,7 @@ output_same old outputs address coin assets d s few sound items = record {
   };
 }
 
-pub output_more : (old : CodeDraft) (outputs : Vec CodeOutput) (output : CodeOutput) (coin : ℕ) (assets : List (AssetQuantity ℕ)) (d : Draft) → Stands old d → length old.outputs.items < 65536 → is_at_fault assets ≡ false
+pub output_more : (old : CodeDraft) (outputs : Vec CodeOutput) (output : CodeOutput) (coin : ℕ) (assets : List (AssetQuantity ℕ)) (d : Draft) → IsDraftOf old d → length old.outputs.items < 65536 → is_at_fault assets ≡ false
     → IsValueOf output.value coin assets → outputs.items ≡ old.outputs.items ++ output ∷ [] → IsWith (with_output (address_of output.address) coin assets d) (record old { outputs = outputs })
 output_more old outputs output coin assets d s few sound value items = record {
   draft = record d { outputs = d.outputs ++ record { address = address_of output.address; coin = coin; assets = assets } ∷ [] };

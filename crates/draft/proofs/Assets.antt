@@ -9,12 +9,12 @@ use Rattle.std.proofs.lemmas.List.Sums.{sum_by-cons}
 use Rattle.byte_keys.proofs.ForCallers.{bytes_from, bytes_self}
 use Rattle.model.specs.Cbor.{HasText}
 use Rattle.model.specs.Value.{Value, IsValue, item_of_value}
-use Rattle.value.specs.Parts.{AssetQuantity, IsValueOf, HasLongName, HasZero, HasRepeats, IsFirstFault, is_of}
+use Rattle.value.specs.Parts.{AssetQuantity, IsValueOf, HasLongName, HasZero, HasRepeats, IsAssetFault, is_of}
 use Rattle.value.specs.declared.asset_fault.AssetFault.{AssetFault}
 use Rattle.value.specs.declared.asset_fault.AssetFault.TheVariants as faults
 use Rattle.value.proofs.ForCallers.{no_value}
 use Rattle.draft.specs.Draft.{is_at_fault, is_long, has_asset, has_twice}
-use Rattle.draft.specs.Refusal.{IsFaultRefusal, told_of_fault}
+use Rattle.draft.specs.Refusal.{IsFaultRefusal, draft_fault_of}
 use Rattle.draft.proofs.Holding.{left_true, right_true, both_false}
 
 pub either_way : (b : Bool) → (b ≡ true) ⊎ (b ≡ false)
@@ -136,7 +136,7 @@ false_if : (b : Bool) {P : Type 0} → (b ≡ true → P) → (P → ⊥) → b 
 false_if b from none = false_from_ne_true b (λ h. none (from h))
 
 -- a fault of assets is told as what it is
-pub told_right : (assets : List (AssetQuantity ℕ)) (fault : AssetFault) → IsFirstFault pos assets fault → IsFaultRefusal (is_at_fault assets) (told_of_fault fault)
+pub told_right : (assets : List (AssetQuantity ℕ)) (fault : AssetFault) → IsAssetFault pos assets fault → IsFaultRefusal (is_at_fault assets) (draft_fault_of fault)
 told_right assets faults.NameTooLong h = left_true (long assets) (zero_there assets || has_twice assets) (long_true assets h)
 told_right assets faults.ZeroQuantity h = right_true (long assets) (zero_there assets || has_twice assets) (left_true (zero_there assets) (has_twice assets) (nothing_true assets h.1))
 told_right assets faults.Repeated h = right_true (long assets) (zero_there assets || has_twice assets) (right_true (zero_there assets) (has_twice assets) (twice_to h.2.0 h.2.1 assets h.2.2))

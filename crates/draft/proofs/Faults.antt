@@ -12,8 +12,8 @@ use Rattle.model.specs.Value.{Mint}
 use Rattle.value.specs.Parts as values
 use Rattle.value.specs.Parts.{AssetQuantity, HasLongName, HasZero, HasRepeats}
 use Rattle.value.specs.declared.asset_fault.AssetFault.TheVariants as asset_faults
-use Rattle.tx.specs.Parts.{IsFirstFault, HasRepeatedKey, HasRepeatedScript, HasDeepScript, HasManyOutputs}
-use Rattle.tx.specs.declared.tx_fault.TxFault.TheVariants as faults
+use Rattle.tx.specs.Parts.{IsPartsFault, HasRepeatedKey, HasRepeatedScript, HasDeepScript, HasManyOutputs}
+use Rattle.tx.specs.declared.parts_fault.PartsFault.TheVariants as faults
 use Rattle.draft.specs.Draft.{Draft, IsOutputOf, IsSound, HasNoFault, parts_with, without_witnesses, witness_by, is_deep, is_long, is_zero}
 use Rattle.draft.proofs.Assets.{any_as, below_true}
 
@@ -34,7 +34,7 @@ counted_map f p (x ∷ xs) =
     sum_by-cons (λ (y : _). cond (p y) 1 0) (f x) (map f xs) ∙ (λ i. cond (p (f x)) 1 0 + counted_map f p xs i) ∙ sym (sum_by-cons (λ (x : _). cond (p (f x)) 1 0) x xs)
 
 module _ (d : Draft) (s : IsSound d) where
-  mint_faultless : values.IsFirstFault (λ quantity. quantity) d.mint asset_faults.OutOfMemory
+  mint_faultless : values.IsAssetFault (λ quantity. quantity) d.mint asset_faults.OutOfMemory
   mint_faultless = (
     none_of (λ a. 32 < length a.name) (λ (a : AssetQuantity ℤ). is_long a.name) d.mint (λ a lt. below_true 32 (length a.name) lt) s.names_short,
     none_of (λ a. a.quantity ≡ pos 0) (λ (a : AssetQuantity ℤ). is_zero a.quantity) d.mint (λ a e. zero_is a.quantity e) s.none_zero,
@@ -57,7 +57,7 @@ module _ (d : Draft) (s : IsSound d) where
     all_flat : HasDeepScript (parts_with d outputs mint id) → ⊥
     all_flat = none_of (λ script. 61 < nesting (item_of_script script)) is_deep d.scripts (λ script lt. below_true 61 (nesting (item_of_script script)) lt) s.scripts_flat
 
-    parts_faultless : IsFirstFault (parts_with d outputs mint id) faults.OutOfMemory
+    parts_faultless : IsPartsFault (parts_with d outputs mint id) faults.OutOfMemory
     parts_faultless = (record { inputs = λ r. s.inputs_once r.0 r.1; outputs = few }, one_key, one_script, all_flat)
 
 bare_sound : (d : Draft) → IsSound d → IsSound (without_witnesses d)

@@ -17,7 +17,7 @@ use Rattle.draft.specs.declared.unsigned.Unsigned.{Unsigned}
 use Rattle.draft.specs.Draft.{Draft, IsTxOfDraft, IsOutputOf, witness_by, parts_with}
 use Rattle.draft.specs.SignerView.{signer_of}
 use Rattle.draft.specs.UnsignedView.{parts_of_unsigned}
-use Rattle.draft.specs.View.{Stands}
+use Rattle.draft.specs.View.{IsDraftOf}
 
 pub ok_as : {T E : Type 0} (P Q : T → Type 0) (r : Result T E) → ((x : T) → P x → Q x) → IfOk r P → IfOk r Q
 ok_as P Q (Ok x) each h = each x h
@@ -33,7 +33,7 @@ pub record AreTaken (code : CodeDraft) (u : Unsigned) (by : List CodeSigner) (su
   pub signers : by ≡ code.signers.items.items
   pub scripts : supply ≡ code.scripts.items.items
 
-pub finished : (code : CodeDraft) (d : Draft) (u : Unsigned) (signers : List CodeSigner) (scripts : List Script) → Stands code d → AreTaken code u signers scripts → (tx : Transaction)
+pub finished : (code : CodeDraft) (d : Draft) (u : Unsigned) (signers : List CodeSigner) (scripts : List Script) → IsDraftOf code d → AreTaken code u signers scripts → (tx : Transaction)
     → IsTxOf tx (parts_of_unsigned u (map (witness_by (transaction_id_of tx)) (map signer_of signers)) scripts) → IsTxOfDraft d tx
 finished code d u signers scripts s taken tx of =
     let id : List ℕ = transaction_id_of tx in

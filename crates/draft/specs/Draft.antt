@@ -13,9 +13,9 @@ use Rattle.model.specs.Value.{Mint}
 use Rattle.value.specs.Parts as values
 use Rattle.value.specs.Parts.{AssetQuantity, IsValueOf, IsMintOf, is_of}
 use Rattle.value.specs.declared.asset_fault.AssetFault.TheVariants as asset_faults
-use Rattle.tx.specs.Parts.{Parts, IsTxOf, IsFirstFault}
+use Rattle.tx.specs.Parts.{Parts, IsTxOf, IsPartsFault}
 use Rattle.tx.specs.Repeats.{same_input}
-use Rattle.tx.specs.declared.tx_fault.TxFault.TheVariants as faults
+use Rattle.tx.specs.declared.parts_fault.PartsFault.TheVariants as faults
 
 -- an output: coin in lovelace, and assets in any order
 pub record DraftOutput : Type 0 where
@@ -206,11 +206,11 @@ without_witnesses d = record d { signers = []; scripts = [] }
 abbrev pub IsFaultless : Draft → Type 0
 IsFaultless d =
     (outputs : List Output) (mint : Mint) (id : List ℕ) → AllZip IsOutputOf d.outputs outputs
-    → IsFirstFault (parts_with d outputs mint id) faults.OutOfMemory
+    → IsPartsFault (parts_with d outputs mint id) faults.OutOfMemory
 
 -- No mint of what is minted is refused for another fault than want of memory, and no transaction of the parts is, with
 -- witnesses or without them.
 pub record HasNoFault (d : Draft) : Type 0 where
-  pub mint : values.IsFirstFault (λ quantity. quantity) d.mint asset_faults.OutOfMemory
+  pub mint : values.IsAssetFault (λ quantity. quantity) d.mint asset_faults.OutOfMemory
   pub whole : IsFaultless d
   pub body : IsFaultless (without_witnesses d)

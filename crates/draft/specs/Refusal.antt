@@ -17,8 +17,8 @@ IsFaultRefusal at_fault NotBuilt = at_fault ≡ true
 IsFaultRefusal at_fault OutOfMemory = at_fault ≡ false
 
 -- what is told of a fault of assets
-abbrev pub told_of_fault : AssetFault → DraftFault
-told_of_fault faults.NameTooLong = NotBuilt
-told_of_fault faults.ZeroQuantity = NotBuilt
-told_of_fault faults.Repeated = NotBuilt
-told_of_fault faults.OutOfMemory = OutOfMemory
+abbrev pub draft_fault_of : AssetFault → DraftFault
+draft_fault_of faults.NameTooLong = NotBuilt
+draft_fault_of faults.ZeroQuantity = NotBuilt
+draft_fault_of faults.Repeated = NotBuilt
+draft_fault_of faults.OutOfMemory = OutOfMemory

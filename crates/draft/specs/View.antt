@@ -41,7 +41,7 @@ pub record Holds {K T X : Type 0} (cmp : K → K → Ordering) (view : T → X) 
   pub keys : (key : K) → contains cmp code.keys key ≡ has key parts
 
 -- the draft of the code has the parts of the draft, which have no fault
-pub record Stands (code : CodeDraft) (d : Draft) : Type 0 where
+pub record IsDraftOf (code : CodeDraft) (d : Draft) : Type 0 where
   pub inputs : Holds code_input_cmp input_of (λ q. has_input (input_of q)) code.inputs d.inputs
   pub outputs : AllZip IsOutputOf d.outputs (map output_of code.outputs.items)
   pub fee : d.fee ≡ code.fee
@@ -56,14 +56,14 @@ pub record Stands (code : CodeDraft) (d : Draft) : Type 0 where
 pub record IsWith (wanted : Option Draft) (new : CodeDraft) : Type 0 where
   pub draft : Draft
   pub is_wanted : wanted ≡ Some draft
-  pub stands : Stands new draft
+  pub stands : IsDraftOf new draft
 
 -- the code stands for the draft as before, and the part is refused
 pub record IsWithout (d : Draft) (wanted : Option Draft) (fault : DraftFault) (new : CodeDraft) : Type 0 where
   pub refusal : IsRefusal fault wanted
-  pub stands : Stands new d
+  pub stands : IsDraftOf new d
 
 -- what came of adding a part, for each draft that the code stood for
 abbrev pub Adds : {T : Type 0} → (Draft → Option Draft) → (old new : CodeDraft) → Result T DraftFault → Type 0
-Adds add old new (Ok done) = (d : Draft) → Stands old d → IsWith (add d) new
-Adds add old new (Err fault) = (d : Draft) → Stands old d → IsWithout d (add d) fault new
+Adds add old new (Ok done) = (d : Draft) → IsDraftOf old d → IsWith (add d) new
+Adds add old new (Err fault) = (d : Draft) → IsDraftOf old d → IsWithout d (add d) fault new

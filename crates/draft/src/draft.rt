@@ -9,7 +9,7 @@ ghost use Rattle.draft.specs.Draft as model;
 ghost use Rattle.draft.specs.Draft.{empty_draft, HasNoFault, IsTxOfDraft};
 ghost use Rattle.draft.specs.Draft.{with_input, with_output, with_fee, with_start, with_end, with_minted};
 ghost use Rattle.draft.specs.Draft.{with_signer, with_script};
-ghost use Rattle.draft.specs.View.{Stands, Adds};
+ghost use Rattle.draft.specs.View.{IsDraftOf, Adds};
 ghost use Rattle.draft.specs.SignerView.{is_good};
 
 use crate::draft_fault::DraftFault;
@@ -51,7 +51,7 @@ pub struct Draft {
 impl Draft {
     /// A draft without parts. Takes no memory.
     pub fn new(alloc: Global) -> Draft
-        ensures { Stands result empty_draft }
+        ensures { IsDraftOf result empty_draft }
     {
         Draft {
             alloc,
@@ -188,10 +188,10 @@ impl Draft {
     /// fault. Sorts n parts in n log n comparisons. Inputs, outputs and mint are copied once, and their text is written
     /// twice: first to know the identifier that is signed.
     pub fn finish(self) -> Result<Tx, AllocError>
-        ensures tx { (draft : model.Draft) → Stands self draft → IfOk result (λ tx. IsTxOfDraft draft tx) }
+        ensures tx { (draft : model.Draft) → IsDraftOf self draft → IfOk result (λ tx. IsTxOfDraft draft tx) }
         ensures spelled { IfOk result (λ tx. SpellsTransaction tx (text_of (item_of_transaction tx))) }
         // Neither mint nor transaction is refused for a fault of the parts, so want of memory alone ends it.
-        ensures err { OnErr result ((draft : model.Draft) → Stands self draft → HasNoFault draft) }
+        ensures err { OnErr result ((draft : model.Draft) → IsDraftOf self draft → HasNoFault draft) }
     {
         let mint = mint_of(self.alloc, self.mint.into_items())?;
         let unsigned = Unsigned {

@@ -4,15 +4,15 @@ ghost use Rattle.std.specs.Prelude.{◌≡◌, map, false, IfOk, IfErr, OnOk};
 ghost use Rattle.value.specs.Parts.{IsValueOf};
 ghost use Rattle.value.specs.View.{asset_of};
 ghost use Rattle.draft.specs.Draft.{is_at_fault};
-ghost use Rattle.draft.specs.Refusal.{IsFaultRefusal, told_of_fault};
+ghost use Rattle.draft.specs.Refusal.{IsFaultRefusal, draft_fault_of};
 
 use crate::draft_fault::DraftFault;
 use std::alloc::Global;
 use value::{AssetFault, AssetQuantity, Value};
 
 /// What is told of a fault of assets.
-fn told_of(fault: AssetFault) -> DraftFault
-    ensures { result ≡ told_of_fault fault }
+fn as_draft_fault(fault: AssetFault) -> DraftFault
+    ensures { result ≡ draft_fault_of fault }
 {
     match fault {
         AssetFault::NameTooLong | AssetFault::ZeroQuantity | AssetFault::Repeated => {
@@ -38,6 +38,6 @@ pub fn value_with(
             let _nesting = value.nesting();
             Ok(value)
         }
-        Err(fault) => Err(told_of(fault)),
+        Err(fault) => Err(as_draft_fault(fault)),
     }
 }

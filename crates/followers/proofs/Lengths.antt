@@ -11,9 +11,9 @@ use Rattle.model.proofs.Chains.{begins_with_whole}
 use Rattle.model.proofs.Changes.{taken_with}
 use Rattle.model.proofs.FollowerSteps.{begins_take, begins_through, common_of_length, told_is_agreed}
 use Rattle.followers.specs.declared.place.Place.{Place}
-use Rattle.followers.specs.declared.place.Step.TheVariants as step
-use Rattle.followers.specs.Places.{Places, standing, moved_place, moved_places, step_of, stepped_place}
-use Rattle.followers.specs.Standing.{IsPlaceOf, ArePlacesOf, IsStepOf, LengthsStandFor}
+use Rattle.followers.specs.declared.place.Due.TheVariants as due
+use Rattle.followers.specs.Places.{Places, standing, moved_place, moved_places, due_of, place_after}
+use Rattle.followers.specs.Standing.{IsPlaceOf, ArePlacesOf, IsDueOf, LengthsStandFor}
 
 free_same : (selected : List Block) (places : Places) (fs : Followers) → ArePlacesOf selected places fs → free_id fs ≡ free_id places
 free_same selected [] [] are = refl
@@ -94,7 +94,7 @@ agreed_length selected place f is = ap length is.agreed ∙ length-take-le place
 
 -- one that is told what comes next, by the two tests
 next_by : (selected : List Block) (place : Place) (f : Follower) → IsPlaceOf selected place f → (instruction : Instruction) (back more : Bool) → nat_lt place.agreed place.told ≡ back → nat_lt place.told (length selected) ≡ more
-    → IsStepOf selected (if back then Some (step.RollBack place.agreed) else if more then Some (step.Add place.told) else None) instruction
+    → IsDueOf selected (if back then Some (due.RollBack place.agreed) else if more then Some (due.Add place.told) else None) instruction
     → (new : Follower) × IsNext selected f instruction new × IsPlaceOf selected (if back then standing place.agreed else if more then standing (place.told + 1) else place) new
 next_by selected place f is instruction true more back_is more_is step =
     let size = agreed_length selected place f is in
@@ -135,12 +135,12 @@ next_by selected place f is instruction false false back_is more_is step =
     let within = is.within in
     (f, subst (λ (i : Instruction). IsNext selected f i f) (sym step) (omega arith, sym same ∙ (is.agreed ∙ take_all place.agreed selected (omega arith)), refl), is)
 
-next_same : (selected : List Block) (places : Places) (fs : Followers) (id : ℕ) (place : Place) → ArePlacesOf selected places fs → follower_of places id ≡ Some place → (instruction : Instruction) → IsStepOf selected (step_of (length selected) place) instruction
-    → (old new : Follower) × (follower_of fs id ≡ Some old) × IsNext selected old instruction new × ArePlacesOf selected (slice_set places id (Some (stepped_place (length selected) place))) (slice_set fs id (Some new))
+next_same : (selected : List Block) (places : Places) (fs : Followers) (id : ℕ) (place : Place) → ArePlacesOf selected places fs → follower_of places id ≡ Some place → (instruction : Instruction) → IsDueOf selected (due_of (length selected) place) instruction
+    → (old new : Follower) × (follower_of fs id ≡ Some old) × IsNext selected old instruction new × ArePlacesOf selected (slice_set places id (Some (place_after (length selected) place))) (slice_set fs id (Some new))
 next_same selected places fs id place are open_at instruction step =
     let there = open_same selected places fs id place are open_at in
     let next = next_by selected place there.0 there.2 instruction (nat_lt place.agreed place.told) (nat_lt place.told (length selected)) refl refl step in
-    (there.0, next.0, there.1, next.1, set_same selected places fs id (stepped_place (length selected) place) next.0 next.2 are)
+    (there.0, next.0, there.1, next.1, set_same selected places fs id (place_after (length selected) place) next.0 next.2 are)
 
 -- ---- another chain is selected
 

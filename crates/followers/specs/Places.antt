@@ -1,8 +1,8 @@
 -- Where followers stand, in blocks, and what each call makes of it.
 use Rattle.std.specs.Prelude.{ℕ, ◌+◌, min, nat_lt, List, Option, Some, None, map, option_map, if◌then◌else◌}
 use Rattle.followers.specs.declared.place.Place.{Place}
-use Rattle.followers.specs.declared.place.Step.{Step}
-use Rattle.followers.specs.declared.place.Step.TheVariants.{Add, RollBack}
+use Rattle.followers.specs.declared.place.Due.{Due}
+use Rattle.followers.specs.declared.place.Due.TheVariants.{Add, RollBack}
 
 -- for each number the place of its follower, and None where no follower of that number is open
 abbrev pub Places : Type 0
@@ -17,14 +17,14 @@ abbrev pub moved_place : ℕ → Place → Place
 moved_place common place = record { told = place.told; agreed = min place.agreed common }
 
 -- beside a selected chain of this length: back where less is agreed than was told, else the next block, else nothing
-abbrev pub step_of : (height : ℕ) → Place → Option Step
-step_of height place =
+abbrev pub due_of : (height : ℕ) → Place → Option Due
+due_of height place =
     if nat_lt place.agreed place.told then Some (RollBack place.agreed)
     else if nat_lt place.told height then Some (Add place.told)
     else None
 
-abbrev pub stepped_place : (height : ℕ) → Place → Place
-stepped_place height place =
+abbrev pub place_after : (height : ℕ) → Place → Place
+place_after height place =
     if nat_lt place.agreed place.told then standing place.agreed
     else if nat_lt place.told height then standing (place.told + 1)
     else place

@@ -6,9 +6,9 @@ use Rattle.model.specs.Follower.{Follower, Followers, follower_of, with_first_fr
 use Rattle.model.specs.Follower.{AreMoved, IsNext, Instruction, Stay, AddBlock, RollBack}
 use Rattle.model.specs.History.{IsCommonLength}
 use Rattle.followers.specs.declared.place.Place.{Place}
-use Rattle.followers.specs.declared.place.Step.{Step}
-use Rattle.followers.specs.declared.place.Step.TheVariants as step
-use Rattle.followers.specs.Places.{Places, standing, moved_places, step_of, stepped_place}
+use Rattle.followers.specs.declared.place.Due.{Due}
+use Rattle.followers.specs.declared.place.Due.TheVariants as due
+use Rattle.followers.specs.Places.{Places, standing, moved_places, due_of, place_after}
 
 -- What is agreed is that beginning of the selected chain; what was told has that length, and begins with it.
 pub record IsPlaceOf (selected : List Block) (place : Place) (f : Follower) : Type 0 where
@@ -24,11 +24,11 @@ ArePlacesOf selected (None ∷ places) (None ∷ fs) = ArePlacesOf selected plac
 ArePlacesOf selected (Some place ∷ places) (Some f ∷ fs) = IsPlaceOf selected place f × ArePlacesOf selected places fs
 ArePlacesOf selected places fs = ⊥
 
--- the step is this instruction beside the selected chain
-abbrev pub IsStepOf : (selected : List Block) → Option Step → Instruction → Type 0
-IsStepOf selected None instruction = instruction ≡ Stay
-IsStepOf selected (Some (step.RollBack to)) instruction = instruction ≡ RollBack (tip_point (take to selected))
-IsStepOf selected (Some (step.Add after)) instruction =
+-- what is due is this instruction beside the selected chain
+abbrev pub IsDueOf : (selected : List Block) → Option Due → Instruction → Type 0
+IsDueOf selected None instruction = instruction ≡ Stay
+IsDueOf selected (Some (due.RollBack to)) instruction = instruction ≡ RollBack (tip_point (take to selected))
+IsDueOf selected (Some (due.Add after)) instruction =
     (b : Block) × (slice_get selected after ≡ Some b) × (instruction ≡ AddBlock (block_text b))
 
 -- LENGTHS STAND FOR FOLLOWERS
@@ -55,9 +55,9 @@ pub record LengthsStandFor : Type 0 where
   -- one is told what comes next
   pub next : (selected : List Block) (places : Places) (fs : Followers) (id : ℕ) (place : Place)
       → ArePlacesOf selected places fs → follower_of places id ≡ Some place
-      → (instruction : Instruction) → IsStepOf selected (step_of (length selected) place) instruction
+      → (instruction : Instruction) → IsDueOf selected (due_of (length selected) place) instruction
       → (old new : Follower) × (follower_of fs id ≡ Some old) × IsNext selected old instruction new
-      × ArePlacesOf selected (slice_set places id (Some (stepped_place (length selected) place)))
+      × ArePlacesOf selected (slice_set places id (Some (place_after (length selected) place)))
       (slice_set fs id (Some new))
   -- another chain is selected
   pub moved : (old new : List Block) (common : ℕ) (places : Places) (fs : Followers) → IsCommonLength old new common

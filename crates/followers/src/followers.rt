@@ -5,7 +5,7 @@ ghost use Rattle.followers.specs.Places.{moved_place};
 
 use crate::fault::{OpenFollowerFault, UnknownFollower};
 use crate::follower_id::{FollowerId, MAX_FOLLOWERS};
-use crate::place::{Place, Step};
+use crate::place::{Due, Place};
 use std::alloc::Global;
 use std::cmp::Reverse;
 use std::collections::BinaryHeap;
@@ -49,8 +49,8 @@ impl Followers {
     ghost use Rattle.std.specs.Prelude.{◌≡◌, ◌↔◌, [], None, Some, IfOk, IfErr, OnOk, OnErr, IsTrue};
     ghost use Rattle.model.specs.Follower.{follower_of};
     ghost use Rattle.followers.specs.declared.place.Place.{Place as Standing};
-    ghost use Rattle.followers.specs.Places.{step_of, moved_places};
-    ghost use Rattle.followers.specs.Calls.{IsOpened, IsOpenFault, IsStepped, IsForwarded, IsClosed};
+    ghost use Rattle.followers.specs.Places.{due_of, moved_places};
+    ghost use Rattle.followers.specs.Calls.{IsOpened, IsOpenFault, IsMovedOn, IsForwarded, IsClosed};
 
     /// No follower is open. Takes no memory.
     pub fn new(alloc: Global) -> Followers
@@ -105,29 +105,29 @@ impl Followers {
 
     /// What the follower of this number is told next, beside a selected chain of so many blocks. Nothing changes. In
     /// constant time, and takes no memory.
-    pub fn due(&self, id: FollowerId, height: u64) -> Result<Option<Step>, UnknownFollower>
-        ensures ok { IfOk result (λ step. (place : Standing) × (follower_of self.now id.number ≡ Some place)
-            × (step ≡ step_of height place)) }
+    pub fn due(&self, id: FollowerId, height: u64) -> Result<Option<Due>, UnknownFollower>
+        ensures ok { IfOk result (λ due. (place : Standing) × (follower_of self.now id.number ≡ Some place)
+            × (due ≡ due_of height place)) }
         ensures unknown { OnErr result (follower_of self.now id.number ≡ None) }
     {
         match self.place(id) {
-            Some(place) => Ok(place.step(height)),
+            Some(place) => Ok(place.due(height)),
             None => Err(UnknownFollower {}),
         }
     }
 
     /// Tells the follower of this number what comes next, beside a selected chain of so many blocks. Where none is open
     /// nothing changes. In constant time, and takes no memory.
-    pub fn next(&mut self, id: FollowerId, height: u64) -> Result<Option<Step>, UnknownFollower>
-        ensures ok { IfOk result (λ step. IsStepped self.old id.number height step self.new) }
+    pub fn next(&mut self, id: FollowerId, height: u64) -> Result<Option<Due>, UnknownFollower>
+        ensures ok { IfOk result (λ due. IsMovedOn self.old id.number height due self.new) }
         ensures unknown { OnErr result (follower_of self.old id.number ≡ None) }
         ensures err { OnErr result (self.new ≡ self.old) }
     {
         let Some(place) = self.place(id) else {
             return Err(UnknownFollower {});
         };
-        self.places[id.number as usize] = Some(place.stepped(height));
-        Ok(place.step(height))
+        self.places[id.number as usize] = Some(place.moved_on(height));
+        Ok(place.due(height))
     }
 
     /// Sets the follower of this number to the end of the first so many blocks of the selected chain. Where none is

@@ -4,8 +4,8 @@
 //! ```text
 //! let id = followers.open()?; // it stands at genesis
 //! match followers.next(id, chain.len())? {
-//!     Some(Step::Add { after }) => .., // the block behind the first so many
-//!     Some(Step::RollBack { to }) => .., // to the end of the first so many
+//!     Some(Due::Add { after }) => .., // the block behind the first so many
+//!     Some(Due::RollBack { to }) => .., // to the end of the first so many
 //!     None => .., // it was told the whole chain
 //! }
 //! followers.moved(common); // of the old chain the new one has so many blocks
@@ -22,4 +22,4 @@ pub use fault::{OpenFollowerFault, UnknownFollower};
 pub use follower_id::{FollowerId, MAX_FOLLOWERS};
 pub use followers::Followers;
 pub use laws::lengths_stand_for_followers;
-pub use place::Step;
+pub use place::Due;

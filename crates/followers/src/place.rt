@@ -1,7 +1,7 @@
 //! Where a follower stands, and what comes next for it.
 
 ghost use Rattle.std.specs.Prelude.{◌≡◌};
-ghost use Rattle.followers.specs.Places.{standing, moved_place, step_of, stepped_place};
+ghost use Rattle.followers.specs.Places.{standing, moved_place, due_of, place_after};
 
 /// Where a follower stands, in blocks: how many it was told, and how many of these the selected chain still has.
 #[derive(Clone, Copy, Debug)]
@@ -12,7 +12,7 @@ pub struct Place {
 
 /// What a follower is told next, in blocks of the selected chain.
 #[derive(Clone, Copy, Debug, PartialEq, Eq)]
-pub enum Step {
+pub enum Due {
     /// To put on the block behind the first so many.
     Add { after: u64 },
     /// To go back to the end of the first so many.
@@ -41,26 +41,26 @@ impl Place {
     }
 
     /// What comes next beside a selected chain of this length.
-    pub fn step(self, height: u64) -> Option<Step>
-        ensures { result ≡ step_of height self }
+    pub fn due(self, height: u64) -> Option<Due>
+        ensures { result ≡ due_of height self }
     {
         if self.agreed < self.told {
-            Some(Step::RollBack { to: self.agreed })
+            Some(Due::RollBack { to: self.agreed })
         } else if self.told < height {
-            Some(Step::Add { after: self.told })
+            Some(Due::Add { after: self.told })
         } else {
             None
         }
     }
 
     /// Where it stands once that was carried out.
-    pub fn stepped(self, height: u64) -> Place
-        ensures { result ≡ stepped_place height self }
+    pub fn moved_on(self, height: u64) -> Place
+        ensures { result ≡ place_after height self }
     {
-        match self.step(height) {
+        match self.due(height) {
             None => self,
-            Some(Step::RollBack { to }) => Place::standing(to),
-            Some(Step::Add { after }) => Place::standing(after + 1),
+            Some(Due::RollBack { to }) => Place::standing(to),
+            Some(Due::Add { after }) => Place::standing(after + 1),
         }
     }
 }

@@ -29,11 +29,11 @@ grant_of_entry network entry placed grant place granted =
     (record { address = found.named; coin = place.coin ∙ granted.coin }, record { address = found.shape; on_network = found.on_network; something = granted.something })
 
 -- what the stages found
-pub record IsJudged (entries : List Entry) (settings : Settings) (grants : List Grant) : Type 0 where
+pub record AreGranted (entries : List Entry) (settings : Settings) (grants : List Grant) : Type 0 where
   pub pairs : Paired (λ e g. IsGrantOf (pos settings.params.network) e g × IsGrant settings.params.network g) entries grants
   pub supply : sum_by coin_of_grant grants < number_limit
 
-pub judged_so : (numbers : Numbers) (entries : List Entry) (settings : Settings) (placed : List Placed) (grants : List Grant) → AreFound numbers settings → each (placed_of settings.params.network) entries ≡ Some placed → grants_of placed ≡ Some grants → IsJudged entries settings grants
+pub judged_so : (numbers : Numbers) (entries : List Entry) (settings : Settings) (placed : List Placed) (grants : List Grant) → AreFound numbers settings → each (placed_of settings.params.network) entries ≡ Some placed → grants_of placed ≡ Some grants → AreGranted entries settings grants
 judged_so numbers entries settings placed grants found places granted =
     let network = settings.params.network in
     let below : network < 16 = omega (arith, found.network.within.not_above) in
@@ -43,7 +43,7 @@ judged_so numbers entries settings placed grants found places granted =
       supply = supply;
     }
 
-pub whole_genesis : (numbers : Numbers) (entries : List Entry) (settings : Settings) (grants : List Grant) → AreFound numbers settings → IsJudged entries settings grants → IsWithin 1 10000 (length grants) → IsGenesis (genesis_with settings grants)
+pub whole_genesis : (numbers : Numbers) (entries : List Entry) (settings : Settings) (grants : List Grant) → AreFound numbers settings → AreGranted entries settings grants → IsWithin 1 10000 (length grants) → IsGenesis (genesis_with settings grants)
 whole_genesis numbers entries settings grants found all count = record {
   ranges = found_params numbers settings found;
   k = found.k.within;
@@ -55,7 +55,7 @@ whole_genesis numbers entries settings grants found all count = record {
 }
 
 -- what is written is what the genesis has
-pub means_so : (written : Written) (settings : Settings) (grants : List Grant) → AreFound written.numbers settings → IsJudged written.outputs settings grants → IsGenesisOf written (genesis_with settings grants)
+pub means_so : (written : Written) (settings : Settings) (grants : List Grant) → AreFound written.numbers settings → AreGranted written.outputs settings grants → IsGenesisOf written (genesis_with settings grants)
 means_so written settings grants found all = record {
   network = found.network.same;
   k = found.k.same;
@@ -83,7 +83,7 @@ have_addresses written settings placed found places =
 coin_written : (network : ℕ) (entry : Entry) (grant : Grant) → IsGrantOf (pos network) entry grant × IsGrant network grant → pos 1 ≤ℤ entry.coin
 coin_written network entry grant both = rw both.0.coin (omega (arith, ints, both.1.something))
 
-have_coins : (entries : List Entry) (settings : Settings) (grants : List Grant) → IsJudged entries settings grants → HaveCoins entries
+have_coins : (entries : List Entry) (settings : Settings) (grants : List Grant) → AreGranted entries settings grants → HaveCoins entries
 have_coins entries settings grants all =
     let network = settings.params.network in
     let sum = same_sum entries grants (paired_weaker _ (λ e g. e.coin ≡ pos g.coin) entries grants (λ e g both. both.0.coin) all.pairs) in
@@ -181,7 +181,7 @@ module _ (text : List ℕ) where
         }
 
         module _ (grants : List Grant) (granted : grants_of placed ≡ Some grants) where
-          all_judged : IsJudged written.outputs settings grants
+          all_judged : AreGranted written.outputs settings grants
           all_judged = judged_so written.numbers written.outputs settings placed grants found places granted
 
           not_coin : Applies text faults.BadCoin → ⊥

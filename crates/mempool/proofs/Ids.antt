@@ -15,8 +15,8 @@ use Rattle.indexmap.specs.IndexMap.{insert_entry}
 use Rattle.indexmap.proofs.CallerLemmas.{insert_entry-new}
 use Rattle.ident.specs.Kinds.{TxId}
 use Rattle.model.specs.Transaction.{Transaction, transaction_id_of, size_of}
-use Rattle.mempool.specs.Pool.{Waiting}
-use Rattle.mempool.specs.HeldPool.{waiting_of, IsHeldWaiting}
+use Rattle.mempool.specs.Contents.{Waiting}
+use Rattle.mempool.specs.HeldWaiting.{waiting_of, IsHeldWaiting}
 use Rattle.mempool.specs.declared.waiting.Waiting.TheInside.{Inside}
 
 -- the two are one identifier

@@ -15,7 +15,7 @@ use Rattle.model.specs.Rules.{Params, Reason, reason_against}
 use Rattle.model.specs.Mempool.{nests_in_a_block, fits_in_a_block, picked}
 use Rattle.model.proofs.Lists.{all_push}
 use Rattle.cbor.proofs.ForCallers.{items_counted}
-use Rattle.mempool.specs.Pool.{Waiting}
+use Rattle.mempool.specs.Contents.{Waiting}
 use Rattle.mempool.specs.Calls.{with_tx}
 use Rattle.mempool.specs.Picking.{IsSpelled, texts_of, AreMeasured, IsRoomFor, offered}
 

@@ -13,10 +13,10 @@ use Rattle.model.specs.Transaction.{Transaction, transaction_id_of}
 use Rattle.model.specs.Signature.{Verifies}
 use Rattle.model.specs.Utxo.{Utxo, utxo_after}
 use Rattle.model.specs.Rules.{Params, Reason, reason_against}
-use Rattle.model.specs.Mempool.{utxo_after_all, passed, IsInPool}
+use Rattle.model.specs.Mempool.{utxo_after_all, passed, IsInMempool}
 use Rattle.model.proofs.MempoolPasses.{stays, drops}
-use Rattle.mempool.specs.Pool.{Waiting}
-use Rattle.mempool.specs.Calls.{with_tx, kept_with, passed_on}
+use Rattle.mempool.specs.Contents.{Waiting}
+use Rattle.mempool.specs.Calls.{with_tx, kept_with, resynced_on}
 use Rattle.mempool.proofs.Ids.{is_id, ids_in, nothing_in}
 
 abbrev Shared : Type 0
@@ -29,7 +29,7 @@ HaveOwnIds (t ∷ ts) = AllByRecursion (λ u. transaction_id_of u ≢ transactio
 
 -- none of the second has the identifier of one of the first
 abbrev pub AreNewTo : List Transaction → List Transaction → Type 0
-AreNewTo txs rest = AllByRecursion (λ u. IsInPool txs u → ⊥) rest
+AreNewTo txs rest = AllByRecursion (λ u. IsInMempool txs u → ⊥) rest
 
 head_id : (a b : List ℕ) (xs ys : List (List ℕ)) → a ∷ xs ≡ b ∷ ys → (a ≡ b) × (xs ≡ ys)
 head_id a b xs ys e = (cc, cc)
@@ -55,7 +55,7 @@ pub all_new : (rest : List Transaction) → AreNewTo [] rest
 all_new [] = tt
 all_new (t ∷ ts) = (nothing_in (transaction_id_of t), all_new ts)
 
-in_longer : (txs : List Transaction) (t u : Transaction) → IsInPool (txs ++ t ∷ []) u → IsInPool txs u ⊎ (transaction_id_of t ≡ transaction_id_of u)
+in_longer : (txs : List Transaction) (t u : Transaction) → IsInMempool (txs ++ t ∷ []) u → IsInMempool txs u ⊎ (transaction_id_of t ≡ transaction_id_of u)
 in_longer txs t u c = Contains-push_cases (map transaction_id_of txs) (transaction_id_of t) (transaction_id_of u) (subst (λ ids. Contains ids (transaction_id_of u)) (with_last txs) c)
   where
     with_last : (xs : List Transaction) → map transaction_id_of (xs ++ t ∷ []) ≡ map transaction_id_of xs ++ transaction_id_of t ∷ []
@@ -119,11 +119,11 @@ module _ (verifies : Verifies) (params : Params) (slot : ℕ) where
       (step (reason_against verifies params kept.unspent slot (arc_value tx)) utxo all kept tx rest refl (subst (IsPartPassed utxo all kept) is part))
 
   -- the next one is new
-  pub next_new : (utxo : Utxo) (all : List Transaction) (kept : Waiting) (tx : Shared) (rest left : List Shared) → left ≡ tx ∷ rest → IsPartPassed utxo all kept left → IsInPool kept.txs (arc_value tx) → ⊥
+  pub next_new : (utxo : Utxo) (all : List Transaction) (kept : Waiting) (tx : Shared) (rest left : List Shared) → left ≡ tx ∷ rest → IsPartPassed utxo all kept left → IsInMempool kept.txs (arc_value tx) → ⊥
   next_new utxo all kept tx rest left is part = (subst (IsPartPassed utxo all kept) is part).new.0
 
   -- where none is left all were passed
-  pub all_passed : (utxo : Utxo) (all : List Transaction) (kept : Waiting) (left : List Shared) → left ≡ [] → IsPartPassed utxo all kept left → kept ≡ passed_on verifies params slot utxo all
+  pub all_passed : (utxo : Utxo) (all : List Transaction) (kept : Waiting) (left : List Shared) → left ≡ [] → IsPartPassed utxo all kept left → kept ≡ resynced_on verifies params slot utxo all
   all_passed utxo all kept left is part =
       let end = subst (IsPartPassed utxo all kept) is part in
       λ i. record { txs = sym (end.txs ∙ append-nil kept.txs) i; unspent = sym end.unspent i }

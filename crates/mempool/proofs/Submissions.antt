@@ -4,11 +4,11 @@ use Rattle.model.specs.Transaction.{Transaction, SpellsTransaction, transaction_
 use Rattle.model.specs.Signature.{Verifies}
 use Rattle.model.specs.Utxo.{Utxo, utxo_after}
 use Rattle.model.specs.Rules.{Params, Reason, NoInputs, reasons, passes, reason_against}
-use Rattle.model.specs.Mempool.{utxo_after_all, IsInPool, NoTransaction, InMempool, IsAgainst, MempoolFull, Added}
+use Rattle.model.specs.Mempool.{utxo_after_all, IsInMempool, Malformed, Known, Refused, Full, Added}
 use Rattle.model.proofs.Reasons.{fails_in}
 use Rattle.model.proofs.TransactionTexts.{one_transaction}
 use Rattle.tx.specs.Bare.{IsBare}
-use Rattle.mempool.specs.Pool.{Pool}
+use Rattle.mempool.specs.Contents.{Mempool}
 use Rattle.mempool.specs.Calls.{with_tx, IsSubmission, IsNew, IsWantFor}
 
 after_last : (utxo : Utxo) (ts : List Transaction) (t : Transaction) → utxo_after_all utxo (ts ++ t ∷ []) ≡ utxo_after (utxo_after_all utxo ts) t
@@ -16,13 +16,13 @@ after_last utxo [] t = refl
 after_last utxo (x ∷ xs) t = after_last (utxo_after utxo x) xs t
 
 -- where a test says whether the identifier is there, and says that it isn't
-pub is_new : (inside now : Pool) (t : Transaction) (id : List ℕ) (there : Bool) → inside ≡ now → id ≡ transaction_id_of t → (Contains (map transaction_id_of inside.waiting.txs) id → there ≡ true) → there ≡ false → IsInPool now.waiting.txs t → ⊥
+pub is_new : (inside now : Mempool) (t : Transaction) (id : List ℕ) (there : Bool) → inside ≡ now → id ≡ transaction_id_of t → (Contains (map transaction_id_of inside.waiting.txs) id → there ≡ true) → there ≡ false → IsInMempool now.waiting.txs t → ⊥
 is_new inside now t id there view is says absent found =
-    true≢false (sym (says (subst (λ (p : Pool). Contains (map transaction_id_of p.waiting.txs) id) (sym view) (subst (Contains (map transaction_id_of now.waiting.txs)) (sym is) found))) ∙ absent)
+    true≢false (sym (says (subst (λ (p : Mempool). Contains (map transaction_id_of p.waiting.txs) id) (sym view) (subst (Contains (map transaction_id_of now.waiting.txs)) (sym is) found))) ∙ absent)
 
-module _ (verifies : Verifies) (params : Params) (slot : ℕ) (old : Pool) (t : Transaction) (bytes : List ℕ) (spells : SpellsTransaction t bytes) where
+module _ (verifies : Verifies) (params : Params) (slot : ℕ) (old : Mempool) (t : Transaction) (bytes : List ℕ) (spells : SpellsTransaction t bytes) where
   -- its identifier is there
-  pub known : (id : List ℕ) → id ≡ transaction_id_of t → Contains (map transaction_id_of old.waiting.txs) id → IsSubmission verifies params slot old bytes InMempool old
+  pub known : (id : List ℕ) → id ≡ transaction_id_of t → Contains (map transaction_id_of old.waiting.txs) id → IsSubmission verifies params slot old bytes Known old
   known id is there = record {
     answers = (t, spells, subst (Contains (map transaction_id_of old.waiting.txs)) is there);
     after = refl;
@@ -31,17 +31,17 @@ module _ (verifies : Verifies) (params : Params) (slot : ℕ) (old : Pool) (t : 
   }
 
   -- there is a reason against it
-  pub against : (reason : Reason) → (IsInPool old.waiting.txs t → ⊥) → reason_against verifies params old.waiting.unspent slot t ≡ Some reason → IsSubmission verifies params slot old bytes (IsAgainst reason) old
+  pub against : (reason : Reason) → (IsInMempool old.waiting.txs t → ⊥) → reason_against verifies params old.waiting.unspent slot t ≡ Some reason → IsSubmission verifies params slot old bytes (Refused reason) old
   against reason fresh is = record { answers = (t, spells, (fresh, is)); after = refl; unspent = λ utxo e. e; capacity = refl }
 
   -- there is no room for it
-  pub full : (IsInPool old.waiting.txs t → ⊥) → reason_against verifies params old.waiting.unspent slot t ≡ None → old.capacity ≤ length old.waiting.txs → IsSubmission verifies params slot old bytes MempoolFull old
+  pub full : (IsInMempool old.waiting.txs t → ⊥) → reason_against verifies params old.waiting.unspent slot t ≡ None → old.capacity ≤ length old.waiting.txs → IsSubmission verifies params slot old bytes Full old
   full fresh none no_room = record { answers = (t, spells, ((fresh, none), no_room)); after = refl; unspent = λ utxo e. e; capacity = refl }
 
   -- it waits, after the others
-  pub added : (new : Pool) → (IsInPool old.waiting.txs t → ⊥) → reason_against verifies params old.waiting.unspent slot t ≡ None → length old.waiting.txs < old.capacity
+  pub added : (new : Mempool) → (IsInMempool old.waiting.txs t → ⊥) → reason_against verifies params old.waiting.unspent slot t ≡ None → length old.waiting.txs < old.capacity
       → new ≡ record { capacity = old.capacity; waiting = with_tx old.waiting t } → IsSubmission verifies params slot old bytes Added new
-  added new fresh none room is = subst (λ (p : Pool). IsSubmission verifies params slot old bytes Added p) (sym is) record {
+  added new fresh none room is = subst (λ (p : Mempool). IsSubmission verifies params slot old bytes Added p) (sym is) record {
     answers = (t, spells, ((fresh, none), room));
     after = (t, spells, refl);
     unspent = λ utxo e. ap (λ u. utxo_after u t) e ∙ sym (after_last utxo old.waiting.txs t);
@@ -50,20 +50,20 @@ module _ (verifies : Verifies) (params : Params) (slot : ℕ) (old : Pool) (t : 
 
 -- ---- where memory is wanting
 
-module _ (verifies : Verifies) (params : Params) (slot : ℕ) (pool : Pool) (t : Transaction) (new : IsNew verifies params slot pool t) where
-  reason_fails : (r : Reason) → reason_against verifies params pool.waiting.unspent slot t ≡ Some r → passes verifies params pool.waiting.unspent slot t r ≡ false
+module _ (verifies : Verifies) (params : Params) (slot : ℕ) (mempool : Mempool) (t : Transaction) (new : IsNew verifies params slot mempool t) where
+  reason_fails : (r : Reason) → reason_against verifies params mempool.waiting.unspent slot t ≡ Some r → passes verifies params mempool.waiting.unspent slot t r ≡ false
   unfolding reason_against
-  reason_fails r is = fails_in (passes verifies params pool.waiting.unspent slot t) reasons r is
+  reason_fails r is = fails_in (passes verifies params mempool.waiting.unspent slot t) reasons r is
 
   -- what is new has none of the answers that are known without memory
-  pub new_wants : (bytes : List ℕ) → SpellsTransaction t bytes → IsWantFor verifies params slot pool bytes
-  new_wants bytes spells NoTransaction early answers = early
-  new_wants bytes spells InMempool early answers = new.unknown (subst (IsInPool pool.waiting.txs) (one_transaction answers.0 t bytes answers.1 spells) answers.2)
-  new_wants bytes spells (IsAgainst r) early answers =
+  pub new_wants : (bytes : List ℕ) → SpellsTransaction t bytes → IsWantFor verifies params slot mempool bytes
+  new_wants bytes spells Malformed early answers = early
+  new_wants bytes spells Known early answers = new.unknown (subst (IsInMempool mempool.waiting.txs) (one_transaction answers.0 t bytes answers.1 spells) answers.2)
+  new_wants bytes spells (Refused r) early answers =
       let same = one_transaction answers.0 t bytes answers.1 spells in
-      let against = subst (λ (x : Transaction). reason_against verifies params pool.waiting.unspent slot x ≡ Some r) same answers.2.1 in
+      let against = subst (λ (x : Transaction). reason_against verifies params mempool.waiting.unspent slot x ≡ Some r) same answers.2.1 in
       true≢false (sym (new.early r early) ∙ reason_fails r against)
-  new_wants bytes spells MempoolFull early answers = early
+  new_wants bytes spells Full early answers = early
   new_wants bytes spells Added early answers = early
 
   -- it spends something

@@ -4,9 +4,10 @@ use Rattle.model.specs.Transaction.{Transaction, SpellsTransaction}
 use Rattle.model.specs.Signature.{Verifies}
 use Rattle.model.specs.Utxo.{Utxo, utxo_after}
 use Rattle.model.specs.Rules.{Params, reason_number, reason_against}
-use Rattle.model.specs.Mempool.{utxo_after_all, passed, SubmitReply, InMempool, IsAgainst, Answers, IsPoolAfter, IsInPool}
+use Rattle.model.specs.Mempool.{utxo_after_all, passed, SubmitReply, Known, Refused, Answers, IsMempoolAfter}
+use Rattle.model.specs.Mempool.{IsInMempool}
 use Rattle.utxo_rules.specs.Check.{PassesEarly}
-use Rattle.mempool.specs.Pool.{Waiting, Pool}
+use Rattle.mempool.specs.Contents.{Waiting, Mempool}
 
 -- one more transaction waits
 abbrev pub with_tx : Waiting → Transaction → Waiting
@@ -18,39 +19,39 @@ kept_with verifies params slot w t =
     if is_some (reason_against verifies params w.unspent slot t) then w else with_tx w t
 
 -- what stays of transactions where they are passed through on these unspent outputs
-abbrev pub passed_on : Verifies → Params → ℕ → Utxo → List Transaction → Waiting
-passed_on verifies params slot utxo txs =
+abbrev pub resynced_on : Verifies → Params → ℕ → Utxo → List Transaction → Waiting
+resynced_on verifies params slot utxo txs =
     record {
       txs = passed verifies params slot utxo txs;
       unspent = utxo_after_all utxo (passed verifies params slot utxo txs);
     }
 
 -- bytes that were submitted were answered so, and left this: what waits, and what that leaves unspent
-pub record IsSubmission (verifies : Verifies) (params : Params) (slot : ℕ) (old : Pool) (bytes : List ℕ)
-    (reply : SubmitReply) (new : Pool) : Type 0 where
+pub record IsSubmission (verifies : Verifies) (params : Params) (slot : ℕ) (old : Mempool) (bytes : List ℕ)
+    (reply : SubmitReply) (new : Mempool) : Type 0 where
   pub answers : Answers verifies params slot old.waiting.unspent old.capacity old.waiting.txs bytes reply
-  pub after : IsPoolAfter old.waiting.txs bytes reply new.waiting.txs
+  pub after : IsMempoolAfter old.waiting.txs bytes reply new.waiting.txs
   pub unspent : (utxo : Utxo) → old.waiting.unspent ≡ utxo_after_all utxo old.waiting.txs
       → new.waiting.unspent ≡ utxo_after_all utxo new.waiting.txs
   pub capacity : new.capacity ≡ old.capacity
 
 -- the same of a transaction, whatever bytes spell it
-abbrev pub IsSubmissionOf : Verifies → Params → ℕ → Pool → Transaction → SubmitReply → Pool → Type 0
+abbrev pub IsSubmissionOf : Verifies → Params → ℕ → Mempool → Transaction → SubmitReply → Mempool → Type 0
 IsSubmissionOf verifies params slot old t reply new = (bytes : List ℕ) → SpellsTransaction t bytes
     → IsSubmission verifies params slot old bytes reply new
 
 -- it isn't known, and none of the reasons 1 to 7 is there
-pub record IsNew (verifies : Verifies) (params : Params) (slot : ℕ) (pool : Pool) (t : Transaction) : Type 0 where
-  pub unknown : IsInPool pool.waiting.txs t → ⊥
-  pub early : PassesEarly verifies params pool.waiting.unspent slot t
+pub record IsNew (verifies : Verifies) (params : Params) (slot : ℕ) (mempool : Mempool) (t : Transaction) : Type 0 where
+  pub unknown : IsInMempool mempool.waiting.txs t → ⊥
+  pub early : PassesEarly verifies params mempool.waiting.unspent slot t
 
 -- what is known of a transaction before memory is asked for: that it waits, or one of the reasons 1 to 7
 abbrev pub IsEarly : SubmitReply → Type 0
-IsEarly InMempool = Unit {0}
-IsEarly (IsAgainst reason) = reason_number reason < 8
+IsEarly Known = Unit {0}
+IsEarly (Refused reason) = reason_number reason < 8
 IsEarly other = ⊥
 
 -- so memory is wanting only where the answer is none of these
-abbrev pub IsWantFor : Verifies → Params → ℕ → Pool → List ℕ → Type 0
-IsWantFor verifies params slot pool bytes = (reply : SubmitReply) → IsEarly reply
-    → Answers verifies params slot pool.waiting.unspent pool.capacity pool.waiting.txs bytes reply → ⊥
+abbrev pub IsWantFor : Verifies → Params → ℕ → Mempool → List ℕ → Type 0
+IsWantFor verifies params slot mempool bytes = (reply : SubmitReply) → IsEarly reply
+    → Answers verifies params slot mempool.waiting.unspent mempool.capacity mempool.waiting.txs bytes reply → ⊥

@@ -1,6 +1,6 @@
 -- What was taken of a mempool, as the code holds it.
 use Rattle.std.specs.Prelude.{map}
-use Rattle.mempool.specs.Pool.{Waiting}
+use Rattle.mempool.specs.Contents.{Waiting}
 use Rattle.mempool.specs.Taking.{taken_tx}
 use Rattle.mempool.specs.Picking.{AreMeasured}
 use Rattle.mempool.specs.declared.picking.Picked.TheInside.{Inside}

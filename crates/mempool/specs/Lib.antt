@@ -1,5 +1,5 @@
-pub mod Pool
-pub mod HeldPool
+pub mod Contents
+pub mod HeldWaiting
 pub mod Calls
 pub mod Picking
 pub mod Taking

@@ -7,7 +7,7 @@ use Rattle.model.specs.Transaction.{Transaction, SpellsTransaction, item_of_tran
 use Rattle.model.specs.Signature.{Verifies}
 use Rattle.model.specs.Rules.{Params, reason_against}
 use Rattle.model.specs.Mempool.{fits_in_a_block}
-use Rattle.mempool.specs.Pool.{Waiting}
+use Rattle.mempool.specs.Contents.{Waiting}
 use Rattle.mempool.specs.Calls.{with_tx}
 
 -- the transaction has a text

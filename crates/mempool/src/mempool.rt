@@ -7,11 +7,11 @@ ghost use Rattle.std.specs.Arc.{arc_value};
 ghost use Rattle.model.specs.Cbor.{text_of};
 ghost use Rattle.model.specs.Transaction.{Transaction, SpellsTransaction, item_of_transaction, size_of};
 ghost use Rattle.model.specs.Block.{item_of_transactions};
-ghost use Rattle.model.specs.Mempool.{IsInPool, picked};
+ghost use Rattle.model.specs.Mempool.{IsInMempool, picked};
 ghost use Rattle.model.specs.Rules as model;
 ghost use Rattle.tx.specs.Bare.{IsBare};
 ghost use Rattle.utxo_rules.specs.View.{params_of};
-ghost use Rattle.mempool.specs.Calls.{passed_on, IsSubmission, IsSubmissionOf, IsNew, IsWantFor};
+ghost use Rattle.mempool.specs.Calls.{resynced_on, IsSubmission, IsSubmissionOf, IsNew, IsWantFor};
 ghost use Rattle.mempool.specs.Picking.{IsSpelled};
 ghost use Rattle.mempool.specs.View.{reply_of};
 
@@ -40,12 +40,12 @@ pub struct Mempool<S: SigScheme> {
 }
 
 impl<S: SigScheme> Model for Mempool<S> {
-    ghost use Rattle.mempool.specs.Pool as pool;
-    ghost use Rattle.mempool.specs.Pool.{coded_pool};
+    ghost use Rattle.mempool.specs.Contents as contents;
+    ghost use Rattle.mempool.specs.Contents.{coded_mempool};
 
-    ghost Value = { pool.Pool };
+    ghost Value = { contents.Mempool };
 
-    ghost coded = { coded_pool };
+    ghost coded = { coded_mempool };
 
     ghost view = { λ m. record { capacity = m.capacity; waiting = m.waiting } };
 }
@@ -58,10 +58,10 @@ pub struct Resynced<S: SigScheme> {
 }
 
 impl<S: SigScheme> Model for Resynced<S> {
-    ghost use Rattle.mempool.specs.Pool as pool;
-    ghost use Rattle.mempool.specs.Pool.{coded_waiting};
+    ghost use Rattle.mempool.specs.Contents as contents;
+    ghost use Rattle.mempool.specs.Contents.{coded_waiting};
 
-    ghost Value = { pool.Waiting };
+    ghost Value = { contents.Waiting };
 
     ghost coded = { coded_waiting };
 
@@ -119,10 +119,10 @@ impl<S: SigScheme> Mempool<S> {
         slot: u64,
     ) -> Result<Resynced<S>, AllocError>
         ensures { IfOk result (λ resynced.
-            resynced ≡ passed_on S.verifies (params_of params.now) slot unspent.now self.now.waiting.txs) }
+            resynced ≡ resynced_on S.verifies (params_of params.now) slot unspent.now self.now.waiting.txs) }
     {
         Ok(Resynced {
-            waiting: self.waiting.pass(params, unspent, slot)?,
+            waiting: self.waiting.resync(params, unspent, slot)?,
         })
     }
 
@@ -170,7 +170,7 @@ impl<S: SigScheme> Mempool<S> {
 
     /// What is answered to a transaction that is new, and against which there is none of the reasons 1 to 7.
     fn late_answer(&mut self, tx: CheckedTx<S>) -> Result<SubmitReply, AllocError>
-        requires { IsInPool self.old.waiting.txs tx → ⊥ }
+        requires { IsInMempool self.old.waiting.txs tx → ⊥ }
         ensures ok { IfOk result (λ reply. (params : model.Params) (slot : ℕ) →
             IsNew S.verifies params slot self.old tx →
             IsSubmissionOf S.verifies params slot self.old tx (reply_of reply) self.new) }

@@ -45,10 +45,10 @@ pub struct Picked<S: SigScheme> {
 }
 
 impl<S: SigScheme> Model for Picked<S> {
-    ghost use Rattle.mempool.specs.Pool as pool;
-    ghost use Rattle.mempool.specs.Pool.{coded_waiting};
+    ghost use Rattle.mempool.specs.Contents as contents;
+    ghost use Rattle.mempool.specs.Contents.{coded_waiting};
 
-    ghost Value = { pool.Waiting };
+    ghost Value = { contents.Waiting };
 
     ghost coded = { coded_waiting };
 

@@ -4,12 +4,12 @@ ghost use Rattle.std.specs.Prelude.{◌≡◌, ◌↔◌, ℕ, [], length, map, 
 ghost use Rattle.std.specs.Prelude.{Some, None};
 ghost use Rattle.std.specs.Arc.{arc_value};
 ghost use Rattle.model.specs.Transaction.{transaction_id_of, size_of};
-ghost use Rattle.model.specs.Mempool.{IsInPool, picked};
+ghost use Rattle.model.specs.Mempool.{IsInMempool, picked};
 ghost use Rattle.model.specs.Rules as model;
 ghost use Rattle.model.specs.Rules.{reason_against};
 ghost use Rattle.utxo_rules.specs.View.{params_of, reason_of};
 ghost use Rattle.utxo_rules.specs.Check.{IsCheckFault, PassesEarly};
-ghost use Rattle.mempool.specs.Calls.{with_tx, kept_with, passed_on};
+ghost use Rattle.mempool.specs.Calls.{with_tx, kept_with, resynced_on};
 
 use crate::picking::Picked;
 use ident::TxId;
@@ -34,14 +34,14 @@ pub struct Waiting<S: SigScheme> {
 }
 
 impl<S: SigScheme> Model for Waiting<S> {
-    ghost use Rattle.mempool.specs.Pool as pool;
-    ghost use Rattle.mempool.specs.Pool.{coded_waiting};
+    ghost use Rattle.mempool.specs.Contents as contents;
+    ghost use Rattle.mempool.specs.Contents.{coded_waiting};
 
-    ghost Value = { pool.Waiting };
+    ghost Value = { contents.Waiting };
 
     ghost coded = { coded_waiting };
 
-    ghost use Rattle.mempool.specs.HeldPool.{waiting_of, IsHeldWaiting};
+    ghost use Rattle.mempool.specs.HeldWaiting.{waiting_of, IsHeldWaiting};
 
     ghost view = { waiting_of };
 
@@ -139,7 +139,7 @@ impl<S: SigScheme> Waiting<S> {
 
     /// Has a transaction wait after the others. Err where memory runs out: nothing changes.
     pub fn push(&mut self, tx: Arc<CheckedTx<S>>) -> Result<(), AllocError>
-        requires { IsInPool self.old.txs (arc_value tx) → ⊥ }
+        requires { IsInMempool self.old.txs (arc_value tx) → ⊥ }
         ensures ok { OnOk result (self.new ≡ with_tx self.old (arc_value tx)) }
         ensures err { OnErr result (self.new ≡ self.old) }
     {
@@ -158,7 +158,7 @@ impl<S: SigScheme> Waiting<S> {
 
     /// Has a transaction wait after the others, where there is no reason against it.
     fn keep(&mut self, params: &Params, slot: u64, tx: &Arc<CheckedTx<S>>) -> Result<(), AllocError>
-        requires { IsInPool self.old.txs (arc_value tx.now) → ⊥ }
+        requires { IsInMempool self.old.txs (arc_value tx.now) → ⊥ }
         ensures { OnOk result (
             self.new ≡ kept_with S.verifies (params_of params.now) slot self.old (arc_value tx.now)) }
     {
@@ -171,9 +171,14 @@ impl<S: SigScheme> Waiting<S> {
 
     /// What stays of the transactions where they are passed through in their order, at a slot and on other unspent
     /// outputs. Err where memory runs out. Judges each once; nothing is verified or hashed again.
-    pub fn pass(&self, params: &Params, unspent: &Utxo, slot: u64) -> Result<Waiting<S>, AllocError>
+    pub fn resync(
+        &self,
+        params: &Params,
+        unspent: &Utxo,
+        slot: u64,
+    ) -> Result<Waiting<S>, AllocError>
         ensures { IfOk result (λ kept.
-            kept ≡ passed_on S.verifies (params_of params.now) slot unspent.now self.now.txs) }
+            kept ≡ resynced_on S.verifies (params_of params.now) slot unspent.now self.now.txs) }
     {
         let unspent = unspent.try_clone()?;
         let mut kept = Waiting::with_capacity(self.alloc, unspent, self.txs.len())?;

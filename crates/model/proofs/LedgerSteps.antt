@@ -9,7 +9,7 @@ use Rattle.model.specs.Utxo.{outputs_of, coin_of}
 use Rattle.model.specs.Rules.{Params, Reason}
 use Rattle.model.specs.Genesis.{supply_of}
 use Rattle.model.specs.Block.{Block, IsBlock}
-use Rattle.model.specs.Ledger.{Network, Ledger, opening_ledger, ledger_with, told_first, reason_in, ledger_after, first_refused, ledger_after_block, ledger_from, ledger_of}
+use Rattle.model.specs.Ledger.{Network, Ledger, opening_ledger, ledger_with, first_or, reason_in, ledger_after, first_refused, ledger_after_block, ledger_from, ledger_of}
 use Rattle.model.proofs.Conserved.{accepted_conserves}
 use Rattle.model.proofs.OpeningOutputs.{opening_holds}
 
@@ -32,8 +32,8 @@ module _ (verifies : Verifies) (params : Params) (slot : ℕ) where
   after_step r ledger t ts e = ap (λ (o : Option Reason). if is_some o then None else after (ledger_with ledger t) ts) e
 
   refused_step : (r : Option Reason) (ledger : Ledger) (index : ℕ) (t : Transaction) (ts : List Transaction) → judged ledger t ≡ r
-      → refused ledger index (t ∷ ts) ≡ told_first index r (refused (ledger_with ledger t) (suc index) ts)
-  refused_step r ledger index t ts e = ap (λ (o : Option Reason). told_first index o (refused (ledger_with ledger t) (suc index) ts)) e
+      → refused ledger index (t ∷ ts) ≡ first_or index r (refused (ledger_with ledger t) (suc index) ts)
+  refused_step r ledger index t ts e = ap (λ (o : Option Reason). first_or index o (refused (ledger_with ledger t) (suc index) ts)) e
 
   -- a transaction that is let through
   pub through_after : (ledger : Ledger) (t : Transaction) (ts : List Transaction) → judged ledger t ≡ None → after ledger (t ∷ ts) ≡ after (ledger_with ledger t) ts

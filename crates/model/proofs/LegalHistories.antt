@@ -9,7 +9,7 @@ use Rattle.model.specs.Genesis.{Genesis}
 use Rattle.model.specs.Signature.{Verifies}
 use Rattle.model.specs.Ledger.{Network, network_of}
 use Rattle.model.specs.Chain.{Tip, tip_at, genesis_tip, IsLinked, IsOpening, IsValidChain, NoneLonger, IsSelection, Stays, Changes, HaveDistinctHashes, immutable_length, immutable_part, live_blocks, BeginsWith}
-use Rattle.model.specs.Mempool.{SubmitReply, IsValidPool, revalidated}
+use Rattle.model.specs.Mempool.{SubmitReply, IsValidMempool, revalidated}
 use Rattle.model.specs.Follower.{Follower, Followers, Instruction, IsNext, AreMoved, follower_of, standing_at, with_opened}
 use Rattle.model.specs.History.{State, opening, live_of, Refusal, Known, Clash, Applies, Event, Arrive, Submit, Open, Next, Forward, Close, Reply, Kept, Refused, Submitted, Opened, TooManyFollowers, Instructed, Forwarded, Closed, UnknownFollower, OutOfMemory, Keeps, Takes, Instructs, with_follower, Step, Entry, IsRun, IsLegal, BringsBlock, IsKeptBy, length_with, length_from}
 use Rattle.model.proofs.Lists.{all_of_member, all_weaker, all_from_members, all_filter_narrower, contains_first, contains_later, contains_cases}
@@ -58,7 +58,7 @@ pub record IsSoundState (network : Network) (s : State) : Type 0 where
   pub valid : IsValidChain network s.chain
   pub longest : NoneLonger network s.kept s.chain
   pub distinct : HaveDistinctHashes (live_of network s)
-  pub mempool : IsValidPool network s.chain s.mempool
+  pub mempool : IsValidMempool network s.chain s.mempool
   pub members : AllByRecursion (Contains s.kept) s.chain
   pub spelled : AllByRecursion HasItsText s.kept
   pub followers : AllSound network.genesis.k s.chain s.followers
@@ -136,7 +136,7 @@ keeps_sound network s bytes back added t sound keeps =
       longest = selection_longest network t.kept s.chain t.chain keeps.selection;
       distinct = narrower_distinct (λ b. nat_lt (immutable_length network s.chain) b.header.number) (λ b. nat_lt (immutable_length network t.chain) b.header.number) t.kept
           (λ b passes. lt-ltb (immutable_length network s.chain) b.header.number (let past = ltb-true (immutable_length network t.chain) b.header.number passes in omega arith)) distinct;
-      mempool = subst (IsValidPool network t.chain) (sym keeps.mempool) (up_to_date network t.chain s.mempool);
+      mempool = subst (IsValidMempool network t.chain) (sym keeps.mempool) (up_to_date network t.chain s.mempool);
       members = selected_kept network s.kept t.kept s.chain t.chain keeps.block keeps.kept sound.members keeps.selection;
       spelled = subst (AllByRecursion HasItsText) (sym keeps.kept) (spelled_by keeps.block bytes keeps.read, sound.spelled);
       followers = moved_all_sound network.genesis.k s.chain t.chain s.followers t.followers (selection_longer network t.kept s.chain t.chain keeps.selection)
@@ -149,7 +149,7 @@ pub record IsQuiet (network : Network) (s : State) (event : Event) (reply : Repl
   pub chain : t.chain ≡ s.chain
   pub counted : (n : ℕ) → length_with n reply ≡ n
   pub brings_none : (b : Block) → BringsBlock event reply b → ⊥
-  pub mempool : IsValidPool network s.chain s.mempool → IsValidPool network t.chain t.mempool
+  pub mempool : IsValidMempool network s.chain s.mempool → IsValidMempool network t.chain t.mempool
   pub followers : AllSound network.genesis.k s.chain s.followers → AllSound network.genesis.k t.chain t.followers
 
 -- a step keeps a block, or is quiet
@@ -164,7 +164,7 @@ still network s event reply t counted none same = record {
   chain = ap (λ (u : State). u.chain) same;
   counted = counted;
   brings_none = none;
-  mempool = subst (λ (u : State). IsValidPool network u.chain u.mempool) (sym same);
+  mempool = subst (λ (u : State). IsValidMempool network u.chain u.mempool) (sym same);
   followers = subst (λ (u : State). AllSound network.genesis.k u.chain u.followers) (sym same);
 }
 
@@ -176,7 +176,7 @@ re_followed network s event reply followers t counted none same sound = record {
   chain = ap (λ (u : State). u.chain) same;
   counted = counted;
   brings_none = none;
-  mempool = subst (λ (u : State). IsValidPool network u.chain u.mempool) (sym same);
+  mempool = subst (λ (u : State). IsValidMempool network u.chain u.mempool) (sym same);
   followers = λ before. subst (λ (u : State). AllSound network.genesis.k u.chain u.followers) (sym same) (sound before);
 }
 
@@ -188,7 +188,7 @@ kind_of network s (Submit bytes) (Submitted answer) t step = Quiet (Submit bytes
   chain = ap (λ (u : State). u.chain) step.after;
   counted = λ n. refl;
   brings_none = λ b no'. no';
-  mempool = λ valid. subst (λ (u : State). IsValidPool network u.chain u.mempool) (sym step.after) (submitted_valid network s.chain s.mempool bytes answer step.mempool step.submits valid);
+  mempool = λ valid. subst (λ (u : State). IsValidMempool network u.chain u.mempool) (sym step.after) (submitted_valid network s.chain s.mempool bytes answer step.mempool step.submits valid);
   followers = subst (λ (u : State). AllSound network.genesis.k u.chain u.followers) (sym step.after);
 })
 kind_of network s Open (Opened id) t step = Quiet Open (Opened id) t
@@ -249,7 +249,7 @@ keeps_one network s bytes back added other_back other_added t u sound first seco
 
 takes_one : (network : Network) (s : State) (bytes : List ℕ) (answer : SubmitReply) (t u : State) → Takes network s bytes answer t → Takes network s bytes answer u → t ≡ u
 takes_one network s bytes answer t u first second =
-    let mempool : first.mempool ≡ second.mempool = submitted_one s.mempool bytes answer first.mempool second.mempool first.submits.pool second.submits.pool in
+    let mempool : first.mempool ≡ second.mempool = submitted_one s.mempool bytes answer first.mempool second.mempool first.submits.mempool second.submits.mempool in
     first.after ∙ ((λ i. record { kept = s.kept; chain = s.chain; mempool = mempool i; followers = s.followers }) ∙ sym second.after)
 
 instructs_one : (s : State) (id : ℕ) (instruction : Instruction) (t u : State) → Instructs s id instruction t → Instructs s id instruction u → t ≡ u

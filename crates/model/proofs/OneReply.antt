@@ -8,7 +8,8 @@ use Rattle.model.specs.Utxo.{Utxo}
 use Rattle.model.specs.Rules.{Params}
 use Rattle.model.specs.Ledger.{Network}
 use Rattle.model.specs.Chain.{Point}
-use Rattle.model.specs.Mempool.{utxo_after_all, next_slot, IsInPool, IsJudged, Answers, SubmitReply, NoTransaction, InMempool, IsAgainst, MempoolFull, Added}
+use Rattle.model.specs.Mempool.{utxo_after_all, next_slot, IsInMempool, IsJudged, Answers, SubmitReply, Added}
+use Rattle.model.specs.Mempool as submission
 use Rattle.model.specs.Follower.{Follower, Instruction, Stay, AddBlock, RollBack, IsNext, IsFirstOn}
 use Rattle.model.specs.History.{State, Refusal, refusal_number, Applies, IsRefused, IsChange, Takes, Event, Arrive, Submit, Open, Next, Forward, Close, Reply, Kept, Refused, Submitted, Opened, TooManyFollowers, Instructed, Forwarded, Closed, UnknownFollower, OutOfMemory, Step}
 use Rattle.model.proofs.First.{one_first, one_number}
@@ -44,42 +45,42 @@ arrival_one network s bytes r q t u sound enough enough_too one two = absurd one
 module _ (verifies : Verifies) (params : Params) (slot : ℕ) (unspent : Utxo) (max : ℕ) (txs : List Transaction) where
   -- the condition of an answer to this transaction
   abbrev IsAnswer : Transaction → SubmitReply → Type 0
-  IsAnswer t NoTransaction = ⊥
-  IsAnswer t InMempool = IsInPool txs t
-  IsAnswer t (IsAgainst reason) = IsJudged verifies params slot unspent max txs t (Some reason)
-  IsAnswer t MempoolFull = IsJudged verifies params slot unspent max txs t None × (max ≤ length txs)
+  IsAnswer t submission.Malformed = ⊥
+  IsAnswer t submission.Known = IsInMempool txs t
+  IsAnswer t (submission.Refused reason) = IsJudged verifies params slot unspent max txs t (Some reason)
+  IsAnswer t submission.Full = IsJudged verifies params slot unspent max txs t None × (max ≤ length txs)
   IsAnswer t Added = IsJudged verifies params slot unspent max txs t None × (length txs < max)
 
   answer_one : (t : Transaction) (r q : SubmitReply) → IsAnswer t r → IsAnswer t q → r ≡ q
-  answer_one t InMempool InMempool one two = refl
-  answer_one t InMempool (IsAgainst reason) one two = absurd (two.0 one)
-  answer_one t InMempool MempoolFull one two = absurd (two.0.0 one)
-  answer_one t InMempool Added one two = absurd (two.0.0 one)
-  answer_one t (IsAgainst reason) InMempool one two = absurd (one.0 two)
-  answer_one t (IsAgainst reason) (IsAgainst other) one two = ap IsAgainst (same_Some reason other (sym one.1 ∙ two.1))
-  answer_one t (IsAgainst reason) MempoolFull one two = absurd (none_some reason (sym two.0.1 ∙ one.1))
-  answer_one t (IsAgainst reason) Added one two = absurd (none_some reason (sym two.0.1 ∙ one.1))
-  answer_one t MempoolFull InMempool one two = absurd (one.0.0 two)
-  answer_one t MempoolFull (IsAgainst reason) one two = absurd (none_some reason (sym one.0.1 ∙ two.1))
-  answer_one t MempoolFull MempoolFull one two = refl
-  answer_one t MempoolFull Added one two = absurd (let a = one.1 in let b = two.1 in omega arith)
-  answer_one t Added InMempool one two = absurd (one.0.0 two)
-  answer_one t Added (IsAgainst reason) one two = absurd (none_some reason (sym one.0.1 ∙ two.1))
-  answer_one t Added MempoolFull one two = absurd (let a = one.1 in let b = two.1 in omega arith)
+  answer_one t submission.Known submission.Known one two = refl
+  answer_one t submission.Known (submission.Refused reason) one two = absurd (two.0 one)
+  answer_one t submission.Known submission.Full one two = absurd (two.0.0 one)
+  answer_one t submission.Known Added one two = absurd (two.0.0 one)
+  answer_one t (submission.Refused reason) submission.Known one two = absurd (one.0 two)
+  answer_one t (submission.Refused reason) (submission.Refused other) one two = ap submission.Refused (same_Some reason other (sym one.1 ∙ two.1))
+  answer_one t (submission.Refused reason) submission.Full one two = absurd (none_some reason (sym two.0.1 ∙ one.1))
+  answer_one t (submission.Refused reason) Added one two = absurd (none_some reason (sym two.0.1 ∙ one.1))
+  answer_one t submission.Full submission.Known one two = absurd (one.0.0 two)
+  answer_one t submission.Full (submission.Refused reason) one two = absurd (none_some reason (sym one.0.1 ∙ two.1))
+  answer_one t submission.Full submission.Full one two = refl
+  answer_one t submission.Full Added one two = absurd (let a = one.1 in let b = two.1 in omega arith)
+  answer_one t Added submission.Known one two = absurd (one.0.0 two)
+  answer_one t Added (submission.Refused reason) one two = absurd (none_some reason (sym one.0.1 ∙ two.1))
+  answer_one t Added submission.Full one two = absurd (let a = one.1 in let b = two.1 in omega arith)
   answer_one t Added Added one two = refl
-  answer_one t NoTransaction q one two = absurd one
-  answer_one t r NoTransaction one two = absurd two
+  answer_one t submission.Malformed q one two = absurd one
+  answer_one t r submission.Malformed one two = absurd two
 
   -- bytes that are no transaction's, or a transaction with its answer
   data Case (bytes : List ℕ) : SubmitReply → Type 0 where
-    IsNone : ((t : Transaction) → SpellsTransaction t bytes → ⊥) → Case bytes NoTransaction
+    IsNone : ((t : Transaction) → SpellsTransaction t bytes → ⊥) → Case bytes submission.Malformed
     IsSome : (reply : SubmitReply) (t : Transaction) → SpellsTransaction t bytes → IsAnswer t reply → Case bytes reply
 
   case_of : (bytes : List ℕ) (reply : SubmitReply) → Answers verifies params slot unspent max txs bytes reply → Case bytes reply
-  case_of bytes NoTransaction answers = IsNone answers
-  case_of bytes InMempool answers = IsSome InMempool answers.0 answers.1 answers.2
-  case_of bytes (IsAgainst reason) answers = IsSome (IsAgainst reason) answers.0 answers.1 answers.2
-  case_of bytes MempoolFull answers = IsSome MempoolFull answers.0 answers.1 answers.2
+  case_of bytes submission.Malformed answers = IsNone answers
+  case_of bytes submission.Known answers = IsSome submission.Known answers.0 answers.1 answers.2
+  case_of bytes (submission.Refused reason) answers = IsSome (submission.Refused reason) answers.0 answers.1 answers.2
+  case_of bytes submission.Full answers = IsSome submission.Full answers.0 answers.1 answers.2
   case_of bytes Added answers = IsSome Added answers.0 answers.1 answers.2
 
   case_one : (bytes : List ℕ) (r q : SubmitReply) → Case bytes r → Case bytes q → r ≡ q
@@ -111,10 +112,10 @@ submit_one network s bytes r q t u enough enough_too one two = absurd one
 
 open_one : (network : Network) (s : State) (r q : Reply) (t u : State) → r ≢ OutOfMemory → q ≢ OutOfMemory → Step network s Open r t → Step network s Open q u → r ≡ q
 open_one network s (Opened id) (Opened other) t u enough enough_too one two = ap Opened (one.is_free ∙ sym two.is_free)
-open_one network s (Opened id) TooManyFollowers t u enough enough_too one two = absurd (let free = one.is_free in let room = one.room in let full = two.0 in omega arith)
+open_one network s (Opened id) TooManyFollowers t u enough enough_too one two = absurd (let free = one.is_free in let few = one.few in let full = two.0 in omega arith)
 open_one network s (Opened id) OutOfMemory t u enough enough_too one two = absurd (enough_too refl)
 open_one network s (Opened id) q t u enough enough_too one two = absurd two
-open_one network s TooManyFollowers (Opened id) t u enough enough_too one two = absurd (let free = two.is_free in let room = two.room in let full = one.0 in omega arith)
+open_one network s TooManyFollowers (Opened id) t u enough enough_too one two = absurd (let free = two.is_free in let few = two.few in let full = one.0 in omega arith)
 open_one network s TooManyFollowers TooManyFollowers t u enough enough_too one two = refl
 open_one network s TooManyFollowers OutOfMemory t u enough enough_too one two = absurd (enough_too refl)
 open_one network s TooManyFollowers q t u enough enough_too one two = absurd two

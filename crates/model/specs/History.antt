@@ -9,7 +9,7 @@ use Rattle.model.specs.Ledger.{Network}
 use Rattle.model.specs.Chain.{Point, immutable_length, live_blocks, IsSelection, BeginsWith, IsValidChain, NoneLonger}
 use Rattle.model.specs.Limits.{block_size_limit, follower_limit}
 use Rattle.model.specs.Transaction.{Transaction}
-use Rattle.model.specs.Mempool.{SubmitReply, Submits, revalidated, IsValidPool}
+use Rattle.model.specs.Mempool.{SubmitReply, Submits, revalidated, IsValidMempool}
 use Rattle.model.specs.Follower.{Follower, Followers, standing_at, follower_of, free_id, with_opened, AreMoved}
 use Rattle.model.specs.Follower.{Instruction, Stay, IsDue, IsNext, IsFirstOn, AreReplayed}
 
@@ -133,7 +133,7 @@ pub record Takes (network : Network) (s : State) (bytes : List ℕ) (reply : Sub
 -- a follower of the least free number is opened
 pub record Opens (s : State) (id : ℕ) (t : State) : Type 0 where
   pub is_free : id ≡ free_id s.followers
-  pub room : id < follower_limit
+  pub few : id < follower_limit
   pub after : t ≡ record s { followers = with_opened s.followers }
 
 -- with another follower of this number, or with none
@@ -292,6 +292,6 @@ pub record ChainTheorem (network : Network) (history : List Entry) (state : Stat
   pub legal : IsLegal network history state
   pub valid : IsValidChain network state.chain
   pub longest : NoneLonger network state.kept state.chain
-  pub mempool : IsValidPool network state.chain state.mempool
+  pub mempool : IsValidMempool network state.chain state.mempool
   pub followers : (id : ℕ) (f : Follower) → follower_of state.followers id ≡ Some f
       → IsFollowing network history state id f

@@ -5,7 +5,8 @@ use Rattle.std.specs.Coded.{Coded, coded_ℕ, coded_list, coded×, coded_option,
 use Rattle.model.specs.Rules.{Reason, reason_number, reasons, OutsideInterval, NoInputs, TooBig, FeeTooSmall}
 use Rattle.model.specs.Rules.{MissingInput, OutputTooSmall, WrongNetwork, NotBalanced, OutputExists, BadSignature}
 use Rattle.model.specs.Rules.{MissingKeyWitness, MissingScript, ExtraScript, ScriptFails}
-use Rattle.model.specs.Mempool.{SubmitReply, NoTransaction, InMempool, IsAgainst, MempoolFull, Added}
+use Rattle.model.specs.Mempool.{SubmitReply, Added}
+use Rattle.model.specs.Mempool as submission
 use Rattle.model.specs.Chain.{Point}
 use Rattle.model.specs.Follower.{Instruction, Stay, AddBlock, RollBack}
 use Rattle.model.specs.History.{Refusal, TooLarge, Event, Arrive, Submit, Open, Next, Forward, Close, Reply}
@@ -107,25 +108,25 @@ coded_reason = code_by ℕ coded_ℕ reason_number reason_at reason_back
 
 -- the answer to a submission as a number and a reason, and back
 abbrev pub fields_of_submit_reply : SubmitReply → ℕ × Reason
-fields_of_submit_reply NoTransaction = (0, OutsideInterval)
-fields_of_submit_reply InMempool = (1, OutsideInterval)
-fields_of_submit_reply (IsAgainst reason) = (2, reason)
-fields_of_submit_reply MempoolFull = (3, OutsideInterval)
+fields_of_submit_reply submission.Malformed = (0, OutsideInterval)
+fields_of_submit_reply submission.Known = (1, OutsideInterval)
+fields_of_submit_reply (submission.Refused reason) = (2, reason)
+fields_of_submit_reply submission.Full = (3, OutsideInterval)
 fields_of_submit_reply Added = (4, OutsideInterval)
 
 abbrev pub submit_reply_at : ℕ → Reason → SubmitReply
-submit_reply_at zero reason = NoTransaction
-submit_reply_at (suc zero) reason = InMempool
-submit_reply_at (suc (suc zero)) reason = IsAgainst reason
-submit_reply_at (suc (suc (suc zero))) reason = MempoolFull
+submit_reply_at zero reason = submission.Malformed
+submit_reply_at (suc zero) reason = submission.Known
+submit_reply_at (suc (suc zero)) reason = submission.Refused reason
+submit_reply_at (suc (suc (suc zero))) reason = submission.Full
 submit_reply_at (suc (suc (suc (suc n)))) reason = Added
 
 pub submit_reply_back : (r : SubmitReply)
     → submit_reply_at (fields_of_submit_reply r).0 (fields_of_submit_reply r).1 ≡ r
-submit_reply_back NoTransaction = refl
-submit_reply_back InMempool = refl
-submit_reply_back (IsAgainst reason) = refl
-submit_reply_back MempoolFull = refl
+submit_reply_back submission.Malformed = refl
+submit_reply_back submission.Known = refl
+submit_reply_back (submission.Refused reason) = refl
+submit_reply_back submission.Full = refl
 submit_reply_back Added = refl
 
 -- what is answered to a submission

@@ -46,9 +46,9 @@ ledger_with ledger t = record { utxo = utxo_after ledger.utxo t; fees = ledger.f
 -- ---- the transactions of a body
 
 -- one place and its reason, if there is one, and else what is told of the places after it
-abbrev pub told_first : ℕ → Option Reason → Option (ℕ × Reason) → Option (ℕ × Reason)
-told_first index (Some reason) later = Some (index, reason)
-told_first index None later = later
+abbrev pub first_or : ℕ → Option Reason → Option (ℕ × Reason) → Option (ℕ × Reason)
+first_or index (Some reason) later = Some (index, reason)
+first_or index None later = later
 
 module _ (verifies : Verifies) (params : Params) (slot : ℕ) where
   -- the reason against a transaction
@@ -65,7 +65,7 @@ module _ (verifies : Verifies) (params : Params) (slot : ℕ) where
   abbrev pub first_refused : Ledger → (index : ℕ) → List Transaction → Option (ℕ × Reason)
   first_refused ledger index [] = None
   first_refused ledger index (t ∷ ts) =
-      told_first index (reason_in ledger t) (first_refused (ledger_with ledger t) (suc index) ts)
+      first_or index (reason_in ledger t) (first_refused (ledger_with ledger t) (suc index) ts)
 
 -- ---- the blocks of a chain
 

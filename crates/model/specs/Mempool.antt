@@ -63,17 +63,17 @@ module _ (network : Network) (chain : List Block) where
       (λ utxo. passed network.verifies network.genesis.params (next_slot chain) utxo txs) utxo_of []
 
   -- valid in order: where it is brought up to date nothing is dropped
-  abbrev pub IsValidPool : List Transaction → Type 0
-  IsValidPool txs = revalidated txs ≡ txs
+  abbrev pub IsValidMempool : List Transaction → Type 0
+  IsValidMempool txs = revalidated txs ≡ txs
 
 -- ---- what is submitted
 
 -- what is answered to bytes that are submitted, in the order in which it is looked for
 pub data SubmitReply : Type 0 where
-  NoTransaction : SubmitReply  -- they are the text of no transaction
-  InMempool : SubmitReply  -- the mempool has a transaction of this identifier
-  IsAgainst : Reason → SubmitReply  -- this is the first reason against it, after those of the mempool
-  MempoolFull : SubmitReply  -- there are as many as there may be
+  Malformed : SubmitReply  -- they are the text of no transaction
+  Known : SubmitReply  -- the mempool has a transaction of this identifier
+  Refused : Reason → SubmitReply  -- this is the first reason against it, after those of the mempool
+  Full : SubmitReply  -- there are as many as there may be
   Added : SubmitReply
 
 -- the bytes are read as a transaction that has this property
@@ -81,29 +81,29 @@ abbrev pub IsTransactionWith : List ℕ → (Transaction → Type 0) → Type 0
 IsTransactionWith bytes P = (t : Transaction) × SpellsTransaction t bytes × P t
 
 -- the mempool has a transaction of this one's identifier, whatever signed it
-abbrev pub IsInPool : List Transaction → Transaction → Type 0
-IsInPool txs t = Contains (map transaction_id_of txs) (transaction_id_of t)
+abbrev pub IsInMempool : List Transaction → Transaction → Type 0
+IsInMempool txs t = Contains (map transaction_id_of txs) (transaction_id_of t)
 
 -- at this slot, on what the mempool's transactions leave unspent, where the mempool may have so many
 module _ (verifies : Verifies) (params : Params) (slot : ℕ) (unspent : Utxo) (max : ℕ) (txs : List Transaction) where
   -- it isn't in the mempool, and this is the first reason against it, or there is none
   abbrev pub IsJudged : Transaction → Option Reason → Type 0
-  IsJudged t reason = (IsInPool txs t → ⊥) × (reason_against verifies params unspent slot t ≡ reason)
+  IsJudged t reason = (IsInMempool txs t → ⊥) × (reason_against verifies params unspent slot t ≡ reason)
 
   -- the condition of each answer
   abbrev pub Answers : List ℕ → SubmitReply → Type 0
-  Answers bytes NoTransaction = (t : Transaction) → SpellsTransaction t bytes → ⊥
-  Answers bytes InMempool = IsTransactionWith bytes (IsInPool txs)
-  Answers bytes (IsAgainst reason) = IsTransactionWith bytes (λ t. IsJudged t (Some reason))
-  Answers bytes MempoolFull = IsTransactionWith bytes (λ t. IsJudged t None × (max ≤ length txs))
+  Answers bytes Malformed = (t : Transaction) → SpellsTransaction t bytes → ⊥
+  Answers bytes Known = IsTransactionWith bytes (IsInMempool txs)
+  Answers bytes (Refused reason) = IsTransactionWith bytes (λ t. IsJudged t (Some reason))
+  Answers bytes Full = IsTransactionWith bytes (λ t. IsJudged t None × (max ≤ length txs))
   Answers bytes Added = IsTransactionWith bytes (λ t. IsJudged t None × (length txs < max))
 
 -- SUBMISSION
 -- What the mempool is after bytes that are answered so: with the transaction at its end where it is added, and else the
 -- same.
-abbrev pub IsPoolAfter : List Transaction → List ℕ → SubmitReply → List Transaction → Type 0
-IsPoolAfter txs bytes Added after = IsTransactionWith bytes (λ t. after ≡ txs ++ t ∷ [])
-IsPoolAfter txs bytes reply after = after ≡ txs
+abbrev pub IsMempoolAfter : List Transaction → List ℕ → SubmitReply → List Transaction → Type 0
+IsMempoolAfter txs bytes Added after = IsTransactionWith bytes (λ t. after ≡ txs ++ t ∷ [])
+IsMempoolAfter txs bytes reply after = after ≡ txs
 
 -- bytes that are submitted beside a chain are answered so, and leave this mempool
 pub record Submits (network : Network) (chain : List Block) (txs : List Transaction) (bytes : List ℕ)
@@ -112,4 +112,4 @@ pub record Submits (network : Network) (chain : List Block) (txs : List Transact
   pub of_chain : utxo_of network chain ≡ Some utxo
   pub answers : Answers network.verifies network.genesis.params (next_slot chain) (utxo_after_all utxo txs)
       network.genesis.max_mempool txs bytes reply
-  pub pool : IsPoolAfter txs bytes reply after
+  pub mempool : IsMempoolAfter txs bytes reply after

@@ -1,4 +1,4 @@
-pub mod OpeningLines
+pub mod OpenLines
 pub mod NextLines
 pub mod ArrivalLines
 pub mod AskedLines

@@ -60,16 +60,16 @@ abbrev pub mempool_text : List (Named Transaction) → List Transaction → List
 mempool_text names txs = codes "mempool: " ++ decimal (length txs) ++ tx_names_text names txs ++ 10 ∷ []
 
 -- what the opening of a follower is answered
-abbrev pub opening_reply_text : Reply → List ℕ
-opening_reply_text (Opened id) = codes "ok"
-opening_reply_text TooManyFollowers = codes "refused TooManyFollowers"
-opening_reply_text OutOfMemory = codes "out of memory"
+abbrev pub open_reply_text : Reply → List ℕ
+open_reply_text (Opened id) = codes "ok"
+open_reply_text TooManyFollowers = codes "refused TooManyFollowers"
+open_reply_text OutOfMemory = codes "out of memory"
 -- no opening is answered otherwise
-opening_reply_text reply = []
+open_reply_text reply = []
 
 -- what the line `open` prints
-abbrev pub opening_text : List ℕ → Reply → List ℕ
-opening_text name reply = codes "open " ++ name ++ codes ": " ++ opening_reply_text reply ++ 10 ∷ []
+abbrev pub open_text : List ℕ → Reply → List ℕ
+open_text name reply = codes "open " ++ name ++ codes ": " ++ open_reply_text reply ++ 10 ∷ []
 
 -- the name of a place on a chain
 abbrev pub point_name : List Binding → Point → List ℕ

@@ -27,7 +27,7 @@ use Rattle.script.specs.Meaning.{Meaning, Defines, Arrives, SubmitsTx, ForgesBlo
 use Rattle.script.specs.Meaning.{ForwardsFollower, ClosesFollower, PrintsTip, PrintsMempool, PrintsUtxo, bound_block}
 use Rattle.script.specs.Meaning.{AreNamesAfter, HasNoFault, Means, formed}
 use Rattle.scenario.specs.Print.{arrival_text, submission_text, ForgeAnswer, ForgedBlock, NoBlock, NoMemory}
-use Rattle.scenario.specs.Print.{forge_answer_text, forging_text, mempool_text, opening_text, tip_text, utxo_text}
+use Rattle.scenario.specs.Print.{forge_answer_text, forging_text, mempool_text, open_text, tip_text, utxo_text}
 use Rattle.scenario.specs.Print.{IsNextText, forwarding_text, closing_text}
 
 -- the node's state with the names that are bound
@@ -84,7 +84,7 @@ names_opened names name reply = names
 -- number is free
 pub record WasOpened (network : Network) (s : Scene) (name : List ℕ) (reply : Reply) (t : Scene) : Type 0 where
   pub step : Step network s.state Open reply t.state
-  pub room : reply ≡ OutOfMemory → free_id s.state.followers < follower_limit
+  pub free : reply ≡ OutOfMemory → free_id s.state.followers < follower_limit
   pub names : t.names ≡ record s.names { of_followers = names_opened s.names.of_followers name reply }
 
 -- a follower that asked what comes next was answered so, by a step of the definitions. Memory runs out only where a
@@ -124,7 +124,7 @@ Acts network s (SubmitsTx name tx) out entries t = (reply : Reply) × WasSubmitt
 Acts network s (ForgesBlock name slot) out entries t = (answer : ForgeAnswer) × WasForged network s name slot answer t
     × (out ≡ forging_text name (forge_answer_text answer)) × (entries ≡ [])
 Acts network s (OpensFollower name) out entries t = (reply : Reply) × WasOpened network s name reply t
-    × (out ≡ opening_text name reply) × (entries ≡ entry Open reply)
+    × (out ≡ open_text name reply) × (entries ≡ entry Open reply)
 Acts network s (TellsFollower name id) out entries t = (reply : Reply) × WasInstructed network s id reply t
     × IsNextText s.names.of_bytes name reply out × (entries ≡ entry (Next id) reply)
 Acts network s (ForwardsFollower name id points) out entries t = (reply : Reply)

@@ -18,7 +18,7 @@ ghost use Rattle.scenario.specs.SessionView.{core_network, Forges, Holds, IsDone
 
 use crate::print::{
     print_arrival, print_closing, print_forging, print_forwarding, print_mempool, print_next,
-    print_opening, print_submission, print_tip, print_utxo,
+    print_open, print_submission, print_tip, print_utxo,
 };
 use chain_core::{ArriveReply, Core, FollowerId, ForgeFault};
 use genesis::Genesis;
@@ -237,7 +237,7 @@ impl Session {
         if let Ok(id) = reply {
             self.names.bind_follower(name.text, id.number);
         }
-        match print_opening(&mut line, name.text, reply) {
+        match print_open(&mut line, name.text, reply) {
             Ok(()) => Ok(line),
             Err(AllocError) => Err(Stop::OutOfMemory),
         }

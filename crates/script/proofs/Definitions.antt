@@ -10,7 +10,7 @@ use Rattle.value.specs.Parts.{AssetQuantity}
 use Rattle.value.specs.View.{asset_of}
 use Rattle.value.specs.declared.asset_quantity.AssetQuantity.{AssetQuantity as CodeAssetQuantity}
 use Rattle.draft.specs.Draft.{Draft}
-use Rattle.draft.specs.View.{Stands}
+use Rattle.draft.specs.View.{IsDraftOf}
 use Rattle.draft.specs.declared.draft.Draft.{Draft as CodeDraft}
 use Rattle.script.specs.declared.fault.LineFault.{LineFault}
 use Rattle.script.specs.declared.fault.LineFault.TheVariants.{NotBuilt}
@@ -21,7 +21,7 @@ use Rattle.script.specs.declared.request.Request.TheVariants.{Nothing}
 use Rattle.script.specs.declared.names.Names.{Names}
 use Rattle.script.specs.declared.open_tx.OpenTx as code
 use Rattle.script.specs.Names.{OpenTx, AllNames, Bound, bound_to}
-use Rattle.script.specs.Adding.{IsAdded, AreGathered, AreFound}
+use Rattle.script.specs.Adding.{IsPartAdded, AreGathered, AreFound}
 use Rattle.tx.proofs.ForCallers.{same_list}
 use Rattle.script.specs.Line.{NamedPlace}
 use Rattle.script.specs.Meaning.{Meaning, Defines, ForwardsFollower, BindsScript, Continues, MeansScriptIf, Base, meaning_by, continued, where_known, where_built, binds_bytes}
@@ -51,7 +51,7 @@ late_only (Some d) fault is = cc
 
 -- an output whose assets were not found
 pub pay_refused : (found : Option Address) (address : Address) (wanted : Option (List (AssetQuantity ℕ))) (make : Address → List (AssetQuantity ℕ) → Option Draft) (d : Draft) (draft : CodeDraft) (stop : Stop) → found ≡ Some address
-    → AreFound {X = CodeAssetQuantity ℕ} asset_of wanted (Err stop) → Stands draft d → IsAdded (where_known found (λ a. where_known wanted (λ all. where_built (make a all)))) true d draft (Err stop)
+    → AreFound {X = CodeAssetQuantity ℕ} asset_of wanted (Err stop) → IsDraftOf draft d → IsPartAdded (where_known found (λ a. where_known wanted (λ all. where_built (make a all)))) true d draft (Err stop)
 pay_refused found address wanted make d draft (Fault fault) is (unknown, none) stands = (rw (is, none, unknown) refl, stands)
 pay_refused found address None make d draft OutOfMemory is some stands = cc
 pay_refused found address (Some all) make d draft OutOfMemory is some stands = rw is (late_only (make address all))
@@ -70,7 +70,7 @@ free_name names made d free open' is = subst (λ (o : OpenTx). bound_to o.name n
 
 -- a part was added
 pub part_asked : (names : AllNames) (c : Names) (made : OpenTx) (o : code.OpenTx) (draft : CodeDraft) (said : Result Draft LineFault) (late : Bool) → AreNamed c names → names.making ≡ Some made → IsMaking o made
-    → IsAdded said late made.draft draft (Ok tt) → Asked names (λ m. meaning_by (continued made) said ≡ m) Nothing (record c { making = Some (record o { draft = draft }) })
+    → IsPartAdded said late made.draft draft (Ok tt) → Asked names (λ m. meaning_by (continued made) said ≡ m) Nothing (record c { making = Some (record o { draft = draft }) })
 part_asked names c made o draft said late named is making (with_part, is_with, stands) = record {
   meaning = continued made with_part;
   is_meant = rw is_with refl;
@@ -94,7 +94,7 @@ part_asked names c made o draft said late named is making (with_part, is_with, s
 
 -- a part was not added
 pub part_refused : (names : AllNames) (c : Names) (made : OpenTx) (o : code.OpenTx) (draft : CodeDraft) (said : Result Draft LineFault) (late : Bool) (stop : Stop) → AreNamed c names → names.making ≡ Some made → IsMaking o made
-    → IsAdded said late made.draft draft (Err stop) → AsksFor names (meaning_by (continued made) said) late (Err stop) (record c { making = Some (record o { draft = draft }) })
+    → IsPartAdded said late made.draft draft (Err stop) → AsksFor names (meaning_by (continued made) said) late (Err stop) (record c { making = Some (record o { draft = draft }) })
 part_refused names c made o draft said late (Fault fault) named is making (is_fault, stands) = (
   rw is_fault refl,
   record {

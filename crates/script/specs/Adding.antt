@@ -2,7 +2,7 @@
 use Rattle.std.specs.Prelude.{◌≡◌, Bool, IsTrue, List, map, Option, Some, None, IsSome, Result, Ok, Err}
 use Rattle.std.specs.Global.{Vec}
 use Rattle.draft.specs.Draft.{Draft}
-use Rattle.draft.specs.View.{Stands}
+use Rattle.draft.specs.View.{IsDraftOf}
 use Rattle.draft.specs.declared.draft.Draft.{Draft as CodeDraft}
 use Rattle.draft.specs.declared.draft_fault.DraftFault.{DraftFault}
 use Rattle.draft.specs.declared.draft_fault.DraftFault.TheVariants as draft
@@ -18,10 +18,11 @@ stop_of draft.OutOfMemory = OutOfMemory
 
 -- What came of a part: the draft with it; its fault, which leaves the draft; or that memory ran out, and that it has no
 -- fault but, where it is late, the one that only memory tells.
-abbrev pub IsAdded : Result Draft LineFault → (late : Bool) → Draft → CodeDraft → Result Unit Stop → Type 0
-IsAdded said late d new (Ok done) = (with_part : Draft) × (said ≡ Ok with_part) × Stands new with_part
-IsAdded said late d new (Err (Fault fault)) = (said ≡ Err fault) × Stands new d
-IsAdded said late d new (Err OutOfMemory) = (fault : LineFault) → said ≡ Err fault → (fault ≡ NotBuilt) × IsTrue late
+abbrev pub IsPartAdded : Result Draft LineFault → (late : Bool) → Draft → CodeDraft → Result Unit Stop → Type 0
+IsPartAdded said late d new (Ok done) = (with_part : Draft) × (said ≡ Ok with_part) × IsDraftOf new with_part
+IsPartAdded said late d new (Err (Fault fault)) = (said ≡ Err fault) × IsDraftOf new d
+IsPartAdded said late d new (Err OutOfMemory) =
+    (fault : LineFault) → said ≡ Err fault → (fault ≡ NotBuilt) × IsTrue late
 
 -- what was gathered of names: what is wanted, seen by a view of it; or one of them is unknown; or memory ran out
 abbrev pub AreGathered : {X Y : Type 0} → (X → Y) → Option (List Y) → Result (Vec X) Stop → Type 0

@@ -2,7 +2,7 @@
 use Rattle.std.specs.Prelude.{◌≡◌, ℕ, Bool, IsTrue, List, map, Option, Some, None, Result, Ok, Err}
 use Rattle.ident.specs.PointView.{point_of}
 use Rattle.model.specs.Transaction.{Transaction}
-use Rattle.draft.specs.View.{Stands}
+use Rattle.draft.specs.View.{IsDraftOf}
 use Rattle.script.specs.declared.fault.LineFault.{LineFault}
 use Rattle.script.specs.declared.fault.LineFault.TheVariants.{NotBuilt}
 use Rattle.script.specs.declared.stop.Stop.{Stop}
@@ -25,7 +25,7 @@ use Rattle.script.specs.Meaning.{AreNamesAfter, MeansOutside, MeansLine, is_late
 pub record IsMaking (code : code.OpenTx) (making : OpenTx) : Type 0 where
   pub name : making.name ≡ code.name.items
   pub line : making.line ≡ code.line
-  pub stands : Stands code.draft making.draft
+  pub stands : IsDraftOf code.draft making.draft
 
 -- the transaction in the making, if there is one
 abbrev pub IsOpen : Option code.OpenTx → Option OpenTx → Type 0

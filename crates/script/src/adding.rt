@@ -3,8 +3,8 @@
 ghost use Rattle.std.specs.Prelude.{false, true};
 ghost use Rattle.draft.specs.Draft as model;
 ghost use Rattle.draft.specs.SignerView.{is_good};
-ghost use Rattle.draft.specs.View.{Stands};
-ghost use Rattle.script.specs.Adding.{IsAdded};
+ghost use Rattle.draft.specs.View.{IsDraftOf};
+ghost use Rattle.script.specs.Adding.{IsPartAdded};
 ghost use Rattle.script.specs.KnownView.{AreKnown};
 ghost use Rattle.script.specs.Line.{AddPart, MintAsset, Pay, SignBy, Spend, Supply, said_assets};
 ghost use Rattle.script.specs.Meaning.{is_late, part_meaning, spends};
@@ -27,8 +27,8 @@ const GENESIS: [u8; 32] = [0; 32];
 
 /// An output is spent, whose index has 16 bits.
 fn spend(draft: &mut Draft, transaction: TxId, index: u64) -> Result<(), Stop>
-    ensures { (d : model.Draft) → Stands draft.old d
-        → IsAdded (spends transaction.bytes index d) false d draft.new result }
+    ensures { (d : model.Draft) → IsDraftOf draft.old d
+        → IsPartAdded (spends transaction.bytes index d) false d draft.new result }
 {
     let Ok(index) = u16::try_from(index) else {
         return Err(Stop::Fault(LineFault::NotBuilt));
@@ -40,8 +40,8 @@ fn spend(draft: &mut Draft, transaction: TxId, index: u64) -> Result<(), Stop>
 impl Known {
     /// An output of an earlier transaction is spent.
     fn spend(&self, draft: &mut Draft, tx: Name<'_>, index: u64) -> Result<(), Stop>
-        ensures { (names : AllNames) → AreKnown self.now names → (d : model.Draft) → Stands draft.old d
-            → IsAdded (part_meaning names (Spend tx.entry.text.now index) d) false d draft.new result }
+        ensures { (names : AllNames) → AreKnown self.now names → (d : model.Draft) → IsDraftOf draft.old d
+            → IsPartAdded (part_meaning names (Spend tx.entry.text.now index) d) false d draft.new result }
     {
         match self.txs.get(tx.text) {
             Some(tx) => spend(draft, tx.id(), index),
@@ -57,8 +57,8 @@ impl Known {
         coin: u64,
         assets: AssetWords<'_>,
     ) -> Result<(), Stop>
-        ensures { (names : AllNames) → AreKnown self.now names → (d : model.Draft) → Stands draft.old d
-            → IsAdded (part_meaning names (Pay (owner_of owner.entry) coin
+        ensures { (names : AllNames) → AreKnown self.now names → (d : model.Draft) → IsDraftOf draft.old d
+            → IsPartAdded (part_meaning names (Pay (owner_of owner.entry) coin
             (said_assets (words_left assets.entry.words))) d) true d draft.new result }
     {
         let Some(address) = self.address_on(owner) else {
@@ -77,8 +77,8 @@ impl Known {
         name: AssetName<'_>,
         quantity: Quantity,
     ) -> Result<(), Stop>
-        ensures { (names : AllNames) → AreKnown self.now names → (d : model.Draft) → Stands draft.old d
-            → IsAdded (part_meaning names (MintAsset (record {
+        ensures { (names : AllNames) → AreKnown self.now names → (d : model.Draft) → IsDraftOf draft.old d
+            → IsPartAdded (part_meaning names (MintAsset (record {
               script = script.entry.text.now;
               name = asset_name_of name.entry;
               quantity = quantity_of quantity;
@@ -97,8 +97,9 @@ impl Known {
 
     /// A key that is known signs.
     fn sign(&self, draft: &mut Draft, key: Name<'_>, signing: Signing) -> Result<(), Stop>
-        ensures { (names : AllNames) → AreKnown self.now names → (d : model.Draft) → Stands draft.old d
-            → IsAdded (part_meaning names (SignBy key.entry.text.now (is_good signing)) d) false d draft.new result }
+        ensures { (names : AllNames) → AreKnown self.now names → (d : model.Draft) → IsDraftOf draft.old d
+            → IsPartAdded (part_meaning names (SignBy key.entry.text.now (is_good signing)) d) false d draft.new
+            result }
     {
         let Some(key) = self.keys.get(key.text) else {
             return Err(Stop::Fault(LineFault::UnknownName));
@@ -109,8 +110,8 @@ impl Known {
 
     /// A script that is known is supplied.
     fn supply(&self, draft: &mut Draft, script: Name<'_>) -> Result<(), Stop>
-        ensures { (names : AllNames) → AreKnown self.now names → (d : model.Draft) → Stands draft.old d
-            → IsAdded (part_meaning names (Supply script.entry.text.now) d) false d draft.new result }
+        ensures { (names : AllNames) → AreKnown self.now names → (d : model.Draft) → IsDraftOf draft.old d
+            → IsPartAdded (part_meaning names (Supply script.entry.text.now) d) false d draft.new result }
     {
         let Some(script) = self.scripts.get(script.text) else {
             return Err(Stop::Fault(LineFault::UnknownName));
@@ -122,8 +123,8 @@ impl Known {
     /// Adds a part. A name in it that isn't known is told before that it is not built, and both leave the draft as it
     /// was. Takes time in proportion to the part, and to the logarithm of what is known and of the draft.
     pub fn add(&self, draft: &mut Draft, part: Part<'_>) -> Result<(), Stop>
-        ensures { (names : AllNames) → AreKnown self.now names → (d : model.Draft) → Stands draft.old d
-            → IsAdded (part_meaning names (part_of part.entry) d) (is_late (AddPart (part_of part.entry))) d
+        ensures { (names : AllNames) → AreKnown self.now names → (d : model.Draft) → IsDraftOf draft.old d
+            → IsPartAdded (part_meaning names (part_of part.entry) d) (is_late (AddPart (part_of part.entry))) d
             draft.new result }
     {
         match part {

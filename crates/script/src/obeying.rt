@@ -61,7 +61,7 @@ impl Names {
     }
 
     /// A line that opens a follower. Its name gets its room.
-    fn ask_opening<'a>(&mut self, name: Name<'a>) -> Result<Request<'a>, Stop>
+    fn ask_open<'a>(&mut self, name: Name<'a>) -> Result<Request<'a>, Stop>
         ensures { (names : AllNames) → AreNamed self.old names → AsksFor names
             (where_free (bound_to name.entry.text.now names.of_followers) (Ok (OpensFollower name.entry.text.now)))
             false result self.new }
@@ -164,7 +164,7 @@ impl Names {
             Line::Arrive { form, name } => self.ask_arrival(form, name),
             Line::Submit { name } => self.ask_submission(name),
             Line::Forge { name, slot } => self.ask_forging(name, slot),
-            Line::Open { name } => self.ask_opening(name),
+            Line::Open { name } => self.ask_open(name),
             Line::Next { name } => self.ask_next(name),
             Line::Forward { name, points } => self.ask_forward(name, points),
             Line::Close { name } => self.ask_closing(name),

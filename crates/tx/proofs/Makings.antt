@@ -13,11 +13,11 @@ use Rattle.model.specs.Transaction.{Input, KeyWitness, Transaction, SpellsTransa
 use Rattle.timelock.proofs.ForCallers.{IsWithin}
 use Rattle.value.proofs.ForCallers.{none_bad, any_moved}
 use Rattle.tx.specs.Making.{AreSamePartsAs, AreSound, transaction_of_parts}
-use Rattle.tx.specs.Parts.{Parts, IsTxOf, keys_of, hashes_of, HasRepeatedInput, HasManyOutputs, HasRepeatedKey, HasRepeatedScript, HasDeepScript, AreEndsSound, IsFirstFault, IfAtFault}
+use Rattle.tx.specs.Parts.{Parts, IsTxOf, keys_of, hashes_of, HasRepeatedInput, HasManyOutputs, HasRepeatedKey, HasRepeatedScript, HasDeepScript, AreEndsSound, IsPartsFault, IfAtFault}
 use Rattle.tx.specs.Repeats.{IsRepeated, IsFirstRepeated}
 use Rattle.tx.specs.View.{input_of}
-use Rattle.tx.specs.declared.tx_fault.TxFault.{TxFault}
-use Rattle.tx.specs.declared.tx_fault.TxFault.TheVariants as faults
+use Rattle.tx.specs.declared.parts_fault.PartsFault.{PartsFault}
+use Rattle.tx.specs.declared.parts_fault.PartsFault.TheVariants as faults
 use Rattle.tx.proofs.Faults.{no_input_repeated, no_bytes_repeated, none_deep}
 use Rattle.tx.proofs.MadeTexts.{keys_rise_by}
 use Rattle.tx.proofs.TransactionTexts.{is_within}
@@ -60,7 +60,7 @@ module _ (p q : Parts) (same : AreSamePartsAs p q) where
   no_script_back none = λ h. none (some_on bytes_eq (hashes_of p) (hashes_of q) hashes_moved h)
 
   -- the first fault of parts is that of the same parts in another order
-  pub fault_back : (fault : TxFault) → IsFirstFault q fault → IsFirstFault p fault
+  pub fault_back : (fault : PartsFault) → IsPartsFault q fault → IsPartsFault p fault
   fault_back (faults.RepeatedInput input) first = first_back _ p.inputs q.inputs same.inputs _ (input_of input) first
   fault_back (faults.TooManyOutputs count) first =
       let few = ap length same.outputs in (
@@ -82,7 +82,7 @@ module _ (p q : Parts) (same : AreSamePartsAs p q) where
 -- ---- no fault
 
 -- of parts without a fault only memory is wanting
-pub only_memory : (p : Parts) → AreSound p → IsFirstFault p faults.OutOfMemory
+pub only_memory : (p : Parts) → AreSound p → IsPartsFault p faults.OutOfMemory
 only_memory p sound =
     let ends : AreEndsSound p = record { inputs = no_input_repeated p.inputs sound.inputs_rise; outputs = λ many. absurd (omega (arith, many, sound.outputs_count)) } in
     (ends, no_bytes_repeated (keys_of p) sound.keys_rise, no_bytes_repeated (hashes_of p) sound.hashes_rise, none_deep p.scripts sound.said.scripts_nest)
@@ -90,7 +90,7 @@ only_memory p sound =
 -- ---- no transaction
 
 -- no transaction with a text has parts that are at fault
-pub refused : (p : Parts) (fault : TxFault) → IsFirstFault p fault → IfAtFault fault ((tx : Transaction) (text : List ℕ) → SpellsTransaction tx text → IsTxOf tx p → ⊥)
+pub refused : (p : Parts) (fault : PartsFault) → IsPartsFault p fault → IfAtFault fault ((tx : Transaction) (text : List ℕ) → SpellsTransaction tx text → IsTxOf tx p → ⊥)
 refused p (faults.RepeatedInput input) first = λ tx text spells of.
     no_input_repeated tx.inputs spells.shape.inputs_rise (some_on _ p.inputs tx.inputs of.inputs (input_of input, first.repeated))
 refused p (faults.TooManyOutputs count) first = λ tx text spells of. absurd (omega (arith, spells.shape.outputs_count, first.1, ap length of.outputs))

@@ -12,8 +12,8 @@ use Rattle.model.specs.Transaction.{Input, Output, KeyWitness, Transaction, inte
 use Rattle.model.specs.Value.{Mint}
 use Rattle.tx.specs.Repeats.{IsRepeated, IsFirstRepeated, same_input}
 use Rattle.tx.specs.View.{input_of}
-use Rattle.tx.specs.declared.tx_fault.TxFault.{TxFault}
-use Rattle.tx.specs.declared.tx_fault.TxFault.TheVariants as faults
+use Rattle.tx.specs.declared.parts_fault.PartsFault.{PartsFault}
+use Rattle.tx.specs.declared.parts_fault.PartsFault.TheVariants as faults
 
 pub record Parts : Type 0 where
   pub inputs : List Input
@@ -71,18 +71,18 @@ pub record AreEndsSound (p : Parts) : Type 0 where
 
 -- the first fault of the parts, in the order in which they are told apart below; of what stands there more than once
 -- the least is told. Want of memory is told only where they have no fault.
-abbrev pub IsFirstFault : Parts → TxFault → Type 0
-IsFirstFault p (faults.RepeatedInput input) = IsFirstRepeated same_input input_cmp p.inputs (input_of input)
-IsFirstFault p (faults.TooManyOutputs count) = ¬ HasRepeatedInput p × HasManyOutputs p × (count ≡ length p.outputs)
-IsFirstFault p (faults.RepeatedKey key) =
+abbrev pub IsPartsFault : Parts → PartsFault → Type 0
+IsPartsFault p (faults.RepeatedInput input) = IsFirstRepeated same_input input_cmp p.inputs (input_of input)
+IsPartsFault p (faults.TooManyOutputs count) = ¬ HasRepeatedInput p × HasManyOutputs p × (count ≡ length p.outputs)
+IsPartsFault p (faults.RepeatedKey key) =
     AreEndsSound p × IsFirstRepeated bytes_eq (slice_cmp nat_cmp) (keys_of p) key
-IsFirstFault p (faults.RepeatedScript hash) =
+IsPartsFault p (faults.RepeatedScript hash) =
     AreEndsSound p × ¬ HasRepeatedKey p × IsFirstRepeated bytes_eq (slice_cmp nat_cmp) (hashes_of p) hash.bytes
-IsFirstFault p faults.TooDeep = AreEndsSound p × ¬ HasRepeatedKey p × ¬ HasRepeatedScript p × HasDeepScript p
-IsFirstFault p faults.OutOfMemory = AreEndsSound p × ¬ HasRepeatedKey p × ¬ HasRepeatedScript p × ¬ HasDeepScript p
+IsPartsFault p faults.TooDeep = AreEndsSound p × ¬ HasRepeatedKey p × ¬ HasRepeatedScript p × HasDeepScript p
+IsPartsFault p faults.OutOfMemory = AreEndsSound p × ¬ HasRepeatedKey p × ¬ HasRepeatedScript p × ¬ HasDeepScript p
 
 -- a fact that holds where the parts are at fault
-abbrev pub IfAtFault : TxFault → Type 0 → Type 0
+abbrev pub IfAtFault : PartsFault → Type 0 → Type 0
 IfAtFault (faults.RepeatedInput input) P = P
 IfAtFault (faults.TooManyOutputs count) P = P
 IfAtFault (faults.RepeatedKey key) P = P

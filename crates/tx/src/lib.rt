@@ -13,9 +13,9 @@ mod lists;
 mod nesting;
 mod output;
 mod parts;
+mod parts_fault;
 mod ranked;
 mod tx;
-mod tx_fault;
 mod witness_writer;
 mod witnesses;
 
@@ -28,5 +28,5 @@ pub use lists::MAX_OUTPUTS;
 pub use nesting::{MAX_SCRIPT_NESTING, MAX_TX_NESTING};
 pub use output::Output;
 pub use parts::TxParts;
+pub use parts_fault::PartsFault;
 pub use tx::Tx;
-pub use tx_fault::TxFault;

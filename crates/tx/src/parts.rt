@@ -6,7 +6,7 @@ ghost use Rattle.tx.specs.BodyView.{body_of};
 ghost use Rattle.tx.specs.WitnessesView.{witnesses_of};
 ghost use Rattle.tx.specs.Making.{parts_of, AreInOrder, AreSamePartsAs, AreSaid, AreSound, HasNumbers};
 ghost use Rattle.tx.specs.Making.{transaction_of_halves, transaction_of_parts};
-ghost use Rattle.tx.specs.Parts.{HasDeepScript, IsFirstFault};
+ghost use Rattle.tx.specs.Parts.{HasDeepScript, IsPartsFault};
 
 use crate::body::Body;
 use crate::input::Input;
@@ -14,8 +14,8 @@ use crate::key_witness::KeyWitness;
 use crate::lists::MAX_OUTPUTS;
 use crate::nesting::{MAX_SCRIPT_NESTING, outputs_nesting, scripts_nesting};
 use crate::output::Output;
+use crate::parts_fault::PartsFault;
 use crate::ranked::{first_repeated, put_in_order};
-use crate::tx_fault::TxFault;
 use crate::witnesses::Witnesses;
 use timelock::{Interval, Script};
 use value::Mint;
@@ -61,25 +61,25 @@ impl TxParts {
     }
 
     /// Err with the first fault of parts that are in order. Takes no memory. Linear in outputs, signatures and scripts.
-    pub(crate) fn check(&self) -> Result<(), TxFault>
+    pub(crate) fn check(&self) -> Result<(), PartsFault>
         requires { AreInOrder self.now }
         ensures sound { OnOk result (AreSound (parts_of self.now)) }
-        ensures fault { IfErr result (IsFirstFault (parts_of self.now)) }
+        ensures fault { IfErr result (IsPartsFault (parts_of self.now)) }
     {
         if let Some(input) = first_repeated(&self.inputs) {
-            return Err(TxFault::RepeatedInput(*input));
+            return Err(PartsFault::RepeatedInput(*input));
         }
         if self.outputs.len() > MAX_OUTPUTS {
-            return Err(TxFault::TooManyOutputs(self.outputs.len() as u64));
+            return Err(PartsFault::TooManyOutputs(self.outputs.len() as u64));
         }
         if let Some(signature) = first_repeated(&self.signatures) {
-            return Err(TxFault::RepeatedKey(signature.key));
+            return Err(PartsFault::RepeatedKey(signature.key));
         }
         if let Some(script) = first_repeated(&self.scripts) {
-            return Err(TxFault::RepeatedScript(script.hash()));
+            return Err(PartsFault::RepeatedScript(script.hash()));
         }
         if self.nests_too_deep() {
-            return Err(TxFault::TooDeep);
+            return Err(PartsFault::TooDeep);
         }
         Ok(())
     }

@@ -15,7 +15,7 @@ ghost use Rattle.tx.specs.TransactionReading.{transaction_at};
 ghost use Rattle.tx.specs.Bare.{IsBare};
 ghost use Rattle.tx.specs.BodyView.{body_of};
 ghost use Rattle.tx.specs.WitnessesView.{witnesses_of};
-ghost use Rattle.tx.specs.Parts.{IsTxOf, IsFirstFault, IfAtFault};
+ghost use Rattle.tx.specs.Parts.{IsTxOf, IsPartsFault, IfAtFault};
 ghost use Rattle.tx.specs.Making.{parts_of, transaction_of_halves, HasTextWith};
 
 use crate::body::Body;
@@ -25,7 +25,7 @@ use crate::key_witness::KeyWitness;
 use crate::nesting::MAX_SCRIPT_NESTING;
 use crate::output::Output;
 use crate::parts::TxParts;
-use crate::tx_fault::TxFault;
+use crate::parts_fault::PartsFault;
 use crate::witnesses::Witnesses;
 use cbor::{CborFault, Decode, Encode};
 use ident::TxId;
@@ -117,9 +117,9 @@ impl Tx {
     /// let tx = Tx::new(alloc, parts)?;
     /// println!("{} has {} bytes", tx.id(), tx.size());
     /// ```
-    pub fn new(alloc: Global, mut parts: TxParts) -> Result<Tx, TxFault>
+    pub fn new(alloc: Global, mut parts: TxParts) -> Result<Tx, PartsFault>
         ensures made { IfOk result (λ tx. IsTxOf tx (parts_of parts)) }
-        ensures fault { IfErr result (IsFirstFault (parts_of parts)) }
+        ensures fault { IfErr result (IsPartsFault (parts_of parts)) }
         ensures refused { IfErr result (λ fault. IfAtFault fault ((tx : model.Transaction) (text : List ℕ) →
             SpellsTransaction tx text → IsTxOf tx (parts_of parts) → ⊥)) }
     {

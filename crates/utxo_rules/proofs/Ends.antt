@@ -16,7 +16,7 @@ use Rattle.utxo_rules.specs.declared.spent.Spent.{Spent}
 use Rattle.utxo_rules.specs.Spent.{IsSpent}
 use Rattle.utxo_rules.specs.View.{reason_of}
 use Rattle.utxo_rules.specs.declared.reason.Reason.{Reason as CodeReason}
-use Rattle.utxo_rules.specs.Check.{told, early_reasons, first_of_witnesses, first_of_spending, IsTold, IsCheckFault, PassesEarly}
+use Rattle.utxo_rules.specs.Check.{reason_of_result, early_reasons, first_of_witnesses, first_of_spending, IsFirstOf, IsCheckFault, PassesEarly}
 
 -- ---- what is spent
 
@@ -105,11 +105,11 @@ module _ (verifies : Verifies) (params : Params) (utxo : Utxo) (slot : ℕ) (t :
       let from_2 = next_passes NoInputs (TooBig ∷ FeeTooSmall ∷ MissingInput ∷ OutputTooSmall ∷ WrongNetwork ∷ []) (p NoInputs (omega arith)) from_3 in
       next_passes OutsideInterval (NoInputs ∷ TooBig ∷ FeeTooSmall ∷ MissingInput ∷ OutputTooSmall ∷ WrongNetwork ∷ []) (p OutsideInterval (omega arith)) from_2
 
-  accepts : (r : Result (Unit {0}) CheckFault) → first_failing (passes verifies params utxo slot t) early_reasons ≡ None → IsTold (first_of_spending verifies utxo t) r → OnOk r (reason_against verifies params utxo slot t ≡ None)
+  accepts : (r : Result (Unit {0}) CheckFault) → first_failing (passes verifies params utxo slot t) early_reasons ≡ None → IsFirstOf (first_of_spending verifies utxo t) r → OnOk r (reason_against verifies params utxo slot t ≡ None)
   accepts (Ok unit) none is = told_late none ∙ is
   accepts (Err e) none is = tt
 
-  refuses : (r : Result (Unit {0}) CheckFault) → first_failing (passes verifies params utxo slot t) early_reasons ≡ None → IsTold (first_of_spending verifies utxo t) r → IfErr r (IsCheckFault verifies params utxo slot t)
+  refuses : (r : Result (Unit {0}) CheckFault) → first_failing (passes verifies params utxo slot t) early_reasons ≡ None → IsFirstOf (first_of_spending verifies utxo t) r → IfErr r (IsCheckFault verifies params utxo slot t)
   refuses (Ok unit) none is = tt
   refuses (Err (Refused reason)) none is = told_late none ∙ is
   refuses (Err OutOfMemory) none is = early_pass none
@@ -117,11 +117,11 @@ module _ (verifies : Verifies) (params : Params) (utxo : Utxo) (slot : ℕ) (t :
 -- ---- the reasons 8 to 14 by themselves
 
 module _ (verifies : Verifies) (utxo : Utxo) (t : Transaction) where
-  pub accepted_late : (r : Result (Unit {0}) CheckFault) → IsTold (first_of_spending verifies utxo t) r → OnOk r ((params : Params) (slot : ℕ) → PassesEarly verifies params utxo slot t → reason_against verifies params utxo slot t ≡ None)
+  pub accepted_late : (r : Result (Unit {0}) CheckFault) → IsFirstOf (first_of_spending verifies utxo t) r → OnOk r ((params : Params) (slot : ℕ) → PassesEarly verifies params utxo slot t → reason_against verifies params utxo slot t ≡ None)
   accepted_late (Ok unit) is = λ params slot early. accepts verifies params utxo slot t (Ok unit) (none_early verifies params utxo slot t early) is
   accepted_late (Err fault) is = tt
 
-  pub refused_late : (r : Result (Unit {0}) CheckFault) → IsTold (first_of_spending verifies utxo t) r → IfErr r (λ fault. (params : Params) (slot : ℕ) → PassesEarly verifies params utxo slot t → IsCheckFault verifies params utxo slot t fault)
+  pub refused_late : (r : Result (Unit {0}) CheckFault) → IsFirstOf (first_of_spending verifies utxo t) r → IfErr r (λ fault. (params : Params) (slot : ℕ) → PassesEarly verifies params utxo slot t → IsCheckFault verifies params utxo slot t fault)
   refused_late (Ok unit) is = tt
   refused_late (Err fault) is = λ params slot early. refuses verifies params utxo slot t (Err fault) (none_early verifies params utxo slot t early) is
 
@@ -137,10 +137,10 @@ module _ (verifies : Verifies) (params : Params) (utxo : Utxo) (slot : ℕ) (t :
 -- ---- the reasons 1 to 7 by themselves
 
 module _ (params : Params) (utxo : Utxo) (slot : ℕ) (t : Transaction) where
-  pub refused_early : (r : Result (Unit {0}) CodeReason) → ((verifies : Verifies) → told r ≡ first_failing (passes verifies params utxo slot t) early_reasons) → IfErr r (λ reason. (verifies : Verifies) → reason_against verifies params utxo slot t ≡ Some (reason_of reason))
+  pub refused_early : (r : Result (Unit {0}) CodeReason) → ((verifies : Verifies) → reason_of_result r ≡ first_failing (passes verifies params utxo slot t) early_reasons) → IfErr r (λ reason. (verifies : Verifies) → reason_against verifies params utxo slot t ≡ Some (reason_of reason))
   refused_early (Ok unit) first = tt
   refused_early (Err reason) first = λ verifies. told_early verifies params utxo slot t (reason_of reason) (sym (first verifies))
 
-  pub passed_early : (r : Result (Unit {0}) CodeReason) → ((verifies : Verifies) → told r ≡ first_failing (passes verifies params utxo slot t) early_reasons) → OnOk r ((verifies : Verifies) → PassesEarly verifies params utxo slot t)
+  pub passed_early : (r : Result (Unit {0}) CodeReason) → ((verifies : Verifies) → reason_of_result r ≡ first_failing (passes verifies params utxo slot t) early_reasons) → OnOk r ((verifies : Verifies) → PassesEarly verifies params utxo slot t)
   passed_early (Ok unit) first = λ verifies. early_pass verifies params utxo slot t (sym (first verifies))
   passed_early (Err reason) first = tt

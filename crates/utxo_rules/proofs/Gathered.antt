@@ -12,7 +12,7 @@ use Rattle.tx.specs.View.{input_of}
 use Rattle.tx.specs.declared.input.Input.{Input as CodeInput}
 use Rattle.value.specs.Totals.{total_of}
 use Rattle.utxo_rules.specs.declared.spent.Spent.{Spent}
-use Rattle.utxo_rules.specs.Spent.{IsSpent, IsAdded}
+use Rattle.utxo_rules.specs.Spent.{IsSpent, IsOneMore}
 
 module _ {A B : Type 0} (view : A → B) where
   -- what was there and is gathered, and what is still to be gathered, are the whole
@@ -43,7 +43,7 @@ from_nothing spent all nothing = record {
   scripts = ap (λ hashes. hashes ++ flat_map (λ o. script_hashes_in o.address.payment) all) nothing.scripts;
 }
 
-pub one_more : (old new : Spent) (o : Output) (left all : List Output) → IsAdded old new o → IsGathering old (o ∷ left) all → IsGathering new left all
+pub one_more : (old new : Spent) (o : Output) (left all : List Output) → IsOneMore old new o → IsGathering old (o ∷ left) all → IsGathering new left all
 one_more old new o left all added part = record {
   sums = λ asset. let more = added.sums asset in let before = part.sums asset in rw more (omega (arith, ints, before));
   counted = let more = added.counted in let before = part.counted in omega (arith, more, before);
@@ -78,7 +78,7 @@ module _ (utxo : Utxo) where
       ap (λ (xs : List CodeInput). outputs_at utxo (map input_of xs)) (drop_here inputs i x lt is)
       ∙ ap (λ (o : Option Output). option_to_list o ++ left_from inputs (i + 1)) at
 
-  pub spent_more : (old new : Spent) (o : Output) (inputs : List CodeInput) (i : ℕ) (x : CodeInput) → i < length inputs → x ≡ get_or inputs i x → output_at utxo (input_of x) ≡ Some o → IsAdded old new o → IsPartSpent old inputs i → IsPartSpent new inputs (i + 1)
+  pub spent_more : (old new : Spent) (o : Output) (inputs : List CodeInput) (i : ℕ) (x : CodeInput) → i < length inputs → x ≡ get_or inputs i x → output_at utxo (input_of x) ≡ Some o → IsOneMore old new o → IsPartSpent old inputs i → IsPartSpent new inputs (i + 1)
   spent_more old new o inputs i x lt is at added part =
       one_more old new o (left_from inputs (i + 1)) (left_from inputs 0) added (rw (← left_here inputs i x (Some o) lt is at) part)
 

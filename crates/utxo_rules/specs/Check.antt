@@ -30,9 +30,9 @@ abbrev pub early_reasons : List Reason
 early_reasons = take 7 reasons
 
 -- the reason that is told, if one is
-abbrev pub told : Result (Unit {0}) CodeReason → Option Reason
-told (Ok unit) = None
-told (Err reason) = Some (reason_of reason)
+abbrev pub reason_of_result : Result (Unit {0}) CodeReason → Option Reason
+reason_of_result (Ok unit) = None
+reason_of_result (Err reason) = Some (reason_of reason)
 
 -- the first of the reasons 10 to 14, where these keys and these scripts are needed
 unfoldable pub first_of_witnesses : Verifies → (keys scripts : List (List ℕ)) → Transaction → Option Reason
@@ -56,7 +56,7 @@ first_of_spending verifies utxo t =
     else Some NotBalanced
 
 -- this reason, or none, is what is told; want of memory tells nothing
-abbrev pub IsTold : Option Reason → Result (Unit {0}) CheckFault → Type 0
-IsTold first (Ok unit) = first ≡ None
-IsTold first (Err (Refused reason)) = first ≡ Some (reason_of reason)
-IsTold first (Err OutOfMemory) = Unit {0}
+abbrev pub IsFirstOf : Option Reason → Result (Unit {0}) CheckFault → Type 0
+IsFirstOf first (Ok unit) = first ≡ None
+IsFirstOf first (Err (Refused reason)) = first ≡ Some (reason_of reason)
+IsFirstOf first (Err OutOfMemory) = Unit {0}

@@ -15,7 +15,7 @@ pub record IsSpent (spent : Spent) (outputs : List Output) : Type 0 where
   pub scripts : spent.scripts.items ≡ flat_map (λ o. script_hashes_in o.address.payment) outputs
 
 -- what one more output brings was added
-pub record IsAdded (old new : Spent) (o : Output) : Type 0 where
+pub record IsOneMore (old new : Spent) (o : Output) : Type 0 where
   pub sums : (asset : Asset) → total_of new.totals asset ≡ total_of old.totals asset +ℤ amount_of asset o.value
   pub counted : new.totals.values ≡ old.totals.values + 1
   pub keys : new.keys.items ≡ old.keys.items ++ key_hashes_in o.address.payment

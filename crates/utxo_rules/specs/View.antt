@@ -8,7 +8,7 @@ use Rattle.utxo_rules.specs.declared.era.SecondEra.{SecondEra as CodeSecondEra}
 use Rattle.utxo_rules.specs.declared.era.Era.{Era as CodeEra}
 use Rattle.utxo_rules.specs.declared.params.Params.{Params as CodeParams}
 use Rattle.utxo_rules.specs.declared.reason.Reason.{Reason as CodeReason}
-use Rattle.utxo_rules.specs.declared.reason.Reason.TheVariants as told
+use Rattle.utxo_rules.specs.declared.reason.Reason.TheVariants as code
 
 abbrev pub second_era_of : CodeSecondEra → SecondEra
 second_era_of e = record { first_slot = e.first_slot; per_asset = e.per_asset }
@@ -28,17 +28,17 @@ params_of p = record {
 }
 
 abbrev pub reason_of : CodeReason → Reason
-reason_of told.OutsideInterval = OutsideInterval
-reason_of told.NoInputs = NoInputs
-reason_of told.TooBig = TooBig
-reason_of told.FeeTooSmall = FeeTooSmall
-reason_of told.MissingInput = MissingInput
-reason_of told.OutputTooSmall = OutputTooSmall
-reason_of told.WrongNetwork = WrongNetwork
-reason_of told.NotBalanced = NotBalanced
-reason_of told.OutputExists = OutputExists
-reason_of told.BadSignature = BadSignature
-reason_of told.MissingKeyWitness = MissingKeyWitness
-reason_of told.MissingScript = MissingScript
-reason_of told.ExtraScript = ExtraScript
-reason_of told.ScriptFails = ScriptFails
+reason_of code.OutsideInterval = OutsideInterval
+reason_of code.NoInputs = NoInputs
+reason_of code.TooBig = TooBig
+reason_of code.FeeTooSmall = FeeTooSmall
+reason_of code.MissingInput = MissingInput
+reason_of code.OutputTooSmall = OutputTooSmall
+reason_of code.WrongNetwork = WrongNetwork
+reason_of code.NotBalanced = NotBalanced
+reason_of code.OutputExists = OutputExists
+reason_of code.BadSignature = BadSignature
+reason_of code.MissingKeyWitness = MissingKeyWitness
+reason_of code.MissingScript = MissingScript
+reason_of code.ExtraScript = ExtraScript
+reason_of code.ScriptFails = ScriptFails

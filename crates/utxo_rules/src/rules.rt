@@ -5,8 +5,8 @@ ghost use Rattle.model.specs.Signature.{Verifies};
 ghost use Rattle.model.specs.Rules as model;
 ghost use Rattle.model.specs.Rules.{passes, first_failing, reason_against};
 ghost use Rattle.utxo_rules.specs.View.{params_of, reason_of};
-ghost use Rattle.utxo_rules.specs.Check.{told, early_reasons, first_of_witnesses, first_of_spending};
-ghost use Rattle.utxo_rules.specs.Check.{IsTold, IsCheckFault, PassesEarly};
+ghost use Rattle.utxo_rules.specs.Check.{reason_of_result, early_reasons, first_of_witnesses, first_of_spending};
+ghost use Rattle.utxo_rules.specs.Check.{IsFirstOf, IsCheckFault, PassesEarly};
 
 use crate::balance::is_balanced;
 use crate::check_fault::CheckFault;
@@ -25,7 +25,7 @@ use witness_pool::{CheckedTx, SigScheme};
 /// The first of the reasons 1 to 7 that there is. Takes no memory.
 #[tactic(auto, unfolding(model::specs::Rules::first_failing))]
 fn check_parts(params: &Params, utxo: &Utxo, slot: u64, tx: &Tx) -> Result<(), Reason>
-    ensures first { (verifies : Verifies) → told result ≡
+    ensures first { (verifies : Verifies) → reason_of_result result ≡
         first_failing (passes verifies (params_of params.now) utxo.now slot tx.now) early_reasons }
 {
     if !is_in_interval(slot, tx.interval()) {
@@ -60,7 +60,7 @@ fn check_witnesses<S: SigScheme>(
     scripts: Vec<[u8; 32]>,
     checked: &CheckedTx<S>,
 ) -> Result<(), CheckFault>
-    ensures { IsTold (first_of_witnesses S.verifies keys.now scripts.items checked.now) result }
+    ensures { IsFirstOf (first_of_witnesses S.verifies keys.now scripts.items checked.now) result }
 {
     let tx = checked.tx();
     if !checked.is_signed() {
@@ -87,7 +87,7 @@ fn check_spending<S: SigScheme>(
     utxo: &Utxo,
     checked: &CheckedTx<S>,
 ) -> Result<(), CheckFault>
-    ensures { IsTold (first_of_spending S.verifies utxo.now checked.now) result }
+    ensures { IsFirstOf (first_of_spending S.verifies utxo.now checked.now) result }
 {
     let tx = checked.tx();
     let spent = Spent::by(alloc, utxo, tx.inputs())?;

@@ -3,7 +3,7 @@
 ghost use Rattle.std.specs.Prelude.{◌≡◌, ◌≤◌, ◌<◌, ◌^◌, [], map, length, OnOk, IfOk};
 ghost use Rattle.model.specs.Utxo.{outputs_at};
 ghost use Rattle.tx.specs.View.{input_of, output_of};
-ghost use Rattle.utxo_rules.specs.Spent.{IsSpent, IsAdded};
+ghost use Rattle.utxo_rules.specs.Spent.{IsSpent, IsOneMore};
 
 use crate::utxo::Utxo;
 use std::alloc::{AllocError, Global};
@@ -36,7 +36,7 @@ impl Spent {
     /// Adds what one more output brings.
     fn add(&mut self, output: &Output) -> Result<(), AllocError>
         requires { self.old.totals.values < 2 ^ 62 }
-        ensures { OnOk result (IsAdded self.old self.new (output_of output.now)) }
+        ensures { OnOk result (IsOneMore self.old self.new (output_of output.now)) }
     {
         output.value.add_to(&mut self.totals)?;
         match output.address.payment() {

@@ -15,7 +15,7 @@ use Rattle.model.specs.Cbor.{Item, Bytes, pairs_of, IsBeforeFirst, PairsHaveRisi
 use Rattle.model.specs.Value.{Token, Policy, IsPolicy, entry_of_token, entry_of_policy}
 use Rattle.value.specs.declared.asset_fault.AssetFault.{AssetFault}
 use Rattle.value.specs.declared.asset_fault.AssetFault.TheVariants as faults
-use Rattle.value.specs.Parts.{AssetQuantity, assets_under, flat_assets, is_of, HasRepeats, IsFirstFault, IfAtFault}
+use Rattle.value.specs.Parts.{AssetQuantity, assets_under, flat_assets, is_of, HasRepeats, IsAssetFault, IfAtFault}
 use Rattle.value.specs.Order.{name_cmp, asset_cmp}
 use Rattle.value.proofs.TextOrder.{text_order, same_length_order}
 use Rattle.value.proofs.Rising.{name_cmp_total, IsBelowFirst, Rise, below_all}
@@ -120,7 +120,7 @@ module _ {Q : Type 0} (IsQuantity : Q → Type 0) (item_of : Q → Item) where
   flat_parts (p ∷ ps) all = under_parts p.id p.tokens (flat_assets ps) all.0.tokens (flat_parts ps all.1)
 
   -- policies with a text don't have assets at fault
-  pub none_at_fault : (whole : Q → ℤ) → ((q : Q) → IsQuantity q → whole q ≢ pos 0) → (fault : AssetFault) (assets : List (AssetQuantity Q)) (ps : List (Policy Q)) → IsFirstFault whole assets fault
+  pub none_at_fault : (whole : Q → ℤ) → ((q : Q) → IsQuantity q → whole q ≢ pos 0) → (fault : AssetFault) (assets : List (AssetQuantity Q)) (ps : List (Policy Q)) → IsAssetFault whole assets fault
       → AllByRecursion (IsPolicy IsQuantity) ps → PairsHaveRisingKeys (pairs_of (map (entry_of_policy item_of) ps)) → IsPermutation assets (flat_assets ps) → IfAtFault fault ⊥
   none_at_fault whole counts faults.NameTooLong assets ps first all rising same =
       none_bad IsPart (λ a. name_size_limit < length a.name) (flat_assets ps) (λ a part long. let short = part.0 in absurd (omega (arith, short, long))) (flat_parts ps all) (any_moved (λ a. name_size_limit < length a.name) assets (flat_assets ps) same first)

@@ -53,11 +53,11 @@ abbrev pub HasRepeats : {Q : Type 0} → List (AssetQuantity Q) → Type 0
 HasRepeats assets = (policy : List ℕ) × (name : List ℕ) × (1 < count_by (is_of policy name) assets)
 
 -- the first fault of the assets; want of memory is told only where they have none
-abbrev pub IsFirstFault : {Q : Type 0} → (Q → ℤ) → List (AssetQuantity Q) → AssetFault → Type 0
-IsFirstFault whole assets faults.NameTooLong = HasLongName assets
-IsFirstFault whole assets faults.ZeroQuantity = ¬ HasLongName assets × HasZero whole assets
-IsFirstFault whole assets faults.Repeated = ¬ HasLongName assets × ¬ HasZero whole assets × HasRepeats assets
-IsFirstFault whole assets faults.OutOfMemory = ¬ HasLongName assets × ¬ HasZero whole assets × ¬ HasRepeats assets
+abbrev pub IsAssetFault : {Q : Type 0} → (Q → ℤ) → List (AssetQuantity Q) → AssetFault → Type 0
+IsAssetFault whole assets faults.NameTooLong = HasLongName assets
+IsAssetFault whole assets faults.ZeroQuantity = ¬ HasLongName assets × HasZero whole assets
+IsAssetFault whole assets faults.Repeated = ¬ HasLongName assets × ¬ HasZero whole assets × HasRepeats assets
+IsAssetFault whole assets faults.OutOfMemory = ¬ HasLongName assets × ¬ HasZero whole assets × ¬ HasRepeats assets
 
 -- a fact that holds where the assets are at fault
 abbrev pub IfAtFault : AssetFault → Type 0 → Type 0

@@ -6,7 +6,7 @@ ghost use Rattle.std.specs.List.{AllByRecursion};
 ghost use Rattle.std.specs.List.Sorted.{IsPermutation};
 ghost use Rattle.model.specs.Limits.{name_size_limit};
 ghost use Rattle.value.specs.View.{asset_of, policy_of, token_of};
-ghost use Rattle.value.specs.Parts.{flat_assets, HasLongName, HasZero, HasRepeats, IsFirstFault};
+ghost use Rattle.value.specs.Parts.{flat_assets, HasLongName, HasZero, HasRepeats, IsAssetFault};
 ghost use Rattle.value.specs.Said.{AreSaid};
 ghost use Rattle.value.specs.Checked.{IsNamed, IsCounted};
 ghost use Rattle.value.specs.Grouped.{AllNeighboursDiffer, IsGrouped, asset_under};
@@ -124,7 +124,7 @@ pub fn policies_with<Q: Quantity>(
     ensures same { IfOk result (λ policies.
         IsPermutation (map asset_of assets.items) (flat_assets (map policy_of policies.items))) }
     ensures said { IfOk result (λ policies. AreSaid Q.is_quantity Q.item_of (map policy_of policies.items)) }
-    ensures fault { IfErr result (IsFirstFault Q.whole (map asset_of assets.items)) }
+    ensures fault { IfErr result (IsAssetFault Q.whole (map asset_of assets.items)) }
 {
     if has_long_name(&assets) {
         return Err(AssetFault::NameTooLong);

@@ -9,7 +9,7 @@ ghost use Rattle.cbor.specs.Gives.{IfMalformed};
 ghost use Rattle.cbor.specs.Texts.{BeginsWithText};
 ghost use Rattle.value.specs.Totals.{total_of, policies_met};
 ghost use Rattle.value.specs.Listed.{listed};
-ghost use Rattle.value.specs.Parts.{IsMintOf, IsFirstFault, IfAtFault};
+ghost use Rattle.value.specs.Parts.{IsMintOf, IsAssetFault, IfAtFault};
 ghost use Rattle.value.specs.View.{policy_of, asset_of};
 ghost use Rattle.cbor.specs.Texts.{Writes};
 
@@ -93,7 +93,7 @@ impl Mint {
     /// ```
     pub fn new(alloc: Global, assets: Vec<AssetQuantity<i64>>) -> Result<Mint, AssetFault>
         ensures made { IfOk result (λ mint. IsMintOf mint (map asset_of assets.items)) }
-        ensures fault { IfErr result (IsFirstFault (λ quantity. quantity) (map asset_of assets.items)) }
+        ensures fault { IfErr result (IsAssetFault (λ quantity. quantity) (map asset_of assets.items)) }
         ensures refused { IfErr result (λ fault. IfAtFault fault ((mint : model.Mint) → IsMint mint →
             HasText (item_of_assets item_of_number mint) → IsMintOf mint (map asset_of assets.items) → ⊥)) }
     {

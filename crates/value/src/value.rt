@@ -9,7 +9,7 @@ ghost use Rattle.cbor.specs.Gives.{IfMalformed};
 ghost use Rattle.cbor.specs.Texts.{BeginsWithText};
 ghost use Rattle.value.specs.Totals.{total_of, policies_met};
 ghost use Rattle.value.specs.Listed.{listed};
-ghost use Rattle.value.specs.Parts.{IsValueOf, IsFirstFault, IfAtFault};
+ghost use Rattle.value.specs.Parts.{IsValueOf, IsAssetFault, IfAtFault};
 ghost use Rattle.value.specs.View.{policy_of, asset_of};
 ghost use Rattle.cbor.specs.Texts.{Keeps, Writes};
 
@@ -106,7 +106,7 @@ impl Value {
         assets: Vec<AssetQuantity<u64>>,
     ) -> Result<Value, AssetFault>
         ensures made { IfOk result (λ value. IsValueOf value coin (map asset_of assets.items)) }
-        ensures fault { IfErr result (IsFirstFault pos (map asset_of assets.items)) }
+        ensures fault { IfErr result (IsAssetFault pos (map asset_of assets.items)) }
         ensures refused { IfErr result (λ fault. IfAtFault fault ((value : model.Value) → IsValue value →
             HasText (item_of_value value) → IsValueOf value coin (map asset_of assets.items) → ⊥)) }
     {

@@ -6,7 +6,7 @@ use super::transactions::{MINTING, PAYING, PAYING_BODY, has_text};
 use ident::{KeyHash, ScriptHash, TxId};
 use std::process::Abort;
 use timelock::{Interval, Script, Timelock, Timelocks};
-use tx::{Address, Credential, Input, KeyWitness, Output, Tx, TxFault, TxParts};
+use tx::{Address, Credential, Input, KeyWitness, Output, PartsFault, Tx, TxParts};
 use value::{AssetQuantity, Mint, Value};
 
 /// Place 0 to 65,535 of the transaction of 32 zero bytes.
@@ -313,15 +313,15 @@ enum Wrong {
 }
 
 /// A fault is this one.
-fn is_fault(rt: &(impl Abort + AllocGlobal), fault: TxFault, want: Wrong) {
+fn is_fault(rt: &(impl Abort + AllocGlobal), fault: PartsFault, want: Wrong) {
     let is_wanted = match (fault, want) {
-        (TxFault::RepeatedInput(found), Wrong::Input(index)) => found == input(index),
-        (TxFault::TooManyOutputs(found), Wrong::Outputs(count)) => found == count,
-        (TxFault::RepeatedKey(found), Wrong::Key(byte)) => found == [byte; 32],
-        (TxFault::RepeatedScript(found), Wrong::Script) => {
+        (PartsFault::RepeatedInput(found), Wrong::Input(index)) => found == input(index),
+        (PartsFault::TooManyOutputs(found), Wrong::Outputs(count)) => found == count,
+        (PartsFault::RepeatedKey(found), Wrong::Key(byte)) => found == [byte; 32],
+        (PartsFault::RepeatedScript(found), Wrong::Script) => {
             hex(rt, &[TOO_DEEP]).as_slice() == found.as_bytes().as_slice()
         }
-        (TxFault::TooDeep, Wrong::Deep) => true,
+        (PartsFault::TooDeep, Wrong::Deep) => true,
         _ => false,
     };
     check(rt, "a fault", is_wanted);
@@ -370,8 +370,8 @@ fn faults_of_parts(rt: HostRuntime) {
 #[test]
 fn faults_shown(rt: HostRuntime) {
     let (many, twice) = (
-        TxFault::TooManyOutputs(65537),
-        TxFault::RepeatedInput(input(0)),
+        PartsFault::TooManyOutputs(65537),
+        PartsFault::RepeatedInput(input(0)),
     );
     let shown = format!(in rt.alloc(); "{many}; {twice}").expect(&rt, MEMORY);
     let want = "65537 outputs, where there may be 65536; an input that stands there twice";

@@ -12,4 +12,4 @@ returns-in-Ok-clause-sound c =
 
 pub returns-in-Err-clause-refused : goal.returns-in-Err-clause-refused
 returns-in-Err-clause-refused c =
-    subst (IsFaultRefusal (is_at_fault (map asset_of c.args.assets.items))) (sym c.told_of.ensures) (told_right (map asset_of c.args.assets.items) c.in-Err.fault c.in-Err.ensures.fault)
+    subst (IsFaultRefusal (is_at_fault (map asset_of c.args.assets.items))) (sym c.as_draft_fault.ensures) (told_right (map asset_of c.args.assets.items) c.in-Err.fault c.in-Err.ensures.fault)

@@ -77,7 +77,7 @@ returns-then-is_err-clause-err g c =
     let allowed : IsAllowed c.args.self.now c.args.block = record {
       unknown = unknown c.args.self.now c.args.block c.hash.result.bytes read read_too c.hash.ensures c.in_default.ensures.found;
       alone = no_clash c.args.self.now c.args.block c.hash.result.bytes c.hash.ensures c.in_default.ensures.found;
-      room = λ full. let e : false ≡ true = c.if-is_full.ensures.1 full in absurd {A = ⊥} cc;
+      not_full = λ full. let e : false ≡ true = c.if-is_full.ensures.1 full in absurd {A = ⊥} cc;
     } in
     let same : c.put.new.self ≡ c.self.inside.blocks = on_err _ c.put.result c.if-is_err.ensures.value c.put.ensures.err in
     (allowed, ap (λ (xs : List Stored). record { capacity = c.self.inside.max_volatile; blocks = xs }) same ∙ c.self.view_is)
@@ -114,7 +114,7 @@ returns-clause-ok g c =
     let allowed : IsAllowed c.args.self.now c.args.block = record {
       unknown = unknown c.args.self.now c.args.block c.hash.result.bytes read read_too c.hash.ensures c.in_default.ensures.found;
       alone = no_clash c.args.self.now c.args.block c.hash.result.bytes c.hash.ensures c.in_default.ensures.found;
-      room = λ full. let e : false ≡ true = c.if-is_full.ensures.1 full in absurd {A = ⊥} cc;
+      not_full = λ full. let e : false ≡ true = c.if-is_full.ensures.1 full in absurd {A = ⊥} cc;
     } in
     (allowed, subst (λ (s : Store). IsInserted s c.args.block (with_blocks old c.put.new.self)) c.self.view_is (inserted_same old c.put.new.self more same c.args.block (inserted old c.args.block more refl)))
 

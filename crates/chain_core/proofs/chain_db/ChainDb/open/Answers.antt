@@ -7,7 +7,7 @@ use Rattle.model.proofs.Lists.{all_take}
 use Rattle.model.proofs.Candidates.{valid_of_state}
 use Rattle.chainsel.proofs.ForCallers.{settled_at_start}
 use Rattle.chain_core.specs.PastHashes.{IsBlockNoted}
-use Rattle.chain_core.proofs.Pools.{pool_at_start}
+use Rattle.chain_core.proofs.Mempools.{mempool_at_start}
 use Rattle.chain_core.proofs.chain_db.ChainDb.open.Goals as goal
 
 pub returns-clause-whole : goal.returns-clause-whole
@@ -23,6 +23,6 @@ returns-clause-whole g c =
       settled = settled_at_start network c.new-store.result c.new-db.result opens (ap (λ s. s.blocks) c.new-store.ensures.empty) (c.new-db.ensures.chain network chain is) c.new-db.ensures.depth;
       k = c.new-db.ensures.k ∙ (least ∙ c.k.ensures.k);
       capacity = ap (λ s. s.capacity) c.new-store.ensures.empty ∙ c.max_volatile.ensures;
-      pool = pool_at_start network chain c.args.on.state is c.in_ok-mempool.mempool _ _ c.max_mempool.ensures c.utxo.ensures c.in_ok-mempool.ensures;
+      mempool = mempool_at_start network chain c.args.on.state is c.in_ok-mempool.mempool _ _ c.max_mempool.ensures c.utxo.ensures c.in_ok-mempool.ensures;
       past = all_take (IsBlockNoted c.note_all.new.past) (immutable_length network chain) chain (subst (AllByRecursion (IsBlockNoted c.note_all.new.past)) c.deref.ensures.value c.in_ok-note_all.ensures.noted);
     }

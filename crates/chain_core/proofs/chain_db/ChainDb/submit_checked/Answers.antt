@@ -11,7 +11,7 @@ use Rattle.mempool.specs.View.{reply_of}
 use Rattle.chain_core.specs.declared.chain_db.ChainDb.{ChainDb}
 use Rattle.chain_core.specs.ChainDbs.{IsWhole, IsTaken}
 use Rattle.chain_core.proofs.Adding.{taken, whole_after}
-use Rattle.chain_core.proofs.Pools.{wants}
+use Rattle.chain_core.proofs.Mempools.{wants}
 use Rattle.chain_core.proofs.chain_db.ChainDb.submit_checked.Goals as goal
 
 pub returns-clause-ok : goal.returns-clause-ok
@@ -41,5 +41,5 @@ returns-clause-memory g c =
     let old = c.args.self.now in
     on_err_weaker c.submit_checked.result
     (λ want genesis opened whole bytes spelled. wants (network_on genesis verifies opened) old.chain.items c.state-state.result.now (c.state-state.ensures.chain (network_on genesis verifies opened) old.chain.items whole.settled.database)
-    old.mempool whole.pool (params_of c.params.result.now) c.slot.result c.params.ensures c.slot.ensures.slot bytes (want bytes spelled))
+    old.mempool whole.mempool (params_of c.params.result.now) c.slot.result c.params.ensures c.slot.ensures.slot bytes (want bytes spelled))
     c.submit_checked.ensures.memory

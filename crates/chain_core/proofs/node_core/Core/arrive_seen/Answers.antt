@@ -13,7 +13,7 @@ use Rattle.followers.specs.Places.{moved_places}
 use Rattle.chain_core.specs.ChainDbs.{IsWhole, HasState}
 use Rattle.chain_core.specs.Views.{refusal_of}
 use Rattle.chain_core.specs.Held.{held_of, network_held}
-use Rattle.chain_core.proofs.Arrivals.{at_rest, rests, may_be_added, IsJudgedAt, refused_arrival, none_applies, kept_arrival}
+use Rattle.chain_core.proofs.Arrivals.{at_rest, rests, may_be_added, IsFirstRefusalAt, refused_arrival, none_applies, kept_arrival}
 use Rattle.chain_core.specs.Inside.{held}
 use Rattle.chain_core.proofs.Adding.{whole_same}
 use Rattle.chain_core.proofs.Reached.{opened_is, reached_on, reached_still, steps_on}
@@ -29,7 +29,7 @@ returns-in-Some-clause-step g c =
 -- the block may be put in
 fits : (g : given.Over) (c : In_default g) → IsReady (network_held (held c.self.inside) g.S.SigScheme.verifies) c.self.inside.chain_db.chain.items c.self.inside.chain_db.store c.self.inside.chain_db.db c.in-Ok.block × (IsFull c.self.inside.chain_db.store → ⊥)
 fits g c =
-    let judged : IsJudgedAt (network_held (held c.self.inside) g.S.SigScheme.verifies) c.self.inside.chain_db c.in-Ok.block None = λ (s : State) (has : HasState (network_held (held c.self.inside) g.S.SigScheme.verifies) c.self.inside.chain_db s). c.in_default.ensures (network_held (held c.self.inside) g.S.SigScheme.verifies) s c.in-Ok.block c.self.invariant.whole has c.bytes.ensures (c.point.ensures.number, c.point.ensures.hash) in
+    let judged : IsFirstRefusalAt (network_held (held c.self.inside) g.S.SigScheme.verifies) c.self.inside.chain_db c.in-Ok.block None = λ (s : State) (has : HasState (network_held (held c.self.inside) g.S.SigScheme.verifies) c.self.inside.chain_db s). c.in_default.ensures (network_held (held c.self.inside) g.S.SigScheme.verifies) s c.in-Ok.block c.self.invariant.whole has c.bytes.ensures (c.point.ensures.number, c.point.ensures.hash) in
     let read : IsRead c.in-Ok.block c.args.seen = c.in-Ok.ensures.block in
     may_be_added (network_held (held c.self.inside) g.S.SigScheme.verifies) c.self.inside.chain_db c.in-Ok.block c.args.seen c.self.invariant.whole read (judged (at_rest c.self.inside.chain_db) (rests (network_held (held c.self.inside) g.S.SigScheme.verifies) c.self.inside.chain_db c.self.invariant.whole))
 
@@ -41,7 +41,7 @@ add-requires-clause-room g c = (fits g (goal.at.add-requires-clause-room g c).In
 
 pub invariant_of-self-2 : goal.invariant_of-self-2
 invariant_of-self-2 g c =
-    let judged : IsJudgedAt (network_held (held c.self.inside) g.S.SigScheme.verifies) c.self.inside.chain_db c.in-Ok.block None = λ (s : State) (has : HasState (network_held (held c.self.inside) g.S.SigScheme.verifies) c.self.inside.chain_db s). c.in_default.ensures (network_held (held c.self.inside) g.S.SigScheme.verifies) s c.in-Ok.block c.self.invariant.whole has c.bytes.ensures (c.point.ensures.number, c.point.ensures.hash) in
+    let judged : IsFirstRefusalAt (network_held (held c.self.inside) g.S.SigScheme.verifies) c.self.inside.chain_db c.in-Ok.block None = λ (s : State) (has : HasState (network_held (held c.self.inside) g.S.SigScheme.verifies) c.self.inside.chain_db s). c.in_default.ensures (network_held (held c.self.inside) g.S.SigScheme.verifies) s c.in-Ok.block c.self.invariant.whole has c.bytes.ensures (c.point.ensures.number, c.point.ensures.hash) in
     let read : IsRead c.in-Ok.block c.args.seen = c.in-Ok.ensures.block in
     record {
       opens = subst (λ (o : List Block). IsOpening (network_on c.self.inside.genesis g.S.SigScheme.verifies o)) (opened_is (network_held (held c.self.inside) g.S.SigScheme.verifies) c.add.new.self (c.in_ok-change.ensures.ok.whole)) c.self.invariant.opens;
@@ -54,7 +54,7 @@ invariant_of-self-2 g c =
 
 pub returns-clause-step : goal.returns-clause-step
 returns-clause-step g c =
-    let judged : IsJudgedAt (network_held (held c.self.inside) g.S.SigScheme.verifies) c.self.inside.chain_db c.in-Ok.block None = λ (s : State) (has : HasState (network_held (held c.self.inside) g.S.SigScheme.verifies) c.self.inside.chain_db s). c.in_default.ensures (network_held (held c.self.inside) g.S.SigScheme.verifies) s c.in-Ok.block c.self.invariant.whole has c.bytes.ensures (c.point.ensures.number, c.point.ensures.hash) in
+    let judged : IsFirstRefusalAt (network_held (held c.self.inside) g.S.SigScheme.verifies) c.self.inside.chain_db c.in-Ok.block None = λ (s : State) (has : HasState (network_held (held c.self.inside) g.S.SigScheme.verifies) c.self.inside.chain_db s). c.in_default.ensures (network_held (held c.self.inside) g.S.SigScheme.verifies) s c.in-Ok.block c.self.invariant.whole has c.bytes.ensures (c.point.ensures.number, c.point.ensures.hash) in
     let read : IsRead c.in-Ok.block c.args.seen = c.in-Ok.ensures.block in
     steps_on g.S.SigScheme.verifies c.args.self.now (Arrive c.args.seen) (Kept c.in_ok-change.change.back c.in_ok-change.change.added) c.self.inside.genesis _ _ (blocks_of c.add.new.self.store) c.add.new.self.chain.items c.add.new.self.mempool.waiting.txs c.moved.new.self
     (opened_is (network_held (held c.self.inside) g.S.SigScheme.verifies) c.add.new.self (c.in_ok-change.ensures.ok.whole))

@@ -4,7 +4,7 @@ use Rattle.model.specs.History.{Open}
 use Rattle.chain_core.specs.Views.{open_reply_of}
 use Rattle.chain_core.specs.Inside.{held}
 use Rattle.chain_core.proofs.Reached.{reached_on}
-use Rattle.chain_core.proofs.FollowerCalls.{opened, want_at_opening}
+use Rattle.chain_core.proofs.FollowerCalls.{opened, want_at_open}
 use Rattle.chain_core.proofs.node_core.Core.open.Goals as goal
 
 pub invariant_of-self : goal.invariant_of-self
@@ -23,4 +23,4 @@ returns-clause-step g c =
 
 pub returns-clause-memory : goal.returns-clause-memory
 returns-clause-memory g c =
-    want_at_opening g.S.SigScheme.verifies c.self.inside.genesis (take c.self.inside.chain_db.opened c.self.inside.chain_db.chain.items) (blocks_of c.self.inside.chain_db.store) c.self.inside.chain_db.chain.items c.self.inside.chain_db.mempool.waiting.txs c.self.inside.followers c.args.self.now c.open.result c.self.view_is c.open.ensures.fault
+    want_at_open g.S.SigScheme.verifies c.self.inside.genesis (take c.self.inside.chain_db.opened c.self.inside.chain_db.chain.items) (blocks_of c.self.inside.chain_db.store) c.self.inside.chain_db.chain.items c.self.inside.chain_db.mempool.waiting.txs c.self.inside.followers c.args.self.now c.open.result c.self.view_is c.open.ensures.fault

@@ -15,7 +15,7 @@ use Rattle.chain_core.specs.Held.{Held, held_of, network_held}
 use Rattle.chain_core.specs.Inside.{held}
 use Rattle.chain_core.specs.Views.{submit_reply_of}
 use Rattle.chain_core.specs.ChainDbs.{IsWhole, IsTaken}
-use Rattle.chain_core.specs.Pools.{IsWantOf}
+use Rattle.chain_core.specs.Mempools.{IsWantOf}
 use Rattle.chain_core.proofs.Arrivals.{submitted}
 use Rattle.chain_core.proofs.Reached.{opened_is, reached_on, steps_on}
 use Rattle.chain_core.proofs.node_core.Core.submit_checked.Goals as goal

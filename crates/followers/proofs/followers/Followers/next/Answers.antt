@@ -11,12 +11,12 @@ invariant_of-self c =
     let i = c.args.id.number in
     let is : follower_of places i ≡ Some c.in-Some.place = search rules in
     let taken = taken_at places i c.in-Some.place is in
-    let long = length-set places i (Some c.stepped.result) in
+    let long = length-set places i (Some c.moved_on.result) in
     let room = before.room in
     let few = before.few in
     record {
-      kept = λ n. before.kept n ∙ sym (set_open places i n c.in-Some.place c.stepped.result is);
-      counted = before.counted ∙ sym (taken.kept c.stepped.result);
+      kept = λ n. before.kept n ∙ sym (set_open places i n c.in-Some.place c.moved_on.result is);
+      counted = before.counted ∙ sym (taken.kept c.moved_on.result);
       ordered = before.ordered;
       room = omega arith;
       few = omega arith;

@@ -56,7 +56,7 @@ returns-in-Some-clause-ok c =
     let is : c.standing.result ≡ standing 0 = c.standing.ensures in
     record {
       is_free = sym least ∙ ap free_id c.self.view_is;
-      room = omega arith;
+      few = omega arith;
       after = (λ j. slice_set places (sym least j) (Some (is j))) ∙ (first_free_set places (standing 0) (omega arith) ∙ ap (with_first_free (standing 0)) c.self.view_is);
     }
 
@@ -125,6 +125,6 @@ returns-clause-ok c =
     let is : c.standing.result ≡ standing 0 = c.standing.ensures in
     record {
       is_free = size ∙ (sym all ∙ ap free_id c.self.view_is);
-      room = omega arith;
+      few = omega arith;
       after = items ∙ (ap (λ p. places ++ Some p ∷ []) is ∙ (first_free_pushed places (standing 0) (omega arith) ∙ ap (with_first_free (standing 0)) c.self.view_is));
     }

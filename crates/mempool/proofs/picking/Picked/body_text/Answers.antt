@@ -3,7 +3,7 @@ use Rattle.model.specs.Cbor.{array_of, text_of}
 use Rattle.model.specs.Transaction.{item_of_transaction}
 use Rattle.model.specs.Block.{item_of_transactions}
 use Rattle.cbor.proofs.ForCallers.{map_twice}
-use Rattle.mempool.specs.Pool.{Waiting}
+use Rattle.mempool.specs.Contents.{Waiting}
 use Rattle.mempool.specs.Taking.{taken_tx}
 use Rattle.mempool.proofs.picking.Picked.body_text.Goals as goal
 

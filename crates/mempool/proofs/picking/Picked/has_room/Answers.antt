@@ -5,7 +5,7 @@ use Rattle.utxo_rules.specs.View.{params_of}
 use Rattle.model.specs.Cbor.{head, nesting}
 use Rattle.model.specs.Transaction.{item_of_transaction}
 use Rattle.model.specs.Mempool.{fits_in_a_block}
-use Rattle.mempool.specs.Pool.{Waiting}
+use Rattle.mempool.specs.Contents.{Waiting}
 use Rattle.mempool.specs.Taking.{taken_tx}
 use Rattle.mempool.specs.Picking.{IsRoomFor}
 use Rattle.mempool.proofs.Offers.{has_room, no_room, room_for, le_false}

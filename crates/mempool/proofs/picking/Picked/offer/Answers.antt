@@ -4,7 +4,7 @@ use Rattle.utxo_rules.specs.View.{params_of, reason_of}
 use Rattle.utxo_rules.specs.Check.{IsCheckFault}
 use Rattle.model.specs.Rules.{reason_against}
 use Rattle.model.specs.Mempool.{fits_in_a_block}
-use Rattle.mempool.specs.Pool.{Waiting}
+use Rattle.mempool.specs.Contents.{Waiting}
 use Rattle.mempool.specs.Calls.{with_tx}
 use Rattle.mempool.specs.Picking.{offered}
 use Rattle.mempool.proofs.Offers.{on_ok, offer_taken, offer_refused}

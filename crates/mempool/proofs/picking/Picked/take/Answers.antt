@@ -3,7 +3,7 @@ use Rattle.std.specs.Arc.{arc_value}
 use Rattle.std.proofs.lemmas.List.{map-append}
 use Rattle.model.specs.Transaction.{size_of}
 use Rattle.model.specs.Utxo.{utxo_after}
-use Rattle.mempool.specs.Pool.{Waiting}
+use Rattle.mempool.specs.Contents.{Waiting}
 use Rattle.mempool.specs.Taking.{taken_tx}
 use Rattle.mempool.specs.Picking.{AreMeasured, IsRoomFor}
 use Rattle.mempool.proofs.Offers.{one_measured, few_enough}

@@ -3,7 +3,7 @@ use Rattle.std.proofs.Common.{subst}
 use Rattle.std.proofs.lemmas.Result.{on_ok_weaker}
 use Rattle.utxo_rules.specs.View.{params_of}
 use Rattle.utxo_rules.specs.Check.{PassesEarly}
-use Rattle.mempool.specs.Pool.{Waiting}
+use Rattle.mempool.specs.Contents.{Waiting}
 use Rattle.mempool.proofs.waiting.Waiting.judge_early.Goals as goal
 
 pub returns-clause-passed : goal.returns-clause-passed

@@ -1,7 +1,7 @@
 use Rattle.std.proofs.Common.{◌≡◌, [], ap, ◌∙◌, map}
 use Rattle.std.specs.Arc.{arc_value}
 use Rattle.model.specs.Utxo.{Utxo}
-use Rattle.mempool.specs.Pool.{Waiting}
+use Rattle.mempool.specs.Contents.{Waiting}
 use Rattle.utxo_rules.specs.View.{params_of}
 use Rattle.mempool.proofs.Offers.{none_picked, more_picked, all_picked}
 use Rattle.mempool.proofs.waiting.Waiting.pick.Goals as goal

@@ -2,7 +2,7 @@ use Rattle.std.proofs.Common.{ap, ◌∙◌}
 use Rattle.std.specs.Arc.{arc_value}
 use Rattle.model.specs.Transaction.{transaction_id_of, size_of}
 use Rattle.model.specs.Utxo.{utxo_after}
-use Rattle.mempool.specs.Pool.{Waiting}
+use Rattle.mempool.specs.Contents.{Waiting}
 use Rattle.mempool.proofs.Ids.{pushed_txs, pushed_ids, pushed_bytes}
 use Rattle.mempool.proofs.waiting.Waiting.push.Goals as goal
 

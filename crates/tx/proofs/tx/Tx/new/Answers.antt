@@ -5,7 +5,7 @@ use Rattle.model.specs.Cbor.{HasText}
 use Rattle.model.specs.Transaction.{item_of_transaction, IsTransaction}
 use Rattle.tx.specs.Making.{parts_of}
 use Rattle.tx.specs.View.{input_of, witness_of}
-use Rattle.tx.specs.declared.tx_fault.TxFault.TheVariants.{OutOfMemory}
+use Rattle.tx.specs.declared.parts_fault.PartsFault.TheVariants.{OutOfMemory}
 use Rattle.tx.proofs.MadeTexts.{inputs_said, witnesses_said, made_is, made_text}
 use Rattle.tx.proofs.Makings.{fault_back, only_memory, refused}
 use Rattle.tx.proofs.tx.Tx.new.Goals as goal

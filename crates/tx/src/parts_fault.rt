@@ -1,7 +1,7 @@
 //! Why no transaction is made of parts.
 
 ghost use Rattle.std.specs.Prelude.{◌≡◌};
-ghost use Rattle.tx.specs.declared.tx_fault.TxFault.TheVariants.{OutOfMemory};
+ghost use Rattle.tx.specs.declared.parts_fault.PartsFault.TheVariants.{OutOfMemory};
 
 use crate::input::Input;
 use ident::ScriptHash;
@@ -10,7 +10,7 @@ use thiserror::Error;
 
 /// What is wrong with the parts of a transaction, the first of these that is; or that memory ran out where nothing is.
 #[derive(Clone, Copy, Debug, PartialEq, Eq, Error)]
-pub enum TxFault {
+pub enum PartsFault {
     /// The least of the inputs that stand there more than once.
     #[error("an input that stands there twice")]
     RepeatedInput(Input),
@@ -31,10 +31,10 @@ pub enum TxFault {
     OutOfMemory,
 }
 
-impl From<AllocError> for TxFault {
+impl From<AllocError> for PartsFault {
     ghost from_gives = { λ _ e. e ≡ OutOfMemory };
 
-    fn from(_error: AllocError) -> TxFault {
-        TxFault::OutOfMemory
+    fn from(_error: AllocError) -> PartsFault {
+        PartsFault::OutOfMemory
     }
 }

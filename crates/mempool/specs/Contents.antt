@@ -12,7 +12,7 @@ pub record Waiting : Type 0 where
   pub unspent : Utxo
 
 -- how many there may be, and those that there are
-pub record Pool : Type 0 where
+pub record Mempool : Type 0 where
   pub capacity : ℕ
   pub waiting : Waiting
 
@@ -21,7 +21,7 @@ coded_waiting =
     code_by (List Transaction × Utxo) (coded× (coded_list coded_transaction) (finite.code coded_input coded_output))
     (λ w. (w.txs, w.unspent)) (λ p. record { txs = p.0; unspent = p.1 }) (λ _. refl)
 
-abbrev pub coded_pool : Coded Pool
-coded_pool =
+abbrev pub coded_mempool : Coded Mempool
+coded_mempool =
     code_by (ℕ × Waiting) (coded× coded_ℕ coded_waiting) (λ p. (p.capacity, p.waiting))
     (λ p. record { capacity = p.0; waiting = p.1 }) (λ _. refl)

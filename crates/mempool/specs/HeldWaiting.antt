@@ -3,7 +3,7 @@ use Rattle.std.specs.Prelude.{◌≡◌, map, sum}
 use Rattle.std.specs.Arc.{arc_value}
 use Rattle.model.specs.Transaction.{transaction_id_of, size_of}
 use Rattle.indexmap.specs.IndexMap.{keys, values}
-use Rattle.mempool.specs.Pool.{Waiting}
+use Rattle.mempool.specs.Contents.{Waiting}
 use Rattle.mempool.specs.declared.waiting.Waiting.TheInside.{Inside}
 
 abbrev pub waiting_of : {S : Type 0} → Inside S → Waiting

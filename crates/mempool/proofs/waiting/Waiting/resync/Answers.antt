@@ -2,9 +2,9 @@ use Rattle.std.proofs.Common.{[], ap, ◌∙◌, subst, sym}
 use Rattle.std.specs.Map.{values_of}
 use Rattle.model.specs.Utxo.{Utxo}
 use Rattle.utxo_rules.specs.View.{params_of}
-use Rattle.mempool.specs.Pool.{Waiting}
+use Rattle.mempool.specs.Contents.{Waiting}
 use Rattle.mempool.proofs.Passing.{IsPartPassed, none_passed, more_passed, next_new, all_passed}
-use Rattle.mempool.proofs.waiting.Waiting.pass.Goals as goal
+use Rattle.mempool.proofs.waiting.Waiting.resync.Goals as goal
 
 pub loop-tx-init : goal.loop-tx-init
 loop-tx-init g c =

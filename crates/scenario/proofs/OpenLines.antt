@@ -10,13 +10,13 @@ use Rattle.followers.specs.declared.fault.OpenFollowerFault.{OpenFollowerFault}
 use Rattle.followers.specs.declared.fault.OpenFollowerFault.TheVariants as open'
 use Rattle.chain_core.specs.Views.{open_reply_of}
 use Rattle.followers.proofs.ForCallers.{the_lengths}
-use Rattle.chain_core.specs.FollowerCalls.{IsWantAtOpening}
+use Rattle.chain_core.specs.FollowerCalls.{IsWantAtOpen}
 use Rattle.chain_core.specs.Held.{Held, Stands}
 use Rattle.scenario.specs.declared.session.Session.{Session}
 use Rattle.script.specs.Names.{Named}
 use Rattle.script.specs.RequestView.{AreNamed}
 use Rattle.script.specs.Meaning.{OpensFollower}
-use Rattle.scenario.specs.Print.{opening_text}
+use Rattle.scenario.specs.Print.{open_text}
 use Rattle.scenario.specs.Run.{Scene, names_opened, entry}
 use Rattle.scenario.specs.SessionView.{Done}
 
@@ -26,24 +26,24 @@ none_opened names name open'.TooManyFollowers = refl
 none_opened names name open'.OutOfMemory = refl
 
 -- what was put behind nothing
-pub opening_printed : (out old name : List ℕ) (printed result : Result FollowerId OpenFollowerFault) → out ≡ old ++ opening_text name (open_reply_of printed) → old ≡ [] → printed ≡ result → out ≡ opening_text name (open_reply_of result)
-opening_printed out old name printed result is empty same =
-    is ∙ ap (λ (l : List ℕ). l ++ opening_text name (open_reply_of printed)) empty ∙ ap (λ (r : Result FollowerId OpenFollowerFault). opening_text name (open_reply_of r)) same
+pub open_printed : (out old name : List ℕ) (printed result : Result FollowerId OpenFollowerFault) → out ≡ old ++ open_text name (open_reply_of printed) → old ≡ [] → printed ≡ result → out ≡ open_text name (open_reply_of result)
+open_printed out old name printed result is empty same =
+    is ∙ ap (λ (l : List ℕ). l ++ open_text name (open_reply_of printed)) empty ∙ ap (λ (r : Result FollowerId OpenFollowerFault). open_text name (open_reply_of r)) same
 
 -- memory runs out only where a number is free
-room_at : (held : Held) (s : State) (result : Result FollowerId OpenFollowerFault) → Stands held s → IfErr result (IsWantAtOpening held) → open_reply_of result ≡ OutOfMemory → free_id s.followers < follower_limit
-room_at held s (Ok id) stands memory is = cc
-room_at held s (Err open'.TooManyFollowers) stands memory is = cc
-room_at held s (Err open'.OutOfMemory) stands memory is = subst (λ n. n < follower_limit) (sym (the_lengths.free held.chain held.followers s.followers stands.followers)) (memory refl)
+free_at : (held : Held) (s : State) (result : Result FollowerId OpenFollowerFault) → Stands held s → IfErr result (IsWantAtOpen held) → open_reply_of result ≡ OutOfMemory → free_id s.followers < follower_limit
+free_at held s (Ok id) stands memory is = cc
+free_at held s (Err open'.TooManyFollowers) stands memory is = cc
+free_at held s (Err open'.OutOfMemory) stands memory is = subst (λ n. n < follower_limit) (sym (the_lengths.free held.chain held.followers s.followers stands.followers)) (memory refl)
 
-pub opening_acted : (network : Network) (s : Scene) (name : List ℕ) (result : Result FollowerId OpenFollowerFault) (out : List ℕ) (held : Held) (new : Session) → out ≡ opening_text name (open_reply_of result)
-    → Stands held s.state → IfErr result (IsWantAtOpening held)
+pub open_acted : (network : Network) (s : Scene) (name : List ℕ) (result : Result FollowerId OpenFollowerFault) (out : List ℕ) (held : Held) (new : Session) → out ≡ open_text name (open_reply_of result)
+    → Stands held s.state → IfErr result (IsWantAtOpen held)
     → AreNamed new.names (record s.names { of_followers = names_opened s.names.of_followers name (open_reply_of result) })
     → (t : State) × Step network s.state Open (open_reply_of result) t × Stands new.core t
     → Done network s (OpensFollower name) out new
-opening_acted network s name result out held new printed held_stands memory names (t, step, stands) = record {
+open_acted network s name result out held new printed held_stands memory names (t, step, stands) = record {
   entries = entry Open (open_reply_of result);
   scene = record { state = t; names = record s.names { of_followers = names_opened s.names.of_followers name (open_reply_of result) } };
-  acts = (open_reply_of result, record { step = step; room = room_at held s.state result held_stands memory; names = refl }, printed, refl);
+  acts = (open_reply_of result, record { step = step; free = free_at held s.state result held_stands memory; names = refl }, printed, refl);
   holds = record { stands = stands; names = names };
 }

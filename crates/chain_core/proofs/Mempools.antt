@@ -1,0 +1,99 @@
+-- The mempool beside a chain: brought up to date with another one, and after a submission.
+use Rattle.std.proofs.Common.{◌≡◌, ℕ, ◌+◌, List, Option, Some, [], sym, ap, subst, ◌∙◌, arith}
+use Rattle.std.specs.Option.{option_map, option_map_or}
+use Rattle.std.proofs.lemmas.Option.{same_Some}
+use Rattle.model.specs.Block.{Block}
+use Rattle.model.specs.Transaction.{Transaction}
+use Rattle.model.specs.Utxo.{Utxo}
+use Rattle.model.specs.Rules.{Params}
+use Rattle.model.specs.Chain.{Tip}
+use Rattle.model.specs.Ledger.{Network, Ledger}
+use Rattle.model.specs.Applying.{LedgerState, IsStateOf}
+use Rattle.model.specs.Mempool.{utxo_after_all, passed, utxo_of, next_slot, revalidated, IsValidMempool, SubmitReply, Answers, Submits}
+use Rattle.model.proofs.MempoolSteps.{up_to_date, nothing_valid, submitted_valid}
+use Rattle.mempool.specs.Contents.{Mempool, Waiting}
+use Rattle.mempool.specs.Calls.{resynced_on, IsSubmission, IsWantFor}
+use Rattle.chain_core.specs.Mempools.{IsMempoolOf, IsResynced, IsWantOf}
+
+module _ (network : Network) (chain : List Block) (state : LedgerState) (is : IsStateOf network chain state) where
+  -- the unspent outputs of the chain are those of its state
+  pub outputs_are : utxo_of network chain ≡ Some state.ledger.utxo
+  outputs_are = ap (λ (o : Option Ledger). option_map (λ (l : Ledger). l.utxo) o) is.ledger
+
+  -- and the slot after its tip's is that of the state
+  pub slot_is : state.tip.slot + 1 ≡ next_slot chain
+  slot_is = let e = ap (λ (t : Tip). t.slot) is.tip in omega (arith, e)
+
+  -- so a pass on these brings up to date
+  passes : (txs : List Transaction) → passed network.verifies state.params (state.tip.slot + 1) state.ledger.utxo txs ≡ revalidated network chain txs
+  passes txs =
+      ap (λ (p : Params). passed network.verifies p (state.tip.slot + 1) state.ledger.utxo txs) is.params
+      ∙ (ap (λ (n : ℕ). passed network.verifies network.genesis.params n state.ledger.utxo txs) slot_is
+      ∙ ap (λ (o : Option Utxo). option_map_or (λ (utxo : Utxo). passed network.verifies network.genesis.params (next_slot chain) utxo txs) o []) (sym outputs_are))
+
+  pub resynced : (params : Params) (slot : ℕ) (unspent : Utxo) (txs : List Transaction) (waiting : Waiting) → params ≡ state.params → slot ≡ state.tip.slot → unspent ≡ state.ledger.utxo
+      → waiting ≡ resynced_on network.verifies params (slot + 1) unspent txs → IsResynced network chain txs waiting
+  resynced params slot unspent txs waiting params_is slot_of unspent_is waits =
+      let here : waiting ≡ resynced_on network.verifies state.params (state.tip.slot + 1) state.ledger.utxo txs =
+      waits ∙ (λ i. resynced_on network.verifies (params_is i) (slot_of i + 1) (unspent_is i) txs) in
+      record {
+        stay = ap (λ (w : Waiting). w.txs) here ∙ passes txs;
+        unspent = λ utxo of_chain.
+            let same : state.ledger.utxo ≡ utxo = same_Some state.ledger.utxo utxo (sym outputs_are ∙ of_chain) in
+            ap (λ (w : Waiting). w.unspent) here ∙ (ap (λ (w : Waiting). utxo_after_all state.ledger.utxo w.txs) (sym here) ∙ ap (λ (u : Utxo). utxo_after_all u waiting.txs) same);
+      }
+
+  -- a submission to the code's mempool is one beside the chain, and leaves its mempool
+  module _ (mempool new : Mempool) (of : IsMempoolOf network chain mempool) (params : Params) (slot : ℕ) (bytes : List ℕ) (reply : SubmitReply) (params_is : params ≡ state.params) (slot_of : slot ≡ state.tip.slot)
+      (submission : IsSubmission network.verifies params (slot + 1) mempool bytes reply new) where
+    pub submits : Submits network chain mempool.waiting.txs bytes reply new.waiting.txs
+    submits = record {
+      utxo = state.ledger.utxo;
+      of_chain = outputs_are;
+      answers = subst (λ (n : ℕ). Answers network.verifies network.genesis.params (next_slot chain) (utxo_after_all state.ledger.utxo mempool.waiting.txs) n mempool.waiting.txs bytes reply) of.capacity
+          (subst (λ (u : Utxo). Answers network.verifies network.genesis.params (next_slot chain) u mempool.capacity mempool.waiting.txs bytes reply) (of.unspent state.ledger.utxo outputs_are)
+          (subst (λ (n : ℕ). Answers network.verifies network.genesis.params n mempool.waiting.unspent mempool.capacity mempool.waiting.txs bytes reply) (ap (λ n. n + 1) slot_of ∙ slot_is)
+          (subst (λ (p : Params). Answers network.verifies p (slot + 1) mempool.waiting.unspent mempool.capacity mempool.waiting.txs bytes reply) (params_is ∙ is.params) submission.answers)));
+      mempool = submission.after;
+    }
+
+    pub mempool_after : IsMempoolOf network chain new
+    mempool_after = record {
+      capacity = submission.capacity ∙ of.capacity;
+      valid = submitted_valid network chain mempool.waiting.txs bytes reply new.waiting.txs submits of.valid;
+      unspent = λ utxo of_chain. submission.unspent utxo (of.unspent utxo of_chain);
+    }
+
+  -- where memory was wanting in the code's mempool it was wanting beside the chain
+  pub wants : (mempool : Mempool) → IsMempoolOf network chain mempool → (params : Params) (slot : ℕ) → params ≡ state.params → slot ≡ state.tip.slot → (bytes : List ℕ)
+      → IsWantFor network.verifies params (slot + 1) mempool bytes → IsWantOf network chain mempool.waiting.txs bytes
+  wants mempool of params slot params_is slot_of bytes want reply early after s =
+      let same : state.ledger.utxo ≡ s.utxo = same_Some state.ledger.utxo s.utxo (sym outputs_are ∙ s.of_chain) in
+      let unspent : utxo_after_all s.utxo mempool.waiting.txs ≡ mempool.waiting.unspent = sym (of.unspent state.ledger.utxo outputs_are ∙ ap (λ (u : Utxo). utxo_after_all u mempool.waiting.txs) same) in
+      want reply early
+      (subst (λ (p : Params). Answers network.verifies p (slot + 1) mempool.waiting.unspent mempool.capacity mempool.waiting.txs bytes reply) (sym (params_is ∙ is.params))
+      (subst (λ (n : ℕ). Answers network.verifies network.genesis.params n mempool.waiting.unspent mempool.capacity mempool.waiting.txs bytes reply) (sym (ap (λ n. n + 1) slot_of ∙ slot_is))
+      (subst (λ (u : Utxo). Answers network.verifies network.genesis.params (next_slot chain) u mempool.capacity mempool.waiting.txs bytes reply) unspent
+      (subst (λ (n : ℕ). Answers network.verifies network.genesis.params (next_slot chain) (utxo_after_all s.utxo mempool.waiting.txs) n mempool.waiting.txs bytes reply) (sym of.capacity) s.answers))))
+
+-- a mempool that was brought up to date with another chain is that chain's
+pub mempool_resynced : (network : Network) (chain : List Block) (old new : Mempool) (waiting : Waiting) → old.capacity ≡ network.genesis.max_mempool → IsResynced network chain old.waiting.txs waiting
+    → new ≡ record old { waiting = waiting } → IsMempoolOf network chain new
+mempool_resynced network chain old new waiting capacity resynced_to is = record {
+  capacity = ap (λ (p : Mempool). p.capacity) is ∙ capacity;
+  valid = subst (λ (p : Mempool). IsValidMempool network chain p.waiting.txs) (sym is) (subst (IsValidMempool network chain) (sym resynced_to.stay) (up_to_date network chain old.waiting.txs));
+  unspent = subst (λ (p : Mempool). (utxo : Utxo) → utxo_of network chain ≡ Some utxo → p.waiting.unspent ≡ utxo_after_all utxo p.waiting.txs) (sym is) resynced_to.unspent;
+}
+
+-- and its transactions are those that stay
+pub stay_resynced : (network : Network) (chain : List Block) (old new : Mempool) (waiting : Waiting) → IsResynced network chain old.waiting.txs waiting → new ≡ record old { waiting = waiting } → new.waiting.txs ≡ revalidated network chain old.waiting.txs
+stay_resynced network chain old new waiting resynced_to is = ap (λ (p : Mempool). p.waiting.txs) is ∙ resynced_to.stay
+
+-- before anything came
+pub mempool_at_start : (network : Network) (chain : List Block) (state : LedgerState) → IsStateOf network chain state → (mempool : Mempool) (capacity : ℕ) (unspent : Utxo) → capacity ≡ network.genesis.max_mempool → unspent ≡ state.ledger.utxo
+    → mempool ≡ record { capacity = capacity; waiting = record { txs = []; unspent = unspent } } → IsMempoolOf network chain mempool
+mempool_at_start network chain state is mempool capacity unspent capacity_is unspent_is mempool_is = subst (IsMempoolOf network chain) (sym mempool_is) (record {
+  capacity = capacity_is;
+  valid = nothing_valid network chain;
+  unspent = λ utxo of_chain. unspent_is ∙ same_Some state.ledger.utxo utxo (sym (outputs_are network chain state is) ∙ of_chain);
+})
