@@ -28,7 +28,7 @@ use Rattle.ledgerdb.proofs.ForCallers.{prepared_count}
 use Rattle.chainsel.specs.Dead.{IsDead}
 use Rattle.chainsel.specs.Ready.{IsSettled, IsReady}
 use Rattle.chainsel.specs.Choices.{IsSelected, IsFoundDead, IsSwitch}
-use Rattle.chainsel.specs.declared.choice.Switch.{Switch}
+use Rattle.chainsel.specs.declared.selection.Switch.{Switch}
 use Rattle.chainsel.proofs.ForCallers.{at_hand, dead_with, selection_at_hand, IsNextStore, settled_again, switched_at_hand, depth_next}
 use Rattle.chain_core.specs.declared.chain_db.ChainDb.{ChainDb}
 use Rattle.chain_core.specs.declared.chain_db.Change.{Change}

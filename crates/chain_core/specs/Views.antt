@@ -8,9 +8,9 @@ use Rattle.ident.specs.PointView.{point_of}
 use Rattle.ident.specs.declared.point.Point.{Point}
 use Rattle.mempool.specs.View.{reply_of as answer_of}
 use Rattle.mempool.specs.declared.reply.SubmitReply.{SubmitReply}
-use Rattle.chain_core.specs.declared.arrival.Refusal.{Refusal}
-use Rattle.chain_core.specs.declared.arrival.Refusal.TheVariants.{TooLarge, Malformed, BodyHashMismatch, TooOld, Known}
-use Rattle.chain_core.specs.declared.arrival.Refusal.TheVariants.{Clash, VolatileFull}
+use Rattle.chain_core.specs.declared.refusal.Refusal.{Refusal}
+use Rattle.chain_core.specs.declared.refusal.Refusal.TheVariants.{TooLarge, Malformed, BodyHashMismatch, TooOld, Known}
+use Rattle.chain_core.specs.declared.refusal.Refusal.TheVariants.{Clash, VolatileFull}
 use Rattle.chain_core.specs.declared.arrival.ArriveReply.{ArriveReply}
 use Rattle.chain_core.specs.declared.arrival.ArriveReply.TheVariants.{Kept, Refused}
 use Rattle.followers.specs.declared.follower_id.FollowerId.{FollowerId}

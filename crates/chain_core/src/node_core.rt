@@ -1,12 +1,13 @@
 //! The core: what arrived, and the chain that is selected.
 
-use crate::arrival::{ArriveReply, Refusal};
+use crate::arrival::ArriveReply;
 use crate::chain_db::ChainDb;
 use crate::event::{RawEvent, Reply};
 use crate::follower::{Instruction, NextFault, instruction_for};
 use crate::forging::{ForgeFault, Forged, forge};
+use crate::judging::first_refusal;
 use crate::place::{block_at, end_of, first_on};
-use crate::refusal::first_refusal;
+use crate::refusal::Refusal;
 use crate::reopening::{OpenedChain, ReopenFault, read_chain};
 use block::{BadBytes, CheckedBlock, NoBlock, Seen};
 use followers::{FollowerId, Followers, OpenFollowerFault, UnknownFollower};

@@ -1,77 +1,72 @@
-//! Why a block that was read is not kept.
+//! Why bytes are refused.
 
-ghost use Rattle.std.specs.Prelude.{◌↔◌, IsTrue, Any, option_map};
-ghost use Rattle.block.specs.Read.{IsRead};
-ghost use Rattle.model.specs.Block.{Block as Plain};
-ghost use Rattle.model.specs.Ledger.{Network};
-ghost use Rattle.model.specs.History.{State};
-ghost use Rattle.blockstore.specs.Answers.{HasNoneAt};
+ghost use Rattle.std.specs.Prelude.{◌≡◌};
+ghost use Rattle.model.specs.History as history;
 ghost use Rattle.chain_core.specs.Views.{refusal_of};
-ghost use Rattle.chain_core.specs.ChainDbs.{IsWhole, HasState};
-ghost use Rattle.chain_core.specs.Judgements.{IsClashWith, IsPointOf, IsFirstRefusal};
+ghost use Rattle.chain_core.specs.Texts as texts;
 
-use crate::arrival::Refusal;
-use crate::chain_db::ChainDb;
-use crate::past::is_noted;
-use block::CheckedBlock;
-use ident::{BlockHash, Point};
-use witness_pool::SigScheme;
+use std::fmt;
 
-/// Whether the block has this hash and another text than these bytes.
-fn clashes<S: SigScheme>(block: &CheckedBlock<S>, hash: BlockHash, bytes: &[u8]) -> bool
-    ensures { IsTrue result ↔ IsClashWith hash.bytes bytes.now block.now }
-{
-    block.hash() == hash && !block.has_text(bytes)
+/// Why bytes are refused. The first reason that applies, in this order, is the one that is told.
+#[derive(Clone, Copy, Debug, PartialEq, Eq)]
+pub enum Refusal {
+    /// There are more than 1,048,576 bytes.
+    TooLarge,
+    /// The bytes are the text of no block.
+    Malformed,
+    /// The header's body hash isn't that of the body.
+    BodyHashMismatch,
+    /// The block's number is at most that of the immutable tip.
+    TooOld,
+    /// A live block has the same bytes.
+    Known,
+    /// A live block or one of the selected chain has the same hash and other bytes.
+    Clash,
+    /// There are as many live blocks as are kept.
+    VolatileFull,
 }
 
-/// Whether a block of the chain has this hash and another text than these bytes.
-fn has_clash<S: SigScheme>(chain: &[CheckedBlock<S>], hash: BlockHash, bytes: &[u8]) -> bool
-    ensures { IsTrue result ↔ Any (λ c. IsClashWith hash.bytes bytes.now c) chain.now }
-{
-    for other in chain {
-        if clashes(other, hash, bytes) {
-            return true;
+impl Refusal {
+    /// The number of the reason, 1 to 7, in the order in which reasons are looked for.
+    pub fn number(self) -> u64
+        ensures { result ≡ history.refusal_number (refusal_of self) }
+    {
+        match self {
+            Refusal::TooLarge => 1,
+            Refusal::Malformed => 2,
+            Refusal::BodyHashMismatch => 3,
+            Refusal::TooOld => 4,
+            Refusal::Known => 5,
+            Refusal::Clash => 6,
+            Refusal::VolatileFull => 7,
         }
     }
-    false
-}
 
-/// The same of the selected chain, where no live block has the hash. The chain is looked through only where the hash is
-/// that of a block which is never rolled back, since the others of the chain are live.
-fn clashes_with_chain<S: SigScheme>(chain_db: &ChainDb<S>, hash: BlockHash, bytes: &[u8]) -> bool
-    ensures { (network : Network) → IsWhole network chain_db.now → HasNoneAt chain_db.now.store hash.bytes
-        → (IsTrue result ↔ Any (λ c. IsClashWith hash.bytes bytes.now c) chain_db.now.chain.items) }
-{
-    is_noted(&chain_db.past, hash) && has_clash(&chain_db.chain, hash, bytes)
-}
-
-/// Why the block at this point that was read from these bytes is not kept: the first reason that applies, if any does.
-/// Takes a look-up in the store, one among the hashes of the chain's older blocks, and no memory. Texts are compared,
-/// and the chain is looked through, only where hashes agree.
-pub fn first_refusal<S: SigScheme>(
-    chain_db: &ChainDb<S>,
-    point: Point,
-    bytes: &[u8],
-) -> Option<Refusal>
-    // It is that of each state with this chain and these live blocks.
-    ensures { (network : Network) (s : State) (block : Plain) → IsWhole network chain_db.now
-        → HasState network chain_db.now s → IsRead block bytes.now → IsPointOf point block
-        → IsFirstRefusal network s block (option_map refusal_of result) }
-{
-    if point.number <= chain_db.immutable() as u64 {
-        return Some(Refusal::TooOld);
-    }
-    if let Some(stored) = chain_db.store.get(point.hash) {
-        if stored.block().has_text(bytes) {
-            return Some(Refusal::Known);
+    /// The name of the reason, as it stands here.
+    pub fn name(self) -> &'static str
+        ensures { result.now ≡ texts.refusal_name (refusal_of self) }
+    {
+        match self {
+            Refusal::TooLarge => "TooLarge",
+            Refusal::Malformed => "Malformed",
+            Refusal::BodyHashMismatch => "BodyHashMismatch",
+            Refusal::TooOld => "TooOld",
+            Refusal::Known => "Known",
+            Refusal::Clash => "Clash",
+            Refusal::VolatileFull => "VolatileFull",
         }
-        return Some(Refusal::Clash);
     }
-    if clashes_with_chain(chain_db, point.hash, bytes) {
-        return Some(Refusal::Clash);
+}
+
+impl fmt::Display for Refusal {
+    ghost use Rattle.std.specs.Prelude.{Some};
+    ghost use Rattle.chain_core.specs.Views.{refusal_of};
+    ghost use Rattle.chain_core.specs.Texts.{refusal_name};
+
+    ghost output = { λ refusal. Some (refusal_name (refusal_of refusal)) };
+
+    /// Writes the name.
+    fn fmt<W: fmt::Write>(&self, f: &mut fmt::Formatter<W>) -> fmt::Result {
+        f.write_str(self.name())
     }
-    if chain_db.store.is_full() {
-        return Some(Refusal::VolatileFull);
-    }
-    None
 }

@@ -18,9 +18,9 @@ use Rattle.ledgerdb.specs.declared.fork_fault.ForkFault.TheVariants.{Refused}
 use Rattle.chainsel.specs.Ready.{IsReady}
 use Rattle.chainsel.specs.Choices.{IsSelected, IsChoice, IsFoundDead, IsPossible, IsExplained, IsSelectionAnswer}
 use Rattle.chainsel.specs.Paths.{Descends, IsBest, IsWay, HasNoWay}
-use Rattle.chainsel.specs.declared.choice.Choice.TheVariants as choice
-use Rattle.chainsel.specs.declared.choice.Selection.{Selection}
-use Rattle.chainsel.specs.declared.choice.Switch.{Switch}
+use Rattle.chainsel.specs.declared.selection.Choice.TheVariants as choice
+use Rattle.chainsel.specs.declared.selection.Selection.{Selection}
+use Rattle.chainsel.specs.declared.selection.Switch.{Switch}
 use Rattle.chainsel.proofs.AtHand.{chain_valid}
 use Rattle.chainsel.proofs.Turns.{immutable_is, stays_by_number, stays_by_way, stays_by_death, switches, dies}
 use Rattle.chainsel.proofs.Explaining.{AreShort, when_kept, short_by_number, short_by_way, short_by_death, none_better}

@@ -18,8 +18,8 @@ use Rattle.ledgerdb.specs.Values.{Database}
 use Rattle.ledgerdb.specs.Chains.{without_last}
 use Rattle.chainsel.specs.Ready.{IsReady}
 use Rattle.chainsel.specs.Choices.{IsFoundDead, IsOpenPath, IsNoBetter, IsExplained}
-use Rattle.chainsel.specs.declared.choice.Choice.{Choice}
-use Rattle.chainsel.specs.declared.choice.Choice.TheVariants as choice
+use Rattle.chainsel.specs.declared.selection.Choice.{Choice}
+use Rattle.chainsel.specs.declared.selection.Choice.TheVariants as choice
 use Rattle.chainsel.specs.Paths.{IsFitLive, IsOnPath, Descends, IsBest, IsWay, HasNoWay, last_block}
 use Rattle.chainsel.proofs.AtHand.{at_hand, chain_valid, candidate_steps}
 use Rattle.chainsel.proofs.Lists.{all_front, all_rest}

@@ -20,7 +20,7 @@ use Rattle.ledgerdb.specs.declared.fork_fault.ForkFault.TheVariants.{Refused}
 use Rattle.ledgerdb.proofs.ForCallers.{prepared_valid}
 use Rattle.chainsel.specs.Ready.{IsReady}
 use Rattle.chainsel.specs.Choices.{IsSelected, IsSwitch, IsFoundDead}
-use Rattle.chainsel.specs.declared.choice.Switch.{Switch}
+use Rattle.chainsel.specs.declared.selection.Switch.{Switch}
 use Rattle.chainsel.specs.Paths.{Descends, IsBest, IsWay, HasNoWay}
 use Rattle.chainsel.proofs.Keeping.{selected_over, none_by_number, none_by_way, none_by_death}
 use Rattle.chainsel.proofs.Switching.{led_selected, led_change, led_dead, blocks_there}

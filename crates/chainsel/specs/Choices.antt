@@ -18,10 +18,10 @@ use Rattle.ledgerdb.specs.Chains.{without_last, IsPreparedOf}
 use Rattle.chainsel.specs.Dead.{IsDead}
 use Rattle.chainsel.specs.Paths.{IsOnPath}
 use Rattle.chainsel.specs.Ready.{IsReady}
-use Rattle.chainsel.specs.declared.choice.Choice.{Choice}
-use Rattle.chainsel.specs.declared.choice.Choice.TheVariants as choice
-use Rattle.chainsel.specs.declared.choice.Selection.{Selection}
-use Rattle.chainsel.specs.declared.choice.Switch.{Switch}
+use Rattle.chainsel.specs.declared.selection.Choice.{Choice}
+use Rattle.chainsel.specs.declared.selection.Choice.TheVariants as choice
+use Rattle.chainsel.specs.declared.selection.Selection.{Selection}
+use Rattle.chainsel.specs.declared.selection.Switch.{Switch}
 
 -- The selection rule makes this chain of the selected one when the block is kept, beside whatever was kept: the blocks
 -- of the chain are, and the store has those that are live.

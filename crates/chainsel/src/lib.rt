@@ -13,12 +13,12 @@
 //! ```
 #![tactic(auto)]
 
-mod choice;
 mod furthest;
 mod links;
 mod search;
+mod selecting;
 mod selection;
 mod way;
 
-pub use choice::{Choice, Selection, Switch};
-pub use selection::{immutable, select};
+pub use selecting::{immutable, select};
+pub use selection::{Choice, Selection, Switch};

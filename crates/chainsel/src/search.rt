@@ -4,8 +4,8 @@ ghost use Rattle.std.specs.Prelude.{◌≡◌, ◌-◌, length, IfOk};
 ghost use Rattle.ledgerdb.specs.Values.{depth};
 ghost use Rattle.chainsel.specs.Choices.{IsSelectionAnswer};
 
-use crate::choice::{Choice, Selection, Switch};
 use crate::furthest::furthest;
+use crate::selection::{Choice, Selection, Switch};
 use crate::way::way_to;
 use block::CheckedBlock;
 use blockstore::BlockStore;

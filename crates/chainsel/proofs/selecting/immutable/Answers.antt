@@ -1,5 +1,5 @@
 use Rattle.std.proofs.Common.{arith}
-use Rattle.chainsel.proofs.selection.immutable.Goals as goal
+use Rattle.chainsel.proofs.selecting.immutable.Goals as goal
 
 pub returns-clause-immutable : goal.returns-clause-immutable
 returns-clause-immutable g c = λ network store settled.

@@ -1,6 +1,6 @@
 use Rattle.std.proofs.Common.{take, All}
 use Rattle.chain_core.specs.Judgements.{IsClashWith}
-use Rattle.chain_core.proofs.refusal.has_clash.Given as goal
+use Rattle.chain_core.proofs.judging.has_clash.Given as goal
 
 -- none of the blocks so far
 abbrev pub invariant-loop-other : goal.invariant-loop-other

@@ -2,7 +2,7 @@ use Rattle.std.proofs.Common.{◌≡◌, [], refl, sym, subst, ◌∙◌}
 use Rattle.chainsel.specs.Paths.{Descends}
 use Rattle.chainsel.proofs.Turns.{match_empty}
 use Rattle.chainsel.proofs.Answering.{AreDead, kept_by_way}
-use Rattle.chainsel.proofs.selection.select.Goals as goal
+use Rattle.chainsel.proofs.selecting.select.Goals as goal
 
 pub returns-then-is_none : goal.returns-then-is_none
 returns-then-is_none g c =

@@ -3,7 +3,7 @@ use Rattle.model.specs.Block.{block_text}
 use Rattle.model.specs.Chain.{immutable_length}
 use Rattle.model.proofs.BlockTexts.{block_text_is}
 use Rattle.chain_core.proofs.Refusals.{judged_old, judged_known, judged_clash, judged_full, judged_none, read_again, known_at, other_at, none_at, clash_in}
-use Rattle.chain_core.proofs.refusal.first_refusal.Goals as goal
+use Rattle.chain_core.proofs.judging.first_refusal.Goals as goal
 
 pub returns-then-point-immutable : goal.returns-then-point-immutable
 returns-then-point-immutable g c = λ network s b whole has read at.

@@ -1,6 +1,6 @@
 use Rattle.std.proofs.Common.{◌≡◌, true, false, sym, ◌∙◌}
 use Rattle.chain_core.proofs.PastHashes.{unnoted_alone}
-use Rattle.chain_core.proofs.refusal.clashes_with_chain.Goals as goal
+use Rattle.chain_core.proofs.judging.clashes_with_chain.Goals as goal
 
 pub returns-else-is_noted : goal.returns-else-is_noted
 returns-else-is_noted g c = λ network whole none. (
