@@ -1,5 +1,5 @@
 -- How blocks and their transactions are judged.
-use Rattle.std.specs.Prelude.{◌≡◌, ℕ, ◌<◌, ◌≤◌, Option, Some}
+use Rattle.std.specs.Prelude.{◌≡◌, ℕ, ◌<◌, ◌≤◌, Result, Err}
 use Rattle.model.specs.Signature.{Verifies}
 use Rattle.model.specs.Rules.{Params, Reason}
 use Rattle.model.specs.Block.{Block, body_size_of}
@@ -26,14 +26,14 @@ pub record HasSameEnds (s t : LedgerState) : Type 0 where
   pub params : t.params ≡ s.params
   pub tip : t.tip ≡ s.tip
 
--- why transactions are not applied: one of them, with the reason, or want of memory
-abbrev pub IsBodyFault : Option (ℕ × Reason) → ApplyFault → Type 0
-IsBodyFault first (Refused (TxFault index reason)) = first ≡ Some (index, reason_of reason)
-IsBodyFault first (Refused WrongNumber) = ⊥
-IsBodyFault first (Refused WrongPrev) = ⊥
-IsBodyFault first (Refused SlotNotRising) = ⊥
-IsBodyFault first (Refused BodyTooBig) = ⊥
-IsBodyFault first OutOfMemory = Unit {0}
+-- why transactions that are judged in order are not applied: one of them, with the reason, or want of memory
+abbrev pub IsBodyFault : Result Ledger (ℕ × Reason) → ApplyFault → Type 0
+IsBodyFault judged (Refused (TxFault index reason)) = judged ≡ Err (index, reason_of reason)
+IsBodyFault judged (Refused WrongNumber) = ⊥
+IsBodyFault judged (Refused WrongPrev) = ⊥
+IsBodyFault judged (Refused SlotNotRising) = ⊥
+IsBodyFault judged (Refused BodyTooBig) = ⊥
+IsBodyFault judged OutOfMemory = Unit {0}
 
 -- why a block is not applied: its first fault, or want of memory, which is told only where none of the faults 1 to 4 is
 abbrev pub IsApplyFault : Verifies → LedgerState → Block → ApplyFault → Type 0

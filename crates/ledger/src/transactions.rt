@@ -1,8 +1,8 @@
 //! The transactions of a body, applied one after the other.
 
-ghost use Rattle.std.specs.Prelude.{◌≡◌, ◌+◌, None, Some, OnOk, IfOk, IfErr};
+ghost use Rattle.std.specs.Prelude.{◌≡◌, ◌+◌, None, Ok, OnOk, IfOk, IfErr, MatchResult};
 ghost use Rattle.model.specs.Utxo.{outputs_of, coin_of};
-ghost use Rattle.model.specs.Ledger.{reason_in, ledger_with, ledger_after, first_refused};
+ghost use Rattle.model.specs.Ledger.{reason_in, ledger_with, judged_in_order};
 ghost use Rattle.utxo_rules.specs.Check.{IsCheckFault};
 ghost use Rattle.utxo_rules.specs.Diffs.{undone};
 ghost use Rattle.ledger.specs.Judgement.{IsBodyFault, HasSameEnds};
@@ -45,12 +45,10 @@ impl LedgerState {
         slot: u64,
         transactions: &[CheckedTx<S>],
     ) -> Result<(LedgerState, Vec<Diff>), ApplyFault>
-        ensures applied { IfOk result (λ made.
-            ledger_after S.verifies self.params slot self.ledger transactions.now ≡ Some made.0.ledger) }
+        ensures judged { let judged = judged_in_order S.verifies self.params slot self.ledger 0 transactions.now in
+            MatchResult result (λ made. judged ≡ Ok made.0.ledger) (IsBodyFault judged) }
         ensures ends { IfOk result (λ made. HasSameEnds self made.0) }
         ensures back { IfOk result (λ made. all_undone made.1.items made.0.ledger.utxo ≡ self.ledger.utxo) }
-        ensures refused { IfErr result (IsBodyFault
-            (first_refused S.verifies self.params slot self.ledger 0 transactions.now)) }
     {
         let mut diffs = Vec::new(self.alloc);
         let mut after = self;

@@ -1,7 +1,9 @@
 -- What a second era changes, and what it leaves as it was.
-use Rattle.std.proofs.Common.{◌≡◌, ℕ, ◌+◌, ◌*◌, ◌<◌, ◌≤◌, Bool, true, false, List, [], ◌∷◌, Contains, Option, Some, None, is_some, refl, sym, ap, subst, ◌∙◌, arith, inl, inr}
+use Rattle.std.proofs.Common.{◌≡◌, ℕ, suc, ◌+◌, ◌*◌, ◌<◌, ◌≤◌, Bool, true, false, List, [], ◌∷◌, Contains, Option, Some, None, Result, Err, refl, sym, ap, subst, ◌∙◌, arith, inl, inr}
 use Rattle.std.specs.Prelude.{nat_le, if◌then◌else◌, option_and_then}
 use Rattle.std.specs.List.{AllByRecursion, list_all}
+use Rattle.std.specs.Option.{option_map_or}
+use Rattle.std.specs.Result.{result_ok}
 use Rattle.std.proofs.lemmas.Bool.{and_parts, and_from, leb-true, le-leb}
 use Rattle.std.proofs.lemmas.Bool.Decides.{nat_tests}
 use Rattle.model.specs.Transaction.{Output, Transaction}
@@ -10,7 +12,7 @@ use Rattle.model.specs.Utxo.{Utxo}
 use Rattle.model.specs.Rules.{SecondEra, Params, Era, scaled_era, era_among, era_at, in_one_era, Reason, OutputTooSmall, passes, reasons, first_failing, asset_count, outputs_reach_minimum, reason_against}
 use Rattle.model.specs.Genesis.{opening_utxo}
 use Rattle.model.specs.Block.{Block}
-use Rattle.model.specs.Ledger.{Network, network_in_one_era, Ledger, ledger_with, ledger_after, ledger_after_block, ledger_from, ledger_of}
+use Rattle.model.specs.Ledger.{Network, network_in_one_era, Ledger, ledger_with, judged_in_order, ledger_after_block, ledger_from, ledger_of}
 use Rattle.model.proofs.Lists.{nothing_contained, contains_first, contains_later, contains_cases}
 
 -- ---- the era of a slot
@@ -48,11 +50,11 @@ module _ (verifies : Verifies) (params : Params) (slot : ℕ) where
     unfolding reason_against
     reason_before utxo t = ap (λ (era : Era). first_failing (passes_in utxo t era) reasons) (era_before params second slot given before)
 
-    body_before : (ledger : Ledger) (ts : List Transaction) → ledger_after verifies params slot ledger ts ≡ ledger_after verifies (in_one_era params) slot ledger ts
-    body_before ledger [] = refl
-    body_before ledger (t ∷ ts) =
-        ap (λ (r : Option Reason). if is_some r then None else ledger_after verifies params slot (ledger_with ledger t) ts) (reason_before ledger.utxo t)
-        ∙ ap (λ (rest : Option Ledger). if is_some (reason_against verifies (in_one_era params) ledger.utxo slot t) then None else rest) (body_before (ledger_with ledger t) ts)
+    judged_before : (ledger : Ledger) (index : ℕ) (ts : List Transaction) → judged_in_order verifies params slot ledger index ts ≡ judged_in_order verifies (in_one_era params) slot ledger index ts
+    judged_before ledger index [] = refl
+    judged_before ledger index (t ∷ ts) =
+        ap (λ (r : Option Reason). option_map_or (λ reason. Err (index, reason)) r (judged_in_order verifies params slot (ledger_with ledger t) (suc index) ts)) (reason_before ledger.utxo t)
+        ∙ ap (option_map_or (λ reason. Err (index, reason)) (reason_against verifies (in_one_era params) ledger.utxo slot t)) (judged_before (ledger_with ledger t) (suc index) ts)
 
 then_alike : {A B : Type 0} (f g : A → Option B) → ((x : A) → f x ≡ g x) → (found : Option A) → option_and_then f found ≡ option_and_then g found
 then_alike f g alike None = refl
@@ -65,7 +67,7 @@ module _ (network : Network) (second : SecondEra) (given : network.genesis.param
   blocks_before : (ledger : Ledger) (bs : List Block) → AllByRecursion IsBefore bs → ledger_from network ledger bs ≡ ledger_from (network_in_one_era network) ledger bs
   blocks_before ledger [] all = refl
   blocks_before ledger (b ∷ bs) all =
-      ap (option_and_then (λ after. ledger_from network after bs)) (body_before network.verifies network.genesis.params b.header.slot second given all.0 ledger b.transactions)
+      ap (λ (judged : Result Ledger (ℕ × Reason)). option_and_then (λ after. ledger_from network after bs) (result_ok judged)) (judged_before network.verifies network.genesis.params b.header.slot second given all.0 ledger 0 b.transactions)
       ∙ then_alike (λ after. ledger_from network after bs) (λ after. ledger_from (network_in_one_era network) after bs) (λ after. blocks_before after bs all.1) (ledger_after_block (network_in_one_era network) ledger b)
 
   pub ledger_before : (chain : List Block) → AllByRecursion IsBefore chain → ledger_of network chain ≡ ledger_of (network_in_one_era network) chain

@@ -8,7 +8,7 @@ use Rattle.model.specs.Utxo.{Utxo, utxo_after}
 use Rattle.model.specs.Rules.{Params, Reason, reason_against}
 use Rattle.model.specs.Ledger.{Ledger, ledger_with, ledger_after}
 use Rattle.model.specs.Mempool.{utxo_after_all, passed, picked, fits_in_a_block}
-use Rattle.model.proofs.LedgerSteps.{through_after, told_refused, none_refused, None_not_Some}
+use Rattle.model.proofs.LedgerSteps.{through_after, none_after, None_not_Some}
 
 module _ (verifies : Verifies) (params : Params) (slot : ℕ) where
   abbrev judged : Utxo → Transaction → Option Reason
@@ -91,7 +91,7 @@ module _ (verifies : Verifies) (params : Params) (slot : ℕ) where
   all_stay ledger m (t ∷ ts) is =
       elim (judged ledger.utxo t) as (λ r. judged ledger.utxo t ≡ r → through ledger.utxo (t ∷ ts) ≡ t ∷ ts) [
         | None ↦ λ e. stays ledger.utxo t ts e ∙ ap (λ rest. t ∷ rest) (all_stay (ledger_with ledger t) m ts (sym (through_after verifies params slot ledger t ts e) ∙ is))
-        | Some r ↦ λ e. absurd (None_not_Some (0, r) (sym (none_refused verifies params slot ledger 0 (t ∷ ts) m is) ∙ told_refused verifies params slot ledger 0 t ts r e))
+        | Some r ↦ λ e. absurd (None_not_Some m (sym (none_after verifies params slot ledger t ts r e) ∙ is))
       ] refl
 
   after_push : (ledger m : Ledger) (ts : List Transaction) (t : Transaction) → after ledger ts ≡ Some m → judged m.utxo t ≡ None → after ledger (ts ++ t ∷ []) ≡ Some (ledger_with m t)
@@ -99,7 +99,7 @@ module _ (verifies : Verifies) (params : Params) (slot : ℕ) where
   after_push ledger m (x ∷ xs) t is none =
       elim (judged ledger.utxo x) as (λ r. judged ledger.utxo x ≡ r → after ledger ((x ∷ xs) ++ t ∷ []) ≡ Some (ledger_with m t)) [
         | None ↦ λ e. through_after verifies params slot ledger x (xs ++ t ∷ []) e ∙ after_push (ledger_with ledger x) m xs t (sym (through_after verifies params slot ledger x xs e) ∙ is) none
-        | Some r ↦ λ e. absurd (None_not_Some (0, r) (sym (none_refused verifies params slot ledger 0 (x ∷ xs) m is) ∙ told_refused verifies params slot ledger 0 x xs r e))
+        | Some r ↦ λ e. absurd (None_not_Some m (sym (none_after verifies params slot ledger x xs r e) ∙ is))
       ] refl
 
   -- ---- what a forged block takes

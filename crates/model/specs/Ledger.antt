@@ -1,7 +1,9 @@
 -- The ledger of a chain: the unspent outputs and the fees that its transactions leave. Each is judged by the rules of a
 -- transaction at its block's slot, on what those before it leave (Shelley, LEDGERS; the Consensus and Storage Layer
 -- report, ledger state).
-use Rattle.std.specs.Prelude.{ℕ, suc, ◌+◌, List, [], ◌∷◌, Option, Some, None, is_some, if◌then◌else◌, option_and_then}
+use Rattle.std.specs.Prelude.{ℕ, suc, ◌+◌, List, [], ◌∷◌, Option, Some, option_and_then, Result, Ok, Err}
+use Rattle.std.specs.Option.{option_map_or}
+use Rattle.std.specs.Result.{result_ok, result_err}
 use Rattle.model.specs.Transaction.{Transaction}
 use Rattle.model.specs.Signature.{Verifies}
 use Rattle.model.specs.Utxo.{Utxo, utxo_after}
@@ -45,27 +47,27 @@ ledger_with ledger t = record { utxo = utxo_after ledger.utxo t; fees = ledger.f
 
 -- ---- the transactions of a body
 
--- one place and its reason, if there is one, and else what is told of the places after it
-abbrev pub first_or : ℕ → Option Reason → Option (ℕ × Reason) → Option (ℕ × Reason)
-first_or index (Some reason) later = Some (index, reason)
-first_or index None later = later
-
 module _ (verifies : Verifies) (params : Params) (slot : ℕ) where
   -- the reason against a transaction
   abbrev pub reason_in : Ledger → Transaction → Option Reason
   reason_in ledger t = reason_against verifies params ledger.utxo slot t
 
+  -- TRANSACTIONS JUDGED IN ORDER (Shelley, LEDGERS)
+  -- Each is judged on what those before it leave. Ok is the ledger after all of them, where there is no reason against
+  -- any; Err is the place of the first against which there is one, and the reason. Places are counted from `index` on.
+  abbrev pub judged_in_order : Ledger → (index : ℕ) → List Transaction → Result Ledger (ℕ × Reason)
+  judged_in_order ledger index [] = Ok ledger
+  judged_in_order ledger index (t ∷ ts) =
+      option_map_or (λ reason. Err (index, reason)) (reason_in ledger t)
+      (judged_in_order (ledger_with ledger t) (suc index) ts)
+
   -- the ledger after transactions, where there is no reason against any of them
   abbrev pub ledger_after : Ledger → List Transaction → Option Ledger
-  ledger_after ledger [] = Some ledger
-  ledger_after ledger (t ∷ ts) =
-      if is_some (reason_in ledger t) then None else ledger_after (ledger_with ledger t) ts
+  ledger_after ledger ts = result_ok (judged_in_order ledger 0 ts)
 
   -- the first transaction against which there is a reason, and the reason; they are counted from `index` on
   abbrev pub first_refused : Ledger → (index : ℕ) → List Transaction → Option (ℕ × Reason)
-  first_refused ledger index [] = None
-  first_refused ledger index (t ∷ ts) =
-      first_or index (reason_in ledger t) (first_refused (ledger_with ledger t) (suc index) ts)
+  first_refused ledger index ts = result_err (judged_in_order ledger index ts)
 
 -- ---- the blocks of a chain
 
