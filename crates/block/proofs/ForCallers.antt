@@ -1,5 +1,5 @@
 -- What crates above cite of this one's proofs, and no other file.
-pub use Rattle.block.proofs.OneAnswer.{same_read, is_no_other, not_both, same_fault, has_answer}
+pub use Rattle.block.proofs.OneAnswer.{same_read, not_both, same_fault, has_answer}
 -- The transactions of a block that has a text nest two items less deep than a block may.
 pub use Rattle.block.proofs.Parts.{transactions_nest}
 -- The header of a block of transactions that are handed in, where its numbers are in range.

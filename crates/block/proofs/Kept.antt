@@ -13,8 +13,8 @@ use Rattle.cbor.proofs.ForCallers.{IsBytes, head-length}
 use Rattle.block.specs.View.{header_of}
 use Rattle.block.specs.Reading.{block_at}
 use Rattle.block.specs.Read.{IsRead, IsMalformed, IsMismatched, IsUnread, IsReadable}
-use Rattle.block.specs.declared.block_ref.BlockRef.TheInside as ref
-use Rattle.block.specs.HeldRef.{borrowed_block, IsHeldRef}
+use Rattle.block.specs.declared.facts.Facts.{Facts}
+use Rattle.block.specs.Facts.{block_of, AreFactsOf}
 use Rattle.block.proofs.Blocks.{block_takes, block_again, no_block}
 
 -- ---- reading
@@ -41,19 +41,15 @@ is_mismatched bytes b digest body fits size read is spelled other =
 pub is_unread : (bytes : List ℕ) → length bytes ≤ block_size_limit → ((b : Block) → block_at bytes ≡ Some b → b.transactions ≡ [] → ⊥) → IsUnread bytes
 is_unread bytes size some = record { size = size; full = λ b spells none. some b (block_again b bytes spells) none }
 
--- so that it would be read, if there were one
-pub unread_is_readable : (bytes : List ℕ) → IsUnread bytes → IsReadable bytes
-unread_is_readable bytes unread = record { size = unread.size; empty = λ b spells none. absurd (unread.full b spells none) }
-
 -- where it ran out after that, the bytes are read
 pub is_readable : (bytes : List ℕ) (b : Block) → IsRead b bytes → IsReadable bytes
 is_readable bytes b read = record { size = read.size; empty = λ c spells none. subst (λ (x : Block). IsRead x bytes) (one_block b c bytes read.read spells) read }
 
--- what is kept beside the bytes of a block that was read
-pub is_held : (b : ref.Inside) (header_text body_text : List ℕ) → IsRead (borrowed_block b) b.bytes.now → b.hash.bytes ≡ sha256 header_text → b.body_size ≡ length body_text
-    → header_text ≡ text_of (item_of_header (header_of b.header)) → body_text ≡ text_of (item_of_transactions b.transactions.items) → IsHeldRef b
+-- what is known of a block that was read
+pub are_facts : (facts : Facts) (ts : List Transaction) (bytes header_text body_text : List ℕ) → IsRead (block_of facts ts) bytes → facts.hash.bytes ≡ sha256 header_text → facts.body_size ≡ length body_text
+    → header_text ≡ text_of (item_of_header (header_of facts.header)) → body_text ≡ text_of (item_of_transactions ts) → AreFactsOf facts ts bytes
 unfolding block_hash_of body_size_of
-is_held b header_text body_text read hash size header_spelled body_spelled = record { read = read; hash = hash ∙ ap sha256 header_spelled; body_size = size ∙ ap length body_spelled }
+are_facts facts ts bytes header_text body_text read hash size header_spelled body_spelled = record { read = read; hash = hash ∙ ap sha256 header_spelled; body_size = size ∙ ap length body_spelled }
 
 -- so what was read is the block that its text spells
 pub read_text : (b : Block) (bytes : List ℕ) → IsRead b bytes → IsRead b (block_text b)

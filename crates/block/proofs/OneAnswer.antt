@@ -9,13 +9,11 @@ use Rattle.std.proofs.lemmas.Slice.Eq.{bytes_eq-Decides}
 use Rattle.model.specs.Limits.{block_size_limit}
 use Rattle.model.specs.Block.{Block, SpellsBlock, block_text, body_hash_of}
 use Rattle.model.proofs.BlockTexts.{one_block, block_text_is}
-use Rattle.block.specs.declared.fault.NoBlock.{NoBlock}
-use Rattle.block.specs.declared.fault.NoBlock.TheVariants as none
 use Rattle.block.specs.declared.fault.ReadFault.{ReadFault}
 use Rattle.block.specs.declared.fault.ReadFault.TheVariants.{TooLarge, Malformed, BodyHashMismatch, OutOfMemory}
 use Rattle.cbor.proofs.ForCallers.{IsBytes}
 use Rattle.block.specs.Reading.{block_at}
-use Rattle.block.specs.Read.{IsRead, IsMismatched, IsReadFault, IsNoBlock}
+use Rattle.block.specs.Read.{IsRead, IsMismatched, IsReadFault}
 use Rattle.block.proofs.Blocks.{block_takes, no_block}
 
 -- one block
@@ -34,13 +32,6 @@ not_both bytes b TooLarge p large = absurd (omega (arith, p.size, large))
 not_both bytes b Malformed p f = absurd (f.no_block b p.read)
 not_both bytes b BodyHashMismatch p f = absurd (right_body bytes b p f)
 not_both bytes b OutOfMemory p f = refl
-
--- bytes that are read as a block without transactions are no others
-pub is_no_other : (bytes : List ℕ) (b : Block) (e : NoBlock) → IsRead b bytes → b.transactions ≡ [] → IsNoBlock bytes e → ⊥
-is_no_other bytes b none.TooLarge p empty large = omega (arith, p.size, large)
-is_no_other bytes b none.Malformed p empty f = f.no_block b p.read
-is_no_other bytes b none.BodyHashMismatch p empty f = right_body bytes b p f
-is_no_other bytes b none.OutOfMemory p empty f = f.full b p.read empty
 
 -- one fault
 pub same_fault : (bytes : List ℕ) (e f : ReadFault) → IsReadFault bytes e → IsReadFault bytes f → e ≢ OutOfMemory → f ≢ OutOfMemory → e ≡ f

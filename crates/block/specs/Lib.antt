@@ -2,10 +2,7 @@ pub mod View
 pub mod Reading
 pub mod Read
 pub mod PartsView
-pub mod PartsOf
-pub mod Held
-pub mod HeldRef
-pub mod HeldChecked
+pub mod Facts
 pub mod HeldSeen
 pub mod Written
 pub mod Same

@@ -2,8 +2,6 @@
 use Rattle.std.specs.Prelude.{◌≡◌, ◌≢◌, ℕ, ◌≤◌, ◌<◌, List, [], length}
 use Rattle.model.specs.Limits.{block_size_limit}
 use Rattle.model.specs.Block.{Block, SpellsBlock, body_hash_of}
-use Rattle.block.specs.declared.fault.NoBlock.{NoBlock}
-use Rattle.block.specs.declared.fault.NoBlock.TheVariants as none
 use Rattle.block.specs.declared.fault.BadBytes.{BadBytes}
 use Rattle.block.specs.declared.fault.BadBytes.TheVariants as bad
 use Rattle.block.specs.declared.fault.ReadFault.{ReadFault}
@@ -33,13 +31,6 @@ pub record IsUnread (bytes : List ℕ) : Type 0 where
   pub size : length bytes ≤ block_size_limit
   pub full : (b : Block) → SpellsBlock b bytes → b.transactions ≡ [] → ⊥
 
--- when bytes are no block: the first reason that applies, or want of memory
-abbrev pub IsNoBlock : List ℕ → NoBlock → Type 0
-IsNoBlock bytes none.TooLarge = block_size_limit < length bytes
-IsNoBlock bytes none.Malformed = IsMalformed bytes
-IsNoBlock bytes none.BodyHashMismatch = IsMismatched bytes
-IsNoBlock bytes none.OutOfMemory = IsUnread bytes
-
 -- when each reason comes why bytes are no block, whatever the memory: the first one that applies
 abbrev pub IsBadBytes : List ℕ → BadBytes → Type 0
 IsBadBytes bytes bad.TooLarge = block_size_limit < length bytes
@@ -58,3 +49,9 @@ IsReadFault bytes TooLarge = block_size_limit < length bytes
 IsReadFault bytes Malformed = IsMalformed bytes
 IsReadFault bytes BodyHashMismatch = IsMismatched bytes
 IsReadFault bytes OutOfMemory = IsReadable bytes
+
+-- the fault that bad bytes are at a reading
+abbrev pub bad_fault : BadBytes → ReadFault
+bad_fault bad.TooLarge = TooLarge
+bad_fault bad.Malformed = Malformed
+bad_fault bad.BodyHashMismatch = BodyHashMismatch

@@ -2,12 +2,13 @@
 
 ghost use Rattle.std.specs.Prelude.{◌≡◌, ◌↔◌, [], option_map, IsTrue, IfOk, IfErr};
 ghost use Rattle.model.specs.Block.{block_text, block_hash_of, body_size_of};
-ghost use Rattle.block.specs.Reading.{block_with};
 ghost use Rattle.block.specs.View.{bytes_of, header_of};
 ghost use Rattle.block.specs.Read.{IsRead, IsReadFault};
+ghost use Rattle.block.specs.Facts.{block_of, AreFactsOf};
 
 use crate::block_ref::look;
-use crate::fault::{NoBlock, ReadFault};
+use crate::facts::Facts;
+use crate::fault::ReadFault;
 use crate::header::Header;
 use ident::{BlockHash, Point};
 use std::alloc::{AllocError, Global};
@@ -20,9 +21,7 @@ use tx::Tx;
 #[derive(Drop)]
 struct Inner {
     bytes: Vec<u8>,
-    hash: BlockHash,
-    header: Header,
-    body_size: usize,
+    facts: Facts,
     transactions: Vec<Tx>,
 }
 
@@ -40,11 +39,12 @@ impl Model for Block {
 
     ghost coded = { coded_block };
 
-    ghost use Rattle.block.specs.Held.{block_of, IsHeld};
+    ghost use Rattle.block.specs.Facts.{block_of, AreFactsOf};
 
-    ghost view = { block_of };
+    ghost view = { λ b. block_of b.inner.value.facts b.inner.value.transactions.items };
 
-    ghost invariant = { IsHeld };
+    ghost invariant = { λ b.
+        AreFactsOf b.inner.value.facts b.inner.value.transactions.items b.inner.value.bytes.items };
 }
 
 impl Block {
@@ -60,42 +60,42 @@ impl Block {
     pub fn hash(&self) -> BlockHash
         ensures { result.bytes ≡ block_hash_of self.now }
     {
-        self.inner.hash
+        self.inner.facts.hash
     }
 
     /// The header of the block.
     pub fn header(&self) -> &Header
         ensures { header_of result.now ≡ self.now.header }
     {
-        &self.inner.header
+        &self.inner.facts.header
     }
 
     /// How many blocks the chain has up to this one, below 2^63.
     pub fn number(&self) -> u64
         ensures { result ≡ self.now.header.number }
     {
-        self.inner.header.number
+        self.inner.facts.header.number
     }
 
     /// The slot of time in which the block was made, below 2^63.
     pub fn slot(&self) -> u64
         ensures { result ≡ self.now.header.slot }
     {
-        self.inner.header.slot
+        self.inner.facts.header.slot
     }
 
     /// The hash of the block before, None for the first block of a chain.
     pub fn previous(&self) -> Option<BlockHash>
         ensures { option_map bytes_of result ≡ self.now.header.previous }
     {
-        self.inner.header.previous
+        self.inner.facts.header.previous
     }
 
     /// The size of the body's text, in bytes.
     pub fn body_size(&self) -> usize
         ensures { result ≡ body_size_of self.now }
     {
-        self.inner.body_size
+        self.inner.facts.body_size
     }
 
     /// The transactions of the block, in order. Copies nothing.
@@ -121,7 +121,7 @@ impl Block {
     {
         Point {
             number: self.number(),
-            hash: self.inner.hash,
+            hash: self.inner.facts.hash,
         }
     }
 
@@ -161,48 +161,25 @@ impl fmt::Debug for Block {
     }
 }
 
-/// What the owners of a block share, with a copy of its bytes.
-fn share(
-    alloc: Global,
-    bytes: &[u8],
-    hash: BlockHash,
-    header: Header,
-    body_size: usize,
-    transactions: Vec<Tx>,
-) -> Result<Arc<Inner>, AllocError>
-    ensures header { IfOk result (λ inner. inner.value.header ≡ header) }
-    ensures bytes { IfOk result (λ inner. inner.value.bytes.items ≡ bytes.now) }
-    ensures hash { IfOk result (λ inner. inner.value.hash ≡ hash) }
-    ensures body_size { IfOk result (λ inner. inner.value.body_size ≡ body_size) }
-    ensures transactions { IfOk result (λ inner. inner.value.transactions.items ≡ transactions.items) }
-{
-    let inner = Inner {
-        bytes: Vec::from_slice(alloc, bytes)?,
-        hash,
-        header,
-        body_size,
-        transactions,
-    };
-    Ok(Arc::new(alloc, inner)?)
-}
-
 impl Block {
-    /// A block of its own with these parts.
+    /// A block of its own of these bytes and what they were read as, which are moved in.
     pub(crate) fn of_parts(
         alloc: Global,
-        bytes: &[u8],
-        hash: BlockHash,
-        header: Header,
-        body_size: usize,
+        bytes: Vec<u8>,
+        facts: Facts,
         transactions: Vec<Tx>,
     ) -> Result<Block, AllocError>
-        requires read { IsRead (block_with (header_of header, transactions.items)) bytes.now }
-        requires hash { hash.bytes ≡ block_hash_of (block_with (header_of header, transactions.items)) }
-        requires body_size { body_size ≡ body_size_of (block_with (header_of header, transactions.items)) }
-        ensures { IfOk result (λ b. b ≡ block_with (header_of header, transactions.items)) }
+        requires { AreFactsOf facts transactions.items bytes.items }
+        ensures { IfOk result (λ b. b ≡ block_of facts transactions.items) }
     {
-        let inner = share(alloc, bytes, hash, header, body_size, transactions)?;
-        Ok(Block { inner })
+        let inner = Inner {
+            bytes,
+            facts,
+            transactions,
+        };
+        Ok(Block {
+            inner: Arc::new(alloc, inner)?,
+        })
     }
 }
 
@@ -224,15 +201,8 @@ pub fn read(alloc: Global, bytes: &[u8]) -> Result<Block, ReadFault>
     ensures ok { IfOk result (λ b. IsRead b bytes.now) }
     ensures fault { IfErr result (λ e. IsReadFault bytes.now e) }
 {
-    let found = match look(alloc, bytes) {
-        Ok(found) => found,
-        Err(NoBlock::TooLarge) => return Err(ReadFault::TooLarge),
-        Err(NoBlock::Malformed) => return Err(ReadFault::Malformed),
-        Err(NoBlock::BodyHashMismatch) => return Err(ReadFault::BodyHashMismatch),
-        Err(NoBlock::OutOfMemory) => return Err(ReadFault::OutOfMemory),
-    };
-    match found.into_block(alloc) {
-        Ok(block) => Ok(block),
-        Err(AllocError) => Err(ReadFault::OutOfMemory),
+    match look(alloc, bytes)? {
+        Ok(found) => Ok(found.into_block(alloc)?),
+        Err(bad) => Err(ReadFault::from(bad)),
     }
 }

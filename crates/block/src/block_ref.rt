@@ -1,15 +1,14 @@
 //! Blocks in bytes that are borrowed.
 
-ghost use Rattle.std.specs.Prelude.{◌≡◌, ◌↔◌, ℕ, List, IsTrue, IfOk, IfErr};
+ghost use Rattle.std.specs.Prelude.{◌≡◌, ◌↔◌, ℕ, List, IsTrue, IfOk, IfErr, OnErr};
 ghost use Rattle.model.specs.Block.{block_hash_of};
-ghost use Rattle.block.specs.Read.{IsRead, IsNoBlock};
-ghost use Rattle.block.specs.PartsOf.{ArePartsOf};
+ghost use Rattle.block.specs.Read.{IsRead, IsBadBytes, IsUnread};
+ghost use Rattle.block.specs.Facts.{AreFactsOf};
 
 use crate::block::Block;
-use crate::block_parts::BlockParts;
 use crate::checked_block::{CheckedBlock, check_all};
-use crate::fault::NoBlock;
-use crate::header::Header;
+use crate::facts::Facts;
+use crate::fault::BadBytes;
 use crate::reading;
 use cbor::CborFault;
 use ident::{BlockHash, BodyHash, Point};
@@ -25,9 +24,7 @@ pub const MAX_BLOCK_SIZE: usize = 1_048_576;
 #[derive(Drop)]
 pub struct BlockRef<'a> {
     bytes: &'a [u8],
-    hash: BlockHash,
-    header: Header,
-    body_size: usize,
+    facts: Facts,
     transactions: Vec<Tx>,
 }
 
@@ -39,11 +36,11 @@ impl<'a> Model for BlockRef<'a> {
 
     ghost coded = { coded_block };
 
-    ghost use Rattle.block.specs.HeldRef.{borrowed_block, IsHeldRef};
+    ghost use Rattle.block.specs.Facts.{block_of, AreFactsOf};
 
-    ghost view = { borrowed_block };
+    ghost view = { λ b. block_of b.facts b.transactions.items };
 
-    ghost invariant = { IsHeldRef };
+    ghost invariant = { λ b. AreFactsOf b.facts b.transactions.items b.bytes.now };
 }
 
 impl<'a> BlockRef<'a> {
@@ -58,14 +55,14 @@ impl<'a> BlockRef<'a> {
     pub fn hash(&self) -> BlockHash
         ensures { result.bytes ≡ block_hash_of self.now }
     {
-        self.hash
+        self.facts.hash
     }
 
     /// How many blocks the chain has up to this one, below 2^63.
     pub fn number(&self) -> u64
         ensures { result ≡ self.now.header.number }
     {
-        self.header.number
+        self.facts.header.number
     }
 
     /// The place of the block on its chain: its number and its hash.
@@ -74,35 +71,24 @@ impl<'a> BlockRef<'a> {
         ensures hash { result.hash.bytes ≡ block_hash_of self.now }
     {
         Point {
-            number: self.header.number,
-            hash: self.hash,
+            number: self.facts.header.number,
+            hash: self.facts.hash,
         }
     }
 
-    /// What was computed of the bytes, apart from them. The transactions are moved.
-    pub(crate) fn into_parts(self) -> BlockParts
-        ensures { (bytes : List ℕ) → IsRead self.entry bytes → ArePartsOf result bytes }
+    /// What is known of the block and its transactions, apart from the bytes. The transactions are moved.
+    pub(crate) fn into_parts(self) -> (Facts, Vec<Tx>)
+        ensures { (bytes : List ℕ) → IsRead self.entry bytes → AreFactsOf result.0 result.1.items bytes }
     {
-        BlockParts {
-            hash: self.hash,
-            header: self.header,
-            body_size: self.body_size,
-            transactions: self.transactions,
-        }
+        (self.facts, self.transactions)
     }
 
     /// The block with a copy of the bytes, in two allocations. Its transactions are moved.
     pub fn into_block(self, alloc: Global) -> Result<Block, AllocError>
         ensures { IfOk result (λ b. b ≡ self.entry) }
     {
-        Block::of_parts(
-            alloc,
-            self.bytes,
-            self.hash,
-            self.header,
-            self.body_size,
-            self.transactions,
-        )
+        let bytes = Vec::from_slice(alloc, self.bytes)?;
+        Block::of_parts(alloc, bytes, self.facts, self.transactions)
     }
 
     /// The block with a copy of the bytes and with the verdicts on its transactions, which are moved. One call of the
@@ -115,14 +101,7 @@ impl<'a> BlockRef<'a> {
     {
         let bytes = Vec::from_slice(alloc, self.bytes)?;
         let transactions = check_all(alloc, self.transactions)?;
-        CheckedBlock::of_parts(
-            alloc,
-            bytes,
-            self.hash,
-            self.header,
-            self.body_size,
-            transactions,
-        )
+        CheckedBlock::of_parts(alloc, bytes, self.facts, transactions)
     }
 }
 
@@ -133,29 +112,34 @@ fn is_same(a: &BodyHash, b: &BodyHash) -> bool
     a == b
 }
 
-/// The block that the bytes spell, or the first reason why they are none: [`crate::read`] without the copy. Memory is
-/// asked for while transactions are read, and by a block without transactions never. The cost grows with the bytes: one
-/// digest of the body's text, one of the header's, and those that identify transactions and scripts.
-pub fn look(alloc: Global, bytes: &[u8]) -> Result<BlockRef<'_>, NoBlock>
-    ensures ok { IfOk result (λ b. IsRead b bytes.now) }
-    ensures fault { IfErr result (λ e. IsNoBlock bytes.now e) }
+/// The block that the bytes spell, or the first reason why they are none: [`crate::read`] without the copy. Err where
+/// memory runs out, which is asked for while transactions are read, and by a block without transactions never. The cost
+/// grows with the bytes: one digest of the body's text, one of the header's, and those that identify transactions and
+/// scripts.
+pub fn look(alloc: Global, bytes: &[u8]) -> Result<Result<BlockRef<'_>, BadBytes>, AllocError>
+    ensures block { IfOk result (λ found. IfOk found (λ b. IsRead b bytes.now)) }
+    ensures bad { IfOk result (λ found. IfErr found (λ bad. IsBadBytes bytes.now bad)) }
+    ensures memory { OnErr result (IsUnread bytes.now) }
 {
     if bytes.len() > MAX_BLOCK_SIZE {
-        return Err(NoBlock::TooLarge);
+        return Ok(Err(BadBytes::TooLarge));
     }
     let parts = match reading::parts_of(alloc, bytes) {
         Ok(parts) => parts,
-        Err(CborFault::Malformed) => return Err(NoBlock::Malformed),
-        Err(CborFault::OutOfMemory) => return Err(NoBlock::OutOfMemory),
+        Err(CborFault::Malformed) => return Ok(Err(BadBytes::Malformed)),
+        Err(CborFault::OutOfMemory) => return Err(AllocError),
     };
     if !is_same(&BodyHash::of_body(parts.body_text), &parts.header.body_hash) {
-        return Err(NoBlock::BodyHashMismatch);
+        return Ok(Err(BadBytes::BodyHashMismatch));
     }
-    Ok(BlockRef {
-        bytes,
+    let facts = Facts {
         hash: BlockHash::of_header(parts.header_text),
         header: parts.header,
         body_size: parts.body_text.len(),
+    };
+    Ok(Ok(BlockRef {
+        bytes,
+        facts,
         transactions: parts.transactions,
-    })
+    }))
 }

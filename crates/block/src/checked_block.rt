@@ -5,12 +5,13 @@ ghost use Rattle.std.specs.List.{AllByRecursion};
 ghost use Rattle.model.specs.Limits.{number_limit};
 ghost use Rattle.model.specs.Transaction.{IsTransaction};
 ghost use Rattle.model.specs.Block.{block_text, block_hash_of, body_size_of};
-ghost use Rattle.block.specs.Reading.{block_with};
 ghost use Rattle.block.specs.View.{bytes_of, header_of};
 ghost use Rattle.block.specs.Read.{IsRead, IsReadFault};
+ghost use Rattle.block.specs.Facts.{block_of, AreFactsOf};
 
 use crate::block_ref::look;
-use crate::fault::{NoBlock, ReadFault};
+use crate::facts::Facts;
+use crate::fault::ReadFault;
 use crate::header::Header;
 use ident::{BlockHash, Point};
 use std::alloc::{AllocError, Global};
@@ -24,9 +25,7 @@ use witness_pool::{CheckedTx, SigScheme, plain};
 #[derive(Drop)]
 struct CheckedInner<S: SigScheme> {
     bytes: Vec<u8>,
-    hash: BlockHash,
-    header: Header,
-    body_size: usize,
+    facts: Facts,
     transactions: Vec<CheckedTx<S>>,
 }
 
@@ -45,11 +44,12 @@ impl<S: SigScheme> Model for CheckedBlock<S> {
 
     ghost coded = { coded_block };
 
-    ghost use Rattle.block.specs.HeldChecked.{checked_block, IsHeldChecked};
+    ghost use Rattle.block.specs.Facts.{block_of, AreFactsOf};
 
-    ghost view = { checked_block };
+    ghost view = { λ b. block_of b.inner.value.facts b.inner.value.transactions.items };
 
-    ghost invariant = { IsHeldChecked };
+    ghost invariant = { λ b.
+        AreFactsOf b.inner.value.facts b.inner.value.transactions.items b.inner.value.bytes.items };
 }
 
 impl<S: SigScheme> CheckedBlock<S> {
@@ -65,21 +65,21 @@ impl<S: SigScheme> CheckedBlock<S> {
     pub fn hash(&self) -> BlockHash
         ensures { result.bytes ≡ block_hash_of self.now }
     {
-        self.inner.hash
+        self.inner.facts.hash
     }
 
     /// The header of the block.
     pub fn header(&self) -> &Header
         ensures { header_of result.now ≡ self.now.header }
     {
-        &self.inner.header
+        &self.inner.facts.header
     }
 
     /// How many blocks the chain has up to this one, below 2^63.
     pub fn number(&self) -> u64
         ensures { result ≡ self.now.header.number }
     {
-        self.inner.header.number
+        self.inner.facts.header.number
     }
 
     /// The slot of time in which the block was made, below 2^63.
@@ -87,21 +87,21 @@ impl<S: SigScheme> CheckedBlock<S> {
         ensures slot { result ≡ self.now.header.slot }
         ensures small { result < number_limit }
     {
-        self.inner.header.slot
+        self.inner.facts.header.slot
     }
 
     /// The hash of the block before, None for the first block of a chain.
     pub fn previous(&self) -> Option<BlockHash>
         ensures { option_map bytes_of result ≡ self.now.header.previous }
     {
-        self.inner.header.previous
+        self.inner.facts.header.previous
     }
 
     /// The size of the body's text, in bytes.
     pub fn body_size(&self) -> usize
         ensures { result ≡ body_size_of self.now }
     {
-        self.inner.body_size
+        self.inner.facts.body_size
     }
 
     /// The transactions of the block with their verdicts, in order. Copies nothing.
@@ -127,7 +127,7 @@ impl<S: SigScheme> CheckedBlock<S> {
     {
         Point {
             number: self.number(),
-            hash: self.inner.hash,
+            hash: self.inner.facts.hash,
         }
     }
 
@@ -153,16 +153,9 @@ impl<S: SigScheme> CheckedBlock<S> {
         ensures ok { IfOk result (λ b. IsRead b bytes.now) }
         ensures fault { IfErr result (λ e. IsReadFault bytes.now e) }
     {
-        let found = match look(alloc, bytes) {
-            Ok(found) => found,
-            Err(NoBlock::TooLarge) => return Err(ReadFault::TooLarge),
-            Err(NoBlock::Malformed) => return Err(ReadFault::Malformed),
-            Err(NoBlock::BodyHashMismatch) => return Err(ReadFault::BodyHashMismatch),
-            Err(NoBlock::OutOfMemory) => return Err(ReadFault::OutOfMemory),
-        };
-        match found.into_checked_block(alloc) {
-            Ok(block) => Ok(block),
-            Err(AllocError) => Err(ReadFault::OutOfMemory),
+        match look(alloc, bytes)? {
+            Ok(found) => Ok(found.into_checked_block(alloc)?),
+            Err(bad) => Err(ReadFault::from(bad)),
         }
     }
 }
@@ -213,25 +206,19 @@ pub fn check_all<S: SigScheme>(
 }
 
 impl<S: SigScheme> CheckedBlock<S> {
-    /// A block of its own with these parts, which are moved in.
+    /// A block of its own of these bytes and what they were read as, which are moved in.
     pub(crate) fn of_parts(
         alloc: Global,
         bytes: Vec<u8>,
-        hash: BlockHash,
-        header: Header,
-        body_size: usize,
+        facts: Facts,
         transactions: Vec<CheckedTx<S>>,
     ) -> Result<CheckedBlock<S>, AllocError>
-        requires read { IsRead (block_with (header_of header, transactions.items)) bytes.items }
-        requires hash { hash.bytes ≡ block_hash_of (block_with (header_of header, transactions.items)) }
-        requires body_size { body_size ≡ body_size_of (block_with (header_of header, transactions.items)) }
-        ensures { IfOk result (λ b. b ≡ block_with (header_of header, transactions.items)) }
+        requires { AreFactsOf facts transactions.items bytes.items }
+        ensures { IfOk result (λ b. b ≡ block_of facts transactions.items) }
     {
         let inner = CheckedInner {
             bytes,
-            hash,
-            header,
-            body_size,
+            facts,
             transactions,
         };
         Ok(CheckedBlock {

@@ -4,27 +4,10 @@ ghost use Rattle.std.specs.Prelude.{◌≡◌};
 ghost use Rattle.block.specs.declared.fault.ReadFault.TheVariants as read;
 ghost use Rattle.block.specs.declared.fault.WriteFault.TheVariants as write;
 ghost use Rattle.block.specs.declared.fault.NoText.TheVariants as text;
+ghost use Rattle.block.specs.Read.{bad_fault};
 
 use std::alloc::AllocError;
 use thiserror::Error;
-
-/// Why bytes are no block, in the order in which the reasons are looked for.
-#[derive(Clone, Copy, Debug, PartialEq, Eq, Error)]
-pub enum NoBlock {
-    /// There are more than 1,048,576 bytes.
-    #[error("the block is larger than 1048576 bytes")]
-    TooLarge,
-    /// The bytes are the text of no block.
-    #[error("the bytes are no block")]
-    Malformed,
-    /// The header names another body hash than the body's.
-    #[error("the body has another hash than the header names")]
-    BodyHashMismatch,
-    /// Memory ran out while transactions were read: the bytes are not too many, and not the text of a block without
-    /// any.
-    #[error("out of memory")]
-    OutOfMemory,
-}
 
 /// Why bytes are no block, whatever the memory, in the order in which the reasons are looked for.
 #[derive(Clone, Copy, Debug, PartialEq, Eq, Error)]
@@ -88,6 +71,18 @@ impl From<AllocError> for ReadFault {
 
     fn from(_error: AllocError) -> ReadFault {
         ReadFault::OutOfMemory
+    }
+}
+
+impl From<BadBytes> for ReadFault {
+    ghost from_gives = { λ bad e. e ≡ bad_fault bad };
+
+    fn from(bad: BadBytes) -> ReadFault {
+        match bad {
+            BadBytes::TooLarge => ReadFault::TooLarge,
+            BadBytes::Malformed => ReadFault::Malformed,
+            BadBytes::BodyHashMismatch => ReadFault::BodyHashMismatch,
+        }
     }
 }
 

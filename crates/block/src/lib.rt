@@ -2,9 +2,9 @@
 #![tactic(auto)]
 
 mod block;
-mod block_parts;
 mod block_ref;
 mod checked_block;
+mod facts;
 mod fault;
 mod full;
 mod header;
@@ -16,7 +16,7 @@ mod writing;
 pub use block::{Block, read};
 pub use block_ref::{BlockRef, MAX_BLOCK_SIZE, look};
 pub use checked_block::CheckedBlock;
-pub use fault::{BadBytes, NoBlock, NoText, ReadFault, WriteFault};
+pub use fault::{BadBytes, NoText, ReadFault, WriteFault};
 pub use full::{write, write_with_body, write_with_hash};
 pub use header::{Header, NUMBER_LIMIT};
 pub use laws::one_answer;

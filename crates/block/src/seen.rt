@@ -2,14 +2,12 @@
 
 ghost use Rattle.std.specs.Prelude.{◌≡◌, IfOk, IfErr, OnOk, OnErr};
 ghost use Rattle.model.specs.Block.{block_text};
-ghost use Rattle.block.specs.Read.{IsRead, IsBadBytes, IsUnread, IsReadable};
-ghost use Rattle.block.specs.PartsOf.{ArePartsOf};
+ghost use Rattle.block.specs.Read.{IsRead, IsBadBytes, IsReadable};
 ghost use Rattle.witness_pool.specs.Workers.{AreWorkers, IsPoolFault};
 
-use crate::block_parts::BlockParts;
 use crate::block_ref::look;
 use crate::checked_block::{CheckedBlock, check_all};
-use crate::fault::{BadBytes, NoBlock};
+use crate::fault::BadBytes;
 use std::alloc::{AllocError, Global};
 use std::marker::Model;
 use std::thread::Threads;
@@ -46,21 +44,6 @@ impl<S: SigScheme> Model for Seen<S> {
     ghost invariant = { IsHeldSeen };
 }
 
-/// What was computed of the bytes of a block, or why they are none. Memory is asked for while transactions are read.
-fn take_apart(alloc: Global, bytes: &[u8]) -> Result<Result<BlockParts, BadBytes>, AllocError>
-    ensures parts { IfOk result (λ found. IfOk found (λ parts. ArePartsOf parts bytes.now)) }
-    ensures bad { IfOk result (λ found. IfErr found (λ bad. IsBadBytes bytes.now bad)) }
-    ensures memory { OnErr result (IsUnread bytes.now) }
-{
-    match look(alloc, bytes) {
-        Ok(found) => Ok(Ok(found.into_parts())),
-        Err(NoBlock::TooLarge) => Ok(Err(BadBytes::TooLarge)),
-        Err(NoBlock::Malformed) => Ok(Err(BadBytes::Malformed)),
-        Err(NoBlock::BodyHashMismatch) => Ok(Err(BadBytes::BodyHashMismatch)),
-        Err(NoBlock::OutOfMemory) => Err(AllocError),
-    }
-}
-
 impl<S: SigScheme> Seen<S> {
     /// The bytes with what they are read as, on this thread. The bytes are moved in and never copied. Err where memory
     /// runs out: bytes that are refused take none, but for the transactions that are read before that is known.
@@ -78,17 +61,11 @@ impl<S: SigScheme> Seen<S> {
         // Memory is asked for while transactions are read, and else only for a block that was read.
         ensures memory { OnErr result (IsReadable bytes.items) }
     {
-        match take_apart(alloc, &bytes)? {
-            Ok(parts) => {
-                let transactions = check_all(alloc, parts.transactions)?;
-                let block = CheckedBlock::of_parts(
-                    alloc,
-                    bytes,
-                    parts.hash,
-                    parts.header,
-                    parts.body_size,
-                    transactions,
-                )?;
+        match look(alloc, &bytes)? {
+            Ok(found) => {
+                let (facts, transactions) = found.into_parts();
+                let transactions = check_all(alloc, transactions)?;
+                let block = CheckedBlock::of_parts(alloc, bytes, facts, transactions)?;
                 Ok(Seen::of_block(block))
             }
             Err(bad) => Ok(Seen::of_bad(bad, bytes)),
@@ -158,17 +135,11 @@ impl<S: SigScheme + Send> Seen<S> {
         if workers == 0 || workers > MAX_WORKERS {
             return Err(PoolFault::BadWorkers);
         }
-        match take_apart(alloc, &bytes)? {
-            Ok(parts) => {
-                let transactions = pool.check(rt, alloc, workers, parts.transactions)?;
-                let block = CheckedBlock::of_parts(
-                    alloc,
-                    bytes,
-                    parts.hash,
-                    parts.header,
-                    parts.body_size,
-                    transactions,
-                )?;
+        match look(alloc, &bytes)? {
+            Ok(found) => {
+                let (facts, transactions) = found.into_parts();
+                let transactions = pool.check(rt, alloc, workers, transactions)?;
+                let block = CheckedBlock::of_parts(alloc, bytes, facts, transactions)?;
                 Ok(Seen::of_block(block))
             }
             Err(bad) => Ok(Seen::of_bad(bad, bytes)),

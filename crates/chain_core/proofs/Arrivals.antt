@@ -3,9 +3,11 @@ use Rattle.std.proofs.Common.{◌≡◌, ◌≢◌, ℕ, ◌-◌, length, arith,
 use Rattle.std.specs.List.{AllByRecursion}
 use Rattle.std.proofs.lemmas.Bool.{cases_lt}
 use Rattle.std.proofs.lemmas.List.{length-map}
-use Rattle.block.specs.Read.{IsRead}
+use Rattle.block.specs.declared.fault.BadBytes.{BadBytes}
+use Rattle.block.specs.Read.{IsRead, IsBadBytes}
 use Rattle.model.specs.Block.{Block, block_hash_of}
 use Rattle.model.specs.Genesis.{Genesis}
+use Rattle.model.specs.Signature.{Verifies}
 use Rattle.model.specs.Ledger.{Network, network_on}
 use Rattle.model.specs.Chain.{IsSelection, Stays, Changes, immutable_length}
 use Rattle.model.specs.Transaction.{Transaction}
@@ -13,7 +15,7 @@ use Rattle.model.specs.Mempool.{Submits, revalidated}
 use Rattle.followers.specs.Places.{Places, moved_places}
 use Rattle.followers.specs.Standing.{ArePlacesOf}
 use Rattle.followers.proofs.ForCallers.{the_lengths}
-use Rattle.model.specs.History.{State, Refusal, TooOld, Known, Clash, VolatileFull, Applies, Arrive, Submit, Kept, Refused, IsChange, Keeps, Step}
+use Rattle.model.specs.History.{State, Refusal, TooOld, Known, Clash, VolatileFull, Applies, Arrive, Submit, Kept, Refused, IsRefused, IsChange, Keeps, Step}
 use Rattle.model.proofs.Lists.{all_from_members, all_weaker, contains_later}
 use Rattle.std.specs.Prelude.{IfOk, OnErr}
 use Rattle.std.specs.declared.alloc.AllocError.{AllocError}
@@ -29,9 +31,12 @@ use Rattle.chainsel.proofs.ForCallers.{settled_live}
 use Rattle.chain_core.specs.declared.chain_db.ChainDb.{ChainDb}
 use Rattle.chain_core.specs.declared.chain_db.Change.{Change}
 use Rattle.chain_core.specs.ChainDbs.{IsWhole, HasState, IsAdded, IsTaken}
-use Rattle.chain_core.specs.Views.{submit_reply_of}
+use Rattle.chain_core.specs.declared.refusal.Refusal as code
+use Rattle.chain_core.specs.Views.{refusal_of, bad_refusal, submit_reply_of}
+use Rattle.chain_core.specs.Steps.{Steps}
 use Rattle.chain_core.specs.Held.{Held, Stands, held_of, network_held}
 use Rattle.chain_core.specs.Judgements.{IsFirstRefusal}
+use Rattle.chain_core.proofs.Refusals.{bad_refused}
 
 -- ---- a block to which no refusal applies may be put in
 
@@ -71,6 +76,11 @@ state_of network a followers s stands = record {
 -- the block is judged so beside each state
 abbrev pub IsFirstRefusalAt : {S : Type 0} → Network → ChainDb S → Block → Option Refusal → Type 0
 IsFirstRefusalAt network a b answer = (s : State) → HasState network a s → IsFirstRefusal network s b answer
+
+-- bytes that are no block are refused
+pub bad_arrival : (verifies : Verifies) (now : Held) (bytes : List ℕ) (why : BadBytes) (refusal : code.Refusal) → refusal ≡ bad_refusal why → IsBadBytes bytes why → Steps verifies now (Arrive bytes) (Refused (refusal_of refusal)) now
+bad_arrival verifies now bytes why refusal is bad s stands =
+    (s, (subst (λ (r : code.Refusal). IsRefused (network_held now verifies) s bytes (refusal_of r)) (sym is) (bad_refused (network_held now verifies) s bytes why bad), refl), stands)
 
 -- a refusal
 pub refused_arrival : {S : Type 0} (network : Network) (a : ChainDb S) (followers : Places) (now : Held) (bytes : List ℕ) (b : Block) (r : Refusal) → held_of network.genesis network.opened (blocks_of a.store) a.chain.items a.mempool.waiting.txs followers ≡ now → IsRead b bytes

@@ -1,8 +1,11 @@
 -- From what is found among the blocks to the first refusal that applies.
-use Rattle.std.proofs.Common.{◌≡◌, ℕ, ◌<◌, ◌≤◌, ◌↔◌, List, Contains, refl, sym, ap, subst, ◌∙◌, arith, inl, inr, ◌⊎◌, lit<}
+use Rattle.std.proofs.Common.{◌≡◌, ℕ, ◌<◌, ◌≤◌, ◌↔◌, List, length, Contains, refl, sym, ap, subst, ◌∙◌, arith, inl, inr, ◌⊎◌, lit<}
 use Rattle.std.specs.Prelude.{Any, Some, None}
-use Rattle.block.specs.Read.{IsRead}
-use Rattle.model.specs.Block.{Block, block_hash_of, block_text, body_hash_of}
+use Rattle.block.specs.declared.fault.BadBytes.{BadBytes}
+use Rattle.block.specs.declared.fault.BadBytes.TheVariants as bad
+use Rattle.block.specs.Read.{IsRead, IsBadBytes}
+use Rattle.model.specs.Limits.{block_size_limit}
+use Rattle.model.specs.Block.{Block, SpellsBlock, block_hash_of, block_text, body_hash_of}
 use Rattle.model.specs.Ledger.{Network}
 use Rattle.model.specs.Chain.{immutable_length}
 use Rattle.model.specs.History.{State, Refusal, TooLarge, Malformed, BodyHashMismatch, TooOld, Known, Clash, VolatileFull, refusal_number, Applies, IsRefused}
@@ -16,6 +19,7 @@ use Rattle.blockstore.specs.Answers.{HasNoneAt, IsAt}
 use Rattle.blockstore.proofs.ForCallers.{HoldsState, IsChainClash, known_over, clash_over, full_over}
 use Rattle.chain_core.specs.declared.chain_db.ChainDb.{ChainDb}
 use Rattle.chain_core.specs.ChainDbs.{IsWhole, HasState}
+use Rattle.chain_core.specs.Views.{refusal_of, bad_refusal}
 use Rattle.chain_core.specs.Judgements.{IsClashWith, IsFirstRefusal}
 
 pub refused_by : (network : Network) (s : State) (bytes : List ℕ) (r : Refusal) → NoneBelow refusal_number (Applies network s bytes) (refusal_number r) → Applies network s bytes r → IsRefused network s bytes r
@@ -30,17 +34,41 @@ at_most_7 Known = lit< tt
 at_most_7 Clash = lit< tt
 at_most_7 VolatileFull = lit< tt
 
+-- ---- of bytes, whether or not they are read as a block
+
+-- no refusal stands before the first
+none_before : (network : Network) (s : State) (bytes : List ℕ) → NoneBelow refusal_number (Applies network s bytes) 1
+none_before network s bytes TooLarge lower applies = omega arith
+none_before network s bytes Malformed lower applies = omega arith
+none_before network s bytes BodyHashMismatch lower applies = omega arith
+none_before network s bytes TooOld lower applies = omega arith
+none_before network s bytes Known lower applies = omega arith
+none_before network s bytes Clash lower applies = omega arith
+none_before network s bytes VolatileFull lower applies = omega arith
+
+-- of bytes that are not too many the first doesn't apply
+not_large : (network : Network) (s : State) (bytes : List ℕ) → length bytes ≤ block_size_limit → NoneBelow refusal_number (Applies network s bytes) 2
+not_large network s bytes size =
+    none_below_next refusal_number (Applies network s bytes) one_number TooLarge (none_before network s bytes) (λ (large : block_size_limit < length bytes). omega (arith, size, large))
+
+-- nor the second, where they spell a block
+not_malformed : (network : Network) (s : State) (bytes : List ℕ) (b : Block) → length bytes ≤ block_size_limit → SpellsBlock b bytes → NoneBelow refusal_number (Applies network s bytes) 3
+not_malformed network s bytes b size spells =
+    none_below_next refusal_number (Applies network s bytes) one_number Malformed (not_large network s bytes size) (λ none. none b spells)
+
+-- bad bytes are refused for what is bad
+pub bad_refused : (network : Network) (s : State) (bytes : List ℕ) (why : BadBytes) → IsBadBytes bytes why → IsRefused network s bytes (refusal_of (bad_refusal why))
+bad_refused network s bytes bad.TooLarge large = refused_by network s bytes TooLarge (none_before network s bytes) large
+bad_refused network s bytes bad.Malformed is = refused_by network s bytes Malformed (not_large network s bytes is.size) is.no_block
+bad_refused network s bytes bad.BodyHashMismatch is =
+    refused_by network s bytes BodyHashMismatch (not_malformed network s bytes is.block is.size is.read) (is.block, is.read, is.body)
+
 -- ---- of bytes that were read as a block
 
 pub none_of_reading : (network : Network) (s : State) (b : Block) (bytes : List ℕ) → IsRead b bytes → NoneBelow refusal_number (Applies network s bytes) 4
-none_of_reading network s b bytes read TooLarge lower applies = let size = read.size in omega arith
-none_of_reading network s b bytes read Malformed lower applies = applies b read.read
-none_of_reading network s b bytes read BodyHashMismatch lower applies =
-    applies.2 (subst (λ (c : Block). c.header.body_hash ≡ body_hash_of c.transactions) (one_block b applies.0 bytes read.read applies.1) read.body)
-none_of_reading network s b bytes read TooOld lower applies = omega arith
-none_of_reading network s b bytes read Known lower applies = omega arith
-none_of_reading network s b bytes read Clash lower applies = omega arith
-none_of_reading network s b bytes read VolatileFull lower applies = omega arith
+none_of_reading network s b bytes read =
+    none_below_next refusal_number (Applies network s bytes) one_number BodyHashMismatch (not_malformed network s bytes b read.size read.read)
+    (λ applies. applies.2 (subst (λ (c : Block). c.header.body_hash ≡ body_hash_of c.transactions) (one_block b applies.0 bytes read.read applies.1) read.body))
 
 old_applies : (network : Network) (s : State) (b : Block) (bytes : List ℕ) → IsRead b bytes → Applies network s bytes TooOld ↔ (b.header.number ≤ immutable_length network s.chain)
 old_applies network s b bytes read = (

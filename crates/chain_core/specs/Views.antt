@@ -7,6 +7,8 @@ use Rattle.model.specs.History as history
 use Rattle.ident.specs.PointView.{point_of}
 use Rattle.ident.specs.declared.point.Point.{Point}
 use Rattle.mempool.specs.View.{reply_of as answer_of}
+use Rattle.block.specs.declared.fault.BadBytes.{BadBytes}
+use Rattle.block.specs.declared.fault.BadBytes.TheVariants as bad
 use Rattle.mempool.specs.declared.reply.SubmitReply.{SubmitReply}
 use Rattle.chain_core.specs.declared.refusal.Refusal.{Refusal}
 use Rattle.chain_core.specs.declared.refusal.Refusal.TheVariants.{TooLarge, Malformed, BodyHashMismatch, TooOld, Known}
@@ -36,6 +38,12 @@ refusal_of TooOld = history.TooOld
 refusal_of Known = history.Known
 refusal_of Clash = history.Clash
 refusal_of VolatileFull = history.VolatileFull
+
+-- the refusal of bytes that are no block
+abbrev pub bad_refusal : BadBytes → Refusal
+bad_refusal bad.TooLarge = TooLarge
+bad_refusal bad.Malformed = Malformed
+bad_refusal bad.BodyHashMismatch = BodyHashMismatch
 
 abbrev pub arrive_reply_of : Result ArriveReply AllocError → history.Reply
 arrive_reply_of (Ok (Kept back added)) = history.Kept back added

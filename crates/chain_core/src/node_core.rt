@@ -9,7 +9,7 @@ use crate::judging::first_refusal;
 use crate::place::{block_at, end_of, first_on};
 use crate::refusal::Refusal;
 use crate::reopening::{OpenedChain, ReopenFault, read_chain};
-use block::{BadBytes, CheckedBlock, NoBlock, Seen};
+use block::{CheckedBlock, Seen};
 use followers::{FollowerId, Followers, OpenFollowerFault, UnknownFollower};
 use genesis::Genesis;
 use ident::Point;
@@ -165,14 +165,9 @@ impl<S: SigScheme> Core<S> {
         ensures opened { self.new.opened ≡ self.old.opened }
         ensures err { OnErr result (self.new ≡ self.old) }
     {
-        let found = match block::look(self.alloc, bytes) {
+        let found = match block::look(self.alloc, bytes)? {
             Ok(found) => found,
-            Err(NoBlock::TooLarge) => return Ok(ArriveReply::Refused(Refusal::TooLarge)),
-            Err(NoBlock::Malformed) => return Ok(ArriveReply::Refused(Refusal::Malformed)),
-            Err(NoBlock::BodyHashMismatch) => {
-                return Ok(ArriveReply::Refused(Refusal::BodyHashMismatch));
-            }
-            Err(NoBlock::OutOfMemory) => return Err(AllocError),
+            Err(bad) => return Ok(ArriveReply::Refused(Refusal::from(bad))),
         };
         if let Some(refusal) = first_refusal(&self.chain_db, found.point(), found.bytes()) {
             return Ok(ArriveReply::Refused(refusal));
@@ -205,11 +200,7 @@ impl<S: SigScheme> Core<S> {
     {
         let block = match seen.into_result() {
             Ok(block) => block,
-            Err(BadBytes::TooLarge) => return Ok(ArriveReply::Refused(Refusal::TooLarge)),
-            Err(BadBytes::Malformed) => return Ok(ArriveReply::Refused(Refusal::Malformed)),
-            Err(BadBytes::BodyHashMismatch) => {
-                return Ok(ArriveReply::Refused(Refusal::BodyHashMismatch));
-            }
+            Err(bad) => return Ok(ArriveReply::Refused(Refusal::from(bad))),
         };
         if let Some(refusal) = first_refusal(&self.chain_db, block.point(), block.bytes()) {
             return Ok(ArriveReply::Refused(refusal));

@@ -2,9 +2,10 @@
 
 ghost use Rattle.std.specs.Prelude.{◌≡◌};
 ghost use Rattle.model.specs.History as history;
-ghost use Rattle.chain_core.specs.Views.{refusal_of};
+ghost use Rattle.chain_core.specs.Views.{refusal_of, bad_refusal};
 ghost use Rattle.chain_core.specs.Texts as texts;
 
+use block::BadBytes;
 use std::fmt;
 
 /// Why bytes are refused. The first reason that applies, in this order, is the one that is told.
@@ -54,6 +55,18 @@ impl Refusal {
             Refusal::Known => "Known",
             Refusal::Clash => "Clash",
             Refusal::VolatileFull => "VolatileFull",
+        }
+    }
+}
+
+impl From<BadBytes> for Refusal {
+    ghost from_gives = { λ bad refusal. refusal ≡ bad_refusal bad };
+
+    fn from(bad: BadBytes) -> Refusal {
+        match bad {
+            BadBytes::TooLarge => Refusal::TooLarge,
+            BadBytes::Malformed => Refusal::Malformed,
+            BadBytes::BodyHashMismatch => Refusal::BodyHashMismatch,
         }
     }
 }

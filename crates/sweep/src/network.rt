@@ -133,8 +133,8 @@ pub fn text_of(names: &Names, name: &str) -> Option<Vec<u8>> {
 /// The point of the block of this name.
 fn point_of(alloc: Global, names: &Names, name: &str) -> Option<Point> {
     match block::look(alloc, names.bytes_of(name.as_bytes())?) {
-        Ok(found) => Some(found.point()),
-        Err(_) => None,
+        Ok(Ok(found)) => Some(found.point()),
+        Ok(Err(_)) | Err(_) => None,
     }
 }
 

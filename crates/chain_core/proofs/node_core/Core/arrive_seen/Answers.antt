@@ -13,13 +13,17 @@ use Rattle.followers.specs.Places.{moved_places}
 use Rattle.chain_core.specs.ChainDbs.{IsWhole, HasState}
 use Rattle.chain_core.specs.Views.{refusal_of}
 use Rattle.chain_core.specs.Held.{held_of, network_held}
-use Rattle.chain_core.proofs.Arrivals.{at_rest, rests, may_be_added, IsFirstRefusalAt, refused_arrival, none_applies, kept_arrival}
+use Rattle.chain_core.proofs.Arrivals.{at_rest, rests, may_be_added, IsFirstRefusalAt, bad_arrival, refused_arrival, none_applies, kept_arrival}
 use Rattle.chain_core.specs.Inside.{held}
 use Rattle.chain_core.proofs.Adding.{whole_same}
 use Rattle.chain_core.proofs.Reached.{opened_is, reached_on, reached_still, steps_on}
 use Rattle.chain_core.proofs.node_core.Core.arrive_seen.Given as given
 use Rattle.chain_core.proofs.node_core.Core.arrive_seen.Goals as goal
 use Rattle.chain_core.proofs.node_core.Core.arrive_seen.Goals.{In_default}
+
+pub returns-in-Err-clause-step : goal.returns-in-Err-clause-step
+returns-in-Err-clause-step g c =
+    bad_arrival g.S.SigScheme.verifies c.args.self.now c.args.seen c.in-Err.bad c.from.result c.from.ensures c.in-Err.ensures.bad
 
 pub returns-in-Some-clause-step : goal.returns-in-Some-clause-step
 returns-in-Some-clause-step g c =
