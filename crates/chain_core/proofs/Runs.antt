@@ -60,7 +60,7 @@ ran_of verifies old (x ∷ xs) [] new calls s stands = absurd calls
 ran_of verifies old (x ∷ xs) (y ∷ ys) new calls s stands =
     let first = calls.1.step s stands in
     let rest = ran_of verifies calls.0 xs ys new calls.2 first.0 first.2 in
-    (rest.0, (first.0, first.1, subst (λ (n : Network). IsRun n first.0 (history_of xs ys) rest.0) (λ i. network_on (calls.1.genesis i) verifies (calls.1.opened i)) rest.1), rest.2)
+    (rest.0, (first.0, first.1, subst (λ (n : Network). IsRun n first.0 (history_of xs ys) rest.0) (λ i. network_on (calls.1.start.genesis i) verifies (calls.1.start.opened i)) rest.1), rest.2)
 
 -- a run from a core before anything came
 pub theorem_of : {S : Type 0} (network : Network) (old : Held) (events : List RawEvent) (replies : List (Reply S)) (new : Held) → IsOpening network → old ≡ opening_held network.genesis network.opened → Ran network.verifies old events replies new

@@ -11,7 +11,7 @@ use Rattle.chain_core.specs.declared.event.RawEvent.TheVariants as event
 use Rattle.chain_core.specs.declared.event.Reply.{Reply}
 use Rattle.chain_core.specs.declared.event.Reply.TheVariants as reply
 use Rattle.chain_core.specs.Held.{Held, Stands, network_held}
-use Rattle.chain_core.specs.Steps.{Steps}
+use Rattle.chain_core.specs.Steps.{Steps, KeepsStart}
 use Rattle.chain_core.specs.FollowerCalls.{IsWantAtOpen, IsWantAtNext}
 use Rattle.chain_core.specs.Views.{event_of, reply_of, IsReplyTo}
 
@@ -48,8 +48,7 @@ pub record IsCall {S : Type 0} (verifies : Verifies) (old : Held) (event : RawEv
   pub kind : IsReplyTo event reply
   pub step : Steps verifies old (event_of event) (reply_of reply) new
   pub want : IsWantAt verifies old event reply
-  pub genesis : new.genesis ≡ old.genesis
-  pub opened : new.opened ≡ old.opened
+  pub start : KeepsStart old new
   pub left : IsLeftAt old reply new
 
 -- each event has a reply, by its call on what the calls before it left

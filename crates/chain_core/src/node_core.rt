@@ -81,7 +81,7 @@ impl<S: SigScheme> Core<S> {
     ghost use Rattle.chain_core.specs.Views.{event_of, reply_of, arrive_reply_of, submit_reply_of, open_reply_of};
     ghost use Rattle.chain_core.specs.Views.{next_reply_of, forward_reply_of, close_reply_of, history_of, IsReplyTo};
     ghost use Rattle.chain_core.specs.Views.{AreRepliesTo};
-    ghost use Rattle.chain_core.specs.Steps.{Steps};
+    ghost use Rattle.chain_core.specs.Steps.{Steps, KeepsStart};
     ghost use Rattle.chain_core.specs.Calls.{IsWantAtArrival, IsWantAtSubmission, IsWantAt, IsLeftAt, AreCalls};
     ghost use Rattle.chain_core.specs.Mempools.{IsWantOf};
     ghost use Rattle.chain_core.specs.FollowerCalls.{IsWantAtOpen, IsWantAtNext, Peeks};
@@ -161,8 +161,7 @@ impl<S: SigScheme> Core<S> {
         // applies.
         ensures memory { OnErr result (IsWantAtArrival S.verifies self.old bytes.now) }
         ensures size { OnErr result (length bytes.now ≤ block_size_limit) }
-        ensures genesis { self.new.genesis ≡ self.old.genesis }
-        ensures opened { self.new.opened ≡ self.old.opened }
+        ensures start { KeepsStart self.old self.new }
         ensures err { OnErr result (self.new ≡ self.old) }
     {
         let found = match block::look(self.alloc, bytes)? {
@@ -194,8 +193,7 @@ impl<S: SigScheme> Core<S> {
         ensures memory { OnErr result ((s : State) → Stands self.old s → (refusal : history.Refusal) →
             Applies (network_held self.old S.verifies) s seen refusal → ⊥) }
         ensures size { OnErr result (length seen ≤ block_size_limit) }
-        ensures genesis { self.new.genesis ≡ self.old.genesis }
-        ensures opened { self.new.opened ≡ self.old.opened }
+        ensures start { KeepsStart self.old self.new }
         ensures err { OnErr result (self.new ≡ self.old) }
     {
         let block = match seen.into_result() {
@@ -225,8 +223,7 @@ impl<S: SigScheme> Core<S> {
         ensures step { Steps S.verifies self.old (Submit bytes.now) (submit_reply_of result) self.new }
         // Where the bytes are the text of a transaction without parts, no memory is asked for.
         ensures memory { OnErr result (IsWantAtSubmission bytes.now) }
-        ensures genesis { self.new.genesis ≡ self.old.genesis }
-        ensures opened { self.new.opened ≡ self.old.opened }
+        ensures start { KeepsStart self.old self.new }
         ensures err { OnErr result (self.new ≡ self.old) }
     {
         self.chain_db.submit(bytes)
@@ -243,8 +240,7 @@ impl<S: SigScheme> Core<S> {
         // Memory is asked for only where it isn't known without it what is answered.
         ensures memory { OnErr result ((bytes : List ℕ) → SpellsTransaction tx bytes →
             IsWantOf (network_held self.old S.verifies) self.old.chain self.old.mempool bytes) }
-        ensures genesis { self.new.genesis ≡ self.old.genesis }
-        ensures opened { self.new.opened ≡ self.old.opened }
+        ensures start { KeepsStart self.old self.new }
         ensures err { OnErr result (self.new ≡ self.old) }
     {
         self.chain_db.submit_checked(tx)
@@ -295,8 +291,7 @@ impl<S: SigScheme> Core<S> {
         ensures step { Steps S.verifies self.old Open (open_reply_of result) self.new }
         // Memory is asked for only where a number is free.
         ensures memory { IfErr result (IsWantAtOpen self.old) }
-        ensures genesis { self.new.genesis ≡ self.old.genesis }
-        ensures opened { self.new.opened ≡ self.old.opened }
+        ensures start { KeepsStart self.old self.new }
         ensures err { OnErr result (self.new ≡ self.old) }
     {
         self.followers.open()
@@ -315,8 +310,7 @@ impl<S: SigScheme> Core<S> {
         ensures step { Steps S.verifies self.old (Next id.number) (next_reply_of result) self.new }
         // Memory is asked for only where a block comes next.
         ensures memory { IfErr result (IsWantAtNext self.old id.number) }
-        ensures genesis { self.new.genesis ≡ self.old.genesis }
-        ensures opened { self.new.opened ≡ self.old.opened }
+        ensures start { KeepsStart self.old self.new }
         ensures err { OnErr result (self.new ≡ self.old) }
     {
         let height = self.height();
@@ -353,8 +347,7 @@ impl<S: SigScheme> Core<S> {
     ) -> Result<Option<Point>, UnknownFollower>
         ensures step { Steps S.verifies self.old (Forward id.number (map point_of points.now))
             (forward_reply_of result) self.new }
-        ensures genesis { self.new.genesis ≡ self.old.genesis }
-        ensures opened { self.new.opened ≡ self.old.opened }
+        ensures start { KeepsStart self.old self.new }
         ensures err { OnErr result (self.new ≡ self.old) }
     {
         if !self.followers.is_open(id) {
@@ -371,8 +364,7 @@ impl<S: SigScheme> Core<S> {
     /// changes. In constant time, and takes no memory.
     pub fn close(&mut self, id: FollowerId) -> Result<(), UnknownFollower>
         ensures step { Steps S.verifies self.old (Close id.number) (close_reply_of result) self.new }
-        ensures genesis { self.new.genesis ≡ self.old.genesis }
-        ensures opened { self.new.opened ≡ self.old.opened }
+        ensures start { KeepsStart self.old self.new }
         ensures err { OnErr result (self.new ≡ self.old) }
     {
         self.followers.close(id)
@@ -384,8 +376,7 @@ impl<S: SigScheme> Core<S> {
         ensures step { Steps S.verifies self.old (event_of event.now) (reply_of result) self.new }
         ensures kind { IsReplyTo event.now result }
         ensures want { IsWantAt S.verifies self.old event.now result }
-        ensures genesis { self.new.genesis ≡ self.old.genesis }
-        ensures opened { self.new.opened ≡ self.old.opened }
+        ensures start { KeepsStart self.old self.new }
         ensures left { IsLeftAt self.old result self.new }
     {
         match event {
@@ -414,8 +405,7 @@ impl<S: SigScheme> Core<S> {
         ensures theorem { IfOk result (λ replies. self.old ≡ opening_held self.old.genesis self.old.opened → (t : State)
             × ChainTheorem (network_held self.old S.verifies) (history_of events.now replies.items) t
             × Stands self.new t) }
-        ensures genesis { self.new.genesis ≡ self.old.genesis }
-        ensures opened { self.new.opened ≡ self.old.opened }
+        ensures start { KeepsStart self.old self.new }
         ensures err { OnErr result (self.new ≡ self.old) }
     {
         let mut replies = Vec::with_capacity(self.alloc, events.len())?;

@@ -10,7 +10,7 @@ use Rattle.model.proofs.Chains.{begins_with_whole, begins_earlier}
 use Rattle.model.proofs.LegalHistories.{step_goes_on}
 use Rattle.chain_core.specs.Held.{Held, Stands, network_held}
 use Rattle.chain_core.specs.Immutable.{texts_of, immutable_texts}
-use Rattle.chain_core.specs.Steps.{Steps}
+use Rattle.chain_core.specs.Steps.{Steps, KeepsStart}
 use Rattle.flushing.specs.Courses.{Act, Came, Flushed, IsCourse}
 use Rattle.flushing.specs.Texts.{Begins}
 
@@ -29,9 +29,9 @@ begins_further first middle all a b = record {
 }
 
 -- through one event
-pub grows : (verifies : Verifies) (before after : Held) (state : State) (event : Event) (reply : Reply) → Stands before state → Steps verifies before event reply after → after.genesis ≡ before.genesis → after.opened ≡ before.opened
+pub grows : (verifies : Verifies) (before after : Held) (state : State) (event : Event) (reply : Reply) → Stands before state → Steps verifies before event reply after → KeepsStart before after
     → Begins (immutable_texts verifies before) (immutable_texts verifies after)
-grows verifies before after state event reply stands steps genesis_is opened_is =
+grows verifies before after state event reply stands steps start =
     let network = network_held before verifies in
     let on = steps state stands in
     let goes = step_goes_on network state event reply on.0 on.1 in
@@ -40,17 +40,17 @@ grows verifies before after state event reply stands steps genesis_is opened_is 
     let texts = texts_begin (immutable_part network state.chain) (immutable_part network on.0.chain) longer in
     let old : immutable_texts verifies before ≡ texts_of (immutable_part network state.chain) = ap (λ (c : List Block). texts_of (immutable_part network c)) stands.chain in
     let new : immutable_texts verifies after ≡ texts_of (immutable_part network on.0.chain) =
-    λ i. texts_of (immutable_part (network_on (genesis_is i) verifies (opened_is i)) (on.2.chain i)) in
+    λ i. texts_of (immutable_part (network_on (start.genesis i) verifies (start.opened i)) (on.2.chain i)) in
     record {
       later = texts.later;
       are = new ∙ (texts.are ∙ ap (λ (l : List (List ℕ)). l ++ texts.later) (sym old));
     }
 
 -- what begins them before an event begins them after it
-pub begins_after : (verifies : Verifies) (before after : Held) (state : State) (event : Event) (reply : Reply) (log : List (List ℕ)) → Stands before state → Steps verifies before event reply after → after.genesis ≡ before.genesis → after.opened ≡ before.opened → Begins log (immutable_texts verifies before)
+pub begins_after : (verifies : Verifies) (before after : Held) (state : State) (event : Event) (reply : Reply) (log : List (List ℕ)) → Stands before state → Steps verifies before event reply after → KeepsStart before after → Begins log (immutable_texts verifies before)
     → Begins log (immutable_texts verifies after)
-begins_after verifies before after state event reply log stands steps genesis_is opened_is begins =
-    begins_further log (immutable_texts verifies before) (immutable_texts verifies after) begins (grows verifies before after state event reply stands steps genesis_is opened_is)
+begins_after verifies before after state event reply log stands steps start begins =
+    begins_further log (immutable_texts verifies before) (immutable_texts verifies after) begins (grows verifies before after state event reply stands steps start)
 
 -- through every list of events and flushes
 pub begins_through : (verifies : Verifies) (before after : Held) (state : State) (acts : List Act) (log left : List (List ℕ)) → Stands before state → IsCourse verifies before log acts after left → Begins log (immutable_texts verifies before) → Begins left (immutable_texts verifies after)
@@ -59,7 +59,7 @@ begins_through verifies before after state [] log left stands course begins =
 begins_through verifies before after state (Came event reply ∷ acts) log left stands course begins =
     let next = course.0 in
     let steps = course.1 in
-    begins_through verifies next after (steps state stands).0 acts log left (steps state stands).2 course.4 (begins_after verifies before next state event reply log stands steps course.2 course.3 begins)
+    begins_through verifies next after (steps state stands).0 acts log left (steps state stands).2 course.3 (begins_after verifies before next state event reply log stands steps course.2 begins)
 begins_through verifies before after state (Flushed texts ∷ acts) log left stands course begins =
     begins_through verifies before after state acts texts left stands course.1 (course.0 begins).1
 
@@ -72,8 +72,8 @@ grows_through verifies before after state [] log left stands course = record {
 grows_through verifies before after state (Came event reply ∷ acts) log left stands course =
     let next = course.0 in
     let steps = course.1 in
-    let longer : Begins (immutable_texts verifies before) (immutable_texts verifies next) = grows verifies before next state event reply stands steps course.2 course.3 in
-    let longest : Begins (immutable_texts verifies next) (immutable_texts verifies after) = grows_through verifies next after (steps state stands).0 acts log left (steps state stands).2 course.4 in
+    let longer : Begins (immutable_texts verifies before) (immutable_texts verifies next) = grows verifies before next state event reply stands steps course.2 in
+    let longest : Begins (immutable_texts verifies next) (immutable_texts verifies after) = grows_through verifies next after (steps state stands).0 acts log left (steps state stands).2 course.3 in
     begins_further (immutable_texts verifies before) (immutable_texts verifies next) (immutable_texts verifies after) longer longest
 grows_through verifies before after state (Flushed texts ∷ acts) log left stands course =
     grows_through verifies before after state acts texts left stands course.1

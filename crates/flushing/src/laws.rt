@@ -1,12 +1,12 @@
 //! Laws of a log beside a core.
 
-ghost use Rattle.std.specs.Prelude.{◌≡◌, ℕ, List};
+ghost use Rattle.std.specs.Prelude.{ℕ, List};
 ghost use Rattle.model.specs.Signature.{Verifies};
 ghost use Rattle.model.specs.History.{State, Event, Reply};
 ghost use Rattle.model.specs.Log.{OpensToBeginning};
 ghost use Rattle.chain_core.specs.Held.{Held, Stands};
 ghost use Rattle.chain_core.specs.Immutable.{immutable_texts};
-ghost use Rattle.chain_core.specs.Steps.{Steps};
+ghost use Rattle.chain_core.specs.Steps.{Steps, KeepsStart};
 ghost use Rattle.flushing.specs.Courses.{Act, IsCourse};
 ghost use Rattle.flushing.specs.Texts.{Begins};
 
@@ -15,16 +15,16 @@ pub fn flush_may_come_again()
     // Whatever event comes to a core that stands for a state, as every core does,
     ensures event { (verifies : Verifies) (before after : Held) (state : State) (event : Event) (reply : Reply)
         (log : List (List ℕ)) → Stands before state → Steps verifies before event reply after
-        → after.genesis ≡ before.genesis → after.opened ≡ before.opened
-        → Begins log (immutable_texts verifies before) → Begins log (immutable_texts verifies after) }
+        → KeepsStart before after → Begins log (immutable_texts verifies before)
+        → Begins log (immutable_texts verifies after) }
     // and through every list of events and flushes.
     ensures course { (verifies : Verifies) (before after : Held) (state : State) (acts : List Act)
         (log left : List (List ℕ)) → Stands before state → IsCourse verifies before log acts after left
         → Begins log (immutable_texts verifies before) → Begins left (immutable_texts verifies after) }
 {}
 
-/// The blocks of a core that are never rolled back only grow, through every list of events and flushes: what was said of
-/// a crash when some of them were put onto a log holds of those that there are later.
+/// The blocks of a core that are never rolled back only grow, through every list of events and flushes: what was said
+/// of a crash when some of them were put onto a log holds of those that there are later.
 pub fn immutable_blocks_grow()
     ensures grow { (verifies : Verifies) (before after : Held) (state : State) (acts : List Act)
         (log left : List (List ℕ)) → Stands before state → IsCourse verifies before log acts after left

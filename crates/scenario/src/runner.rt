@@ -4,6 +4,7 @@ ghost use Rattle.std.specs.Prelude.{◌≡◌, ℕ, ◌+◌, ◌≤◌, ◌⊎�
 ghost use Rattle.script.specs.Names.{no_names};
 ghost use Rattle.script.specs.RequestView.{AreNamed};
 ghost use Rattle.scenario.specs.Run.{script_network, EndsWell, EndsBy, fault_of};
+ghost use Rattle.chain_core.specs.Steps.{KeepsStart};
 ghost use Rattle.scenario.specs.SessionView.{core_network};
 ghost use Rattle.scenario.specs.Handed.{RunsWell, RunsInto, HasRun};
 ghost use Rattle.script.specs.declared.fault.LineFault.TheVariants.{BadLine};
@@ -167,8 +168,7 @@ pub fn run_from<R: BufRead, W: Write>(
         (W.contents writer.new) why)) }
     // Whatever was read, the definitions' steps lead to the core that is given back.
     ensures run { HasRun core result.0 }
-    ensures genesis { result.0.genesis ≡ core.genesis }
-    ensures opened { result.0.opened ≡ core.opened }
+    ensures start { KeepsStart core result.0 }
 {
     let mut session = Session::on(alloc, genesis, core);
     let result = run_lines(alloc, &mut session, reader, writer);

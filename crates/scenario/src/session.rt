@@ -3,8 +3,10 @@
 ghost use Rattle.std.specs.Prelude.{◌≡◌, ◌+◌, ◌≤◌, [], None, Some, IfOk, IfErr, OnOk, length, map, option_map};
 ghost use Rattle.model.specs.Cbor.{text_of};
 ghost use Rattle.model.specs.Transaction.{Transaction, item_of_transaction};
-ghost use Rattle.model.specs.History.{State, Arrive, Submit, Step};
+ghost use Rattle.model.specs.History.{Arrive, Submit};
+ghost use Rattle.model.specs.Signature.{test_verifies};
 ghost use Rattle.chain_core.specs.Held.{Stands};
+ghost use Rattle.chain_core.specs.Steps.{Steps, KeepsStart};
 ghost use Rattle.ident.specs.PointView.{point_of};
 ghost use Rattle.chain_core.specs.Views.{arrive_reply_of, submit_reply_of};
 ghost use Rattle.script.specs.Names.{AllNames, Bound, bound_to, no_names};
@@ -85,11 +87,8 @@ fn arrive(
     form: Form,
     bytes: &[u8],
 ) -> Result<ArriveReply, AllocError>
-    ensures step { (s : State) → Stands core.old s → (t : State)
-        × Step (core_network core.old) s (Arrive (formed form bytes.now)) (arrive_reply_of result) t
-        × Stands core.new t }
-    ensures genesis { core.new.genesis ≡ core.old.genesis }
-    ensures opened { core.new.opened ≡ core.old.opened }
+    ensures step { Steps test_verifies core.old (Arrive (formed form bytes.now)) (arrive_reply_of result) core.new }
+    ensures start { KeepsStart core.old core.new }
 {
     let bytes = formed(alloc, form, bytes)?;
     core.arrive(&bytes)
@@ -102,11 +101,9 @@ fn submit(
     name: &[u8],
 ) -> Result<SubmitReply, AllocError>
     ensures step { (all : AllNames) → AreNamed names.now all → (tx : Transaction)
-        → bound_to name.now all.of_txs ≡ Some tx → (s : State) → Stands core.old s → (t : State)
-        × Step (core_network core.old) s (Submit (text_of (item_of_transaction tx)))
-        (submit_reply_of result) t × Stands core.new t }
-    ensures genesis { core.new.genesis ≡ core.old.genesis }
-    ensures opened { core.new.opened ≡ core.old.opened }
+        → bound_to name.now all.of_txs ≡ Some tx
+        → Steps test_verifies core.old (Submit (text_of (item_of_transaction tx))) (submit_reply_of result) core.new }
+    ensures start { KeepsStart core.old core.new }
 {
     let Some(tx) = names.tx_of(name) else {
         return Err(AllocError);
@@ -178,8 +175,7 @@ impl Session {
             → bound_to name.entry.text.now s.names.of_bytes ≡ Some bound
             → IsDone (core_network self.old.core) s (Arrives form name.entry.text.now bound.bytes)
             result self.new }
-        ensures genesis { self.new.core.genesis ≡ self.old.core.genesis }
-        ensures opened { self.new.core.opened ≡ self.old.core.opened }
+        ensures start { KeepsStart self.old.core self.new.core }
     {
         let mut line = line_room(self.alloc, name)?;
         let bytes = bytes_named(&self.names, name.text);
@@ -195,8 +191,7 @@ impl Session {
         ensures obeyed { (s : Scene) → Holds self.old s → (tx : Transaction)
             → bound_to name.entry.text.now s.names.of_txs ≡ Some tx
             → IsDone (core_network self.old.core) s (SubmitsTx name.entry.text.now tx) result self.new }
-        ensures genesis { self.new.core.genesis ≡ self.old.core.genesis }
-        ensures opened { self.new.core.opened ≡ self.old.core.opened }
+        ensures start { KeepsStart self.old.core self.new.core }
     {
         let mut line = line_room(self.alloc, name)?;
         let reply = submit(&mut self.core, &self.names, name.text);
@@ -210,8 +205,7 @@ impl Session {
     fn forge(&mut self, name: Name<'_>, slot: u64) -> Result<Vec<u8>, Stop>
         ensures obeyed { (s : Scene) → Holds self.old s → bound_to name.entry.text.now s.names.of_bytes ≡ None
             → IsDone (core_network self.old.core) s (ForgesBlock name.entry.text.now slot) result self.new }
-        ensures genesis { self.new.core.genesis ≡ self.old.core.genesis }
-        ensures opened { self.new.core.opened ≡ self.old.core.opened }
+        ensures start { KeepsStart self.old.core self.new.core }
     {
         let mut line = line_room(self.alloc, name)?;
         let Ok(answer) = forge(&self.core, &mut self.names, name.text, slot) else {
@@ -229,8 +223,7 @@ impl Session {
             → bound_to name.entry.text.now s.names.of_followers ≡ None
             → IsDone (core_network self.old.core) s (OpensFollower name.entry.text.now) result
             self.new }
-        ensures genesis { self.new.core.genesis ≡ self.old.core.genesis }
-        ensures opened { self.new.core.opened ≡ self.old.core.opened }
+        ensures start { KeepsStart self.old.core self.new.core }
     {
         let mut line = line_room(self.alloc, name)?;
         let reply = self.core.open();
@@ -247,8 +240,7 @@ impl Session {
     fn next(&mut self, name: Name<'_>, id: u64) -> Result<Vec<u8>, Stop>
         ensures obeyed { (s : Scene) → Holds self.old s → IsDone (core_network self.old.core) s
             (TellsFollower name.entry.text.now id) result self.new }
-        ensures genesis { self.new.core.genesis ≡ self.old.core.genesis }
-        ensures opened { self.new.core.opened ≡ self.old.core.opened }
+        ensures start { KeepsStart self.old.core self.new.core }
     {
         let mut line = line_room(self.alloc, name)?;
         let reply = self.core.next(FollowerId { number: id });
@@ -263,8 +255,7 @@ impl Session {
     fn forward(&mut self, name: Name<'_>, id: u64, points: &[Point]) -> Result<Vec<u8>, Stop>
         ensures obeyed { (s : Scene) → Holds self.old s → IsDone (core_network self.old.core) s
             (ForwardsFollower name.entry.text.now id (map point_of points.now)) result self.new }
-        ensures genesis { self.new.core.genesis ≡ self.old.core.genesis }
-        ensures opened { self.new.core.opened ≡ self.old.core.opened }
+        ensures start { KeepsStart self.old.core self.new.core }
     {
         let mut line = line_room(self.alloc, name)?;
         let reply = self.core.forward(FollowerId { number: id }, points);
@@ -278,8 +269,7 @@ impl Session {
     fn close(&mut self, name: Name<'_>, id: u64) -> Result<Vec<u8>, Stop>
         ensures obeyed { (s : Scene) → Holds self.old s → IsDone (core_network self.old.core) s
             (ClosesFollower name.entry.text.now id) result self.new }
-        ensures genesis { self.new.core.genesis ≡ self.old.core.genesis }
-        ensures opened { self.new.core.opened ≡ self.old.core.opened }
+        ensures start { KeepsStart self.old.core self.new.core }
     {
         let mut line = line_room(self.alloc, name)?;
         let reply = self.core.close(FollowerId { number: id });
@@ -343,8 +333,7 @@ impl Session {
         ensures obeyed { (s : Scene) → Holds self.old s → IsObeyed (core_network self.old.core) s
             (Means at.number at.before s.names line.now) (is_late_line (parse_within at.before line.now)) result
             self.new }
-        ensures genesis { self.new.core.genesis ≡ self.old.core.genesis }
-        ensures opened { self.new.core.opened ≡ self.old.core.opened }
+        ensures start { KeepsStart self.old.core self.new.core }
         ensures size { OnOk result (at.before + length line.now ≤ script_size_limit) }
     {
         match self.names.obey(at, line) {

@@ -12,7 +12,7 @@ use Rattle.model.proofs.LegalHistories.{opens_nothing, run_length, legal_sound}
 use Rattle.model.proofs.OneReply.{reply_one}
 use Rattle.model.proofs.ToldChains.{run_on}
 use Rattle.chain_core.specs.Held.{Held, Stands, opening_held, network_held}
-use Rattle.chain_core.specs.Steps.{Steps}
+use Rattle.chain_core.specs.Steps.{Steps, KeepsStart}
 use Rattle.chain_core.specs.Views.{next_reply_of}
 use Rattle.chain_core.specs.declared.follower.Instruction.{Instruction}
 use Rattle.chain_core.specs.declared.follower.NextFault.{NextFault}
@@ -88,15 +88,15 @@ call_of verifies genesis number writer e v w own legal sealed =
 -- ---- the core under the lock
 
 -- a step of the core, and the journal with one more call
-pub core_after : (verifies : Verifies) (genesis : Genesis) (journal now : Journal) (held new : Held) (made e : JournalEntry) → IsCoreOf verifies genesis journal held → now ≡ journal → Steps verifies held made.entry.event made.entry.reply new → new.genesis ≡ held.genesis → new.opened ≡ held.opened → NamesItsPeer made → e ≡ made
+pub core_after : (verifies : Verifies) (genesis : Genesis) (journal now : Journal) (held new : Held) (made e : JournalEntry) → IsCoreOf verifies genesis journal held → now ≡ journal → Steps verifies held made.entry.event made.entry.reply new → KeepsStart held new → NamesItsPeer made → e ≡ made
     → IsCoreOf verifies genesis (now ++ e ∷ []) new
-core_after verifies genesis journal now held new made e core same steps genesis_same opened_same names is =
+core_after verifies genesis journal now held new made e core same steps start names is =
     let step = steps core.state core.stands in
     let network = network_of genesis verifies in
     let legal = legal_on network journal core.state made step.0 core.legal (subst (λ (n : Network). Step n core.state made.entry.event made.entry.reply step.0) (λ i. network_on (core.genesis_is i) verifies (core.opened_is i)) step.1) in
     record {
-      genesis_is = genesis_same ∙ core.genesis_is;
-      opened_is = opened_same ∙ core.opened_is;
+      genesis_is = start.genesis ∙ core.genesis_is;
+      opened_is = start.opened ∙ core.opened_is;
       state = step.0;
       legal = subst (λ (x : Journal × JournalEntry). IsLegal network (history_of (x.0 ++ x.1 ∷ [])) step.0) (λ i. (sym same i, sym is i)) legal;
       named = subst (λ (x : Journal × JournalEntry). AllByRecursion NamesItsPeer (x.0 ++ x.1 ∷ [])) (λ i. (sym same i, sym is i)) (all_push NamesItsPeer journal made core.named names);

@@ -22,7 +22,7 @@ pub returns-in-Err-obey-clause-run : goal.returns-in-Err-obey-clause-run
 returns-in-Err-obey-clause-run g c = ran_stopped c.args.session.now.core c.loop-number.session c.obey.new.self c.loop-number.before c.loop-number.number (g.R.Read.remaining c.args.reader.now) (g.R.Read.remaining c.loop-number.reader) (g.W.Write.contents c.args.writer.now) (g.W.Write.contents c.loop-number.writer) c.deref-in-loop-number.result.now c.in-Err-obey.stop c.loop-number.invariant c.in-Err-obey.ensures.obeyed
 
 pub returns-in-Err-obey-clause-network : goal.returns-in-Err-obey-clause-network
-returns-in-Err-obey-clause-network g c = (λ j. network_on (c.in-Err-obey.ensures.genesis j) test_verifies (c.in-Err-obey.ensures.opened j)) ∙ c.loop-number.invariant.same_network
+returns-in-Err-obey-clause-network g c = (λ j. network_on (c.in-Err-obey.ensures.start.genesis j) test_verifies (c.in-Err-obey.ensures.start.opened j)) ∙ c.loop-number.invariant.same_network
 
 -- a line that isn't written
 pub returns-in-Err-write_all-clause-fault : goal.returns-in-Err-write_all-clause-fault
@@ -37,7 +37,7 @@ pub returns-in-Err-write_all-clause-run : goal.returns-in-Err-write_all-clause-r
 returns-in-Err-write_all-clause-run g c = ran_on c.args.session.now.core c.loop-number.session c.obey.new.self c.loop-number.before c.loop-number.number (g.R.Read.remaining c.args.reader.now) (g.R.Read.remaining c.loop-number.reader) (g.W.Write.contents c.args.writer.now) (g.W.Write.contents c.loop-number.writer) c.deref-in-loop-number.result.now c.in-Ok.printed c.loop-number.invariant c.in-Ok.ensures.obeyed
 
 pub returns-in-Err-write_all-clause-network : goal.returns-in-Err-write_all-clause-network
-returns-in-Err-write_all-clause-network g c = (λ j. network_on (c.in-Ok.ensures.genesis j) test_verifies (c.in-Ok.ensures.opened j)) ∙ c.loop-number.invariant.same_network
+returns-in-Err-write_all-clause-network g c = (λ j. network_on (c.in-Ok.ensures.start.genesis j) test_verifies (c.in-Ok.ensures.start.opened j)) ∙ c.loop-number.invariant.same_network
 
 -- the next line
 pub loop-number-preserved : goal.loop-number-preserved
@@ -46,7 +46,7 @@ loop-number-preserved g c = rw (c.len.ensures, ← c.deref-in-loop-number.ensure
     (g.W.Write.contents c.args.writer.now) (g.W.Write.contents c.loop-number.writer) (g.W.Write.contents c.write_all.new.writer) c.deref-in-loop-number.result.now c.in-Ok.printed c.loop-number.invariant
     (line_into (g.R.Read.remaining c.args.reader.now) (g.R.Read.remaining c.loop-number.reader) (g.R.Read.remaining c.read_until.new.self) c.loop-number.invariant.done c.new-line.result.items c.read_until.new.buf.items c.deref-in-loop-number.result.now
     c.loop-number.invariant.read c.new-line.ensures.items c.deref-in-loop-number.ensures.value c.in_default.ensures.bytes c.in_default.ensures.rest)
-    (not_empty c.deref-in-loop-number.result.now (vec_len c.read_until.new.buf) c.deref-in-loop-number.ensures.len (sym c.is_empty.ensures ∙ c.if-is_empty.false)) c.in-Ok.ensures.obeyed (λ j. network_on (c.in-Ok.ensures.genesis j) test_verifies (c.in-Ok.ensures.opened j)) (omega (arith, c.in-Ok.ensures.size)) (rw c.deref-in-loop-number-2.ensures.value at c.in_default-write_all.ensures.ok))
+    (not_empty c.deref-in-loop-number.result.now (vec_len c.read_until.new.buf) c.deref-in-loop-number.ensures.len (sym c.is_empty.ensures ∙ c.if-is_empty.false)) c.in-Ok.ensures.obeyed (λ j. network_on (c.in-Ok.ensures.start.genesis j) test_verifies (c.in-Ok.ensures.start.opened j)) (omega (arith, c.in-Ok.ensures.size)) (rw c.deref-in-loop-number-2.ensures.value at c.in_default-write_all.ensures.ok))
 
 -- a line that isn't read
 pub returns-in-Err-clause-fault : goal.returns-in-Err-clause-fault

@@ -17,8 +17,7 @@ loop-event-preserved g c =
       kind = answered.kind;
       step = answered.step;
       want = answered.want;
-      genesis = answered.genesis;
-      opened = answered.opened;
+      start = answered.start;
       left = answered.left;
     } in
     record {
@@ -26,8 +25,10 @@ loop-event-preserved g c =
       room = let a = before.room in let b = c.in_ok-push.ensures.capacity in omega arith;
       calls = subst (λ (rs : List (Reply _)). AreCalls g.S.SigScheme.verifies c.args.self.now (take (c.loop-event.event-index + 1) c.args.events.now) rs c.answer-reply.new.self) (sym pushed)
           (calls_with g.S.SigScheme.verifies c.args.self.now c.args.events.now c.loop-event.event-index c.event-item.result c.loop-event.replies.items c.answer-reply.result c.loop-event.self c.answer-reply.new.self c.loop-event-test.true c.event-item.is before.calls call);
-      genesis = answered.genesis ∙ before.genesis;
-      opened = answered.opened ∙ before.opened;
+      start = record {
+        genesis = answered.start.genesis ∙ before.start.genesis;
+        opened = answered.start.opened ∙ before.start.opened;
+      };
     }
 
 pub returns-clause-calls : goal.returns-clause-calls

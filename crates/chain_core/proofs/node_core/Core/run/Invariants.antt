@@ -1,4 +1,5 @@
 use Rattle.std.proofs.Common.{◌≡◌, ◌≤◌, length, take, vec_capacity}
+use Rattle.chain_core.specs.Steps.{KeepsStart}
 use Rattle.chain_core.specs.Calls.{AreCalls}
 use Rattle.chain_core.proofs.node_core.Core.run.Given as goal
 
@@ -8,6 +9,5 @@ invariant-loop-event g l = record {
   count : length l.replies.items ≡ l.event-index;
   room : length l.events ≤ vec_capacity l.replies;
   calls : AreCalls g.S.SigScheme.verifies l.fn.self (take l.event-index l.events) l.replies.items l.self;
-  genesis : l.self.genesis ≡ l.fn.self.genesis;
-  opened : l.self.opened ≡ l.fn.self.opened;
+  start : KeepsStart l.fn.self l.self;
 }

@@ -11,11 +11,11 @@ use Rattle.shared.proofs.desk.Desk.arrive.Goals as goal
 pub write-requires-clause-core : goal.write-requires-clause-core
 write-requires-clause-core g c =
     core_after g.S.SigScheme.verifies g.B.Room.genesis c.self.inside.journal.entries.items c.reserve.new.self.entries.items c.self.inside.core c.arrive_seen.new.self (arrival_by c.args.caller.now.caller c.args.peer c.args.bytes.items (arrive_reply_of (Ok c.in-Ok-arrive_seen.reply))) c.entry-entry.result c.self.invariant.core c.reserve.ensures.same
-    (subst (λ (bs : List ℕ). Steps g.S.SigScheme.verifies c.self.inside.core (Arrive bs) (arrive_reply_of (Ok c.in-Ok-arrive_seen.reply)) c.arrive_seen.new.self) c.requires.seen c.in-Ok-arrive_seen.ensures.step) c.arrive_seen.ensures.genesis c.arrive_seen.ensures.opened tt c.entry-entry.ensures
+    (subst (λ (bs : List ℕ). Steps g.S.SigScheme.verifies c.self.inside.core (Arrive bs) (arrive_reply_of (Ok c.in-Ok-arrive_seen.reply)) c.arrive_seen.new.self) c.requires.seen c.in-Ok-arrive_seen.ensures.step) c.arrive_seen.ensures.start tt c.entry-entry.ensures
 
 pub invariant_of-self-2 : goal.invariant_of-self-2
 invariant_of-self-2 g c =
     let core =
     core_after g.S.SigScheme.verifies g.B.Room.genesis c.self.inside.journal.entries.items c.reserve.new.self.entries.items c.self.inside.core c.arrive_seen.new.self (arrival_by c.args.caller.now.caller c.args.peer c.args.bytes.items (arrive_reply_of (Ok c.in-Ok-arrive_seen.reply))) c.entry-entry.result c.self.invariant.core c.reserve.ensures.same
-    (subst (λ (bs : List ℕ). Steps g.S.SigScheme.verifies c.self.inside.core (Arrive bs) (arrive_reply_of (Ok c.in-Ok-arrive_seen.reply)) c.arrive_seen.new.self) c.requires.seen c.in-Ok-arrive_seen.ensures.step) c.arrive_seen.ensures.genesis c.arrive_seen.ensures.opened tt c.entry-entry.ensures in
+    (subst (λ (bs : List ℕ). Steps g.S.SigScheme.verifies c.self.inside.core (Arrive bs) (arrive_reply_of (Ok c.in-Ok-arrive_seen.reply)) c.arrive_seen.new.self) c.requires.seen c.in-Ok-arrive_seen.ensures.step) c.arrive_seen.ensures.start tt c.entry-entry.ensures in
     record { core = subst (λ (j : Journal). IsCoreOf g.S.SigScheme.verifies g.B.Room.genesis j c.arrive_seen.new.self) (sym c.write.ensures.entries) core; writer = c.write.ensures.writer }

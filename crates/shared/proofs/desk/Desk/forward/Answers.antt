@@ -13,11 +13,11 @@ use Rattle.shared.proofs.desk.Desk.forward.Goals as goal
 pub write-requires-clause-core : goal.write-requires-clause-core
 write-requires-clause-core g c =
     core_after g.S.SigScheme.verifies g.B.Room.genesis c.self.inside.journal.entries.items c.reserve.new.self.entries.items c.self.inside.core c.forward-answer.new.self (call_by c.args.caller.now.caller (Forward c.args.id.number (map point_of c.args.points.items)) (forward_reply_of c.forward-answer.result)) c.entry-entry.result c.self.invariant.core c.reserve.ensures.same
-    (subst (λ (ps : List Point). Steps g.S.SigScheme.verifies c.self.inside.core (Forward c.args.id.number (map point_of ps)) (forward_reply_of c.forward-answer.result) c.forward-answer.new.self) c.deref.ensures.value c.forward-answer.ensures.step) c.forward-answer.ensures.genesis c.forward-answer.ensures.opened tt c.entry-entry.ensures
+    (subst (λ (ps : List Point). Steps g.S.SigScheme.verifies c.self.inside.core (Forward c.args.id.number (map point_of ps)) (forward_reply_of c.forward-answer.result) c.forward-answer.new.self) c.deref.ensures.value c.forward-answer.ensures.step) c.forward-answer.ensures.start tt c.entry-entry.ensures
 
 pub invariant_of-self-2 : goal.invariant_of-self-2
 invariant_of-self-2 g c =
     let core =
     core_after g.S.SigScheme.verifies g.B.Room.genesis c.self.inside.journal.entries.items c.reserve.new.self.entries.items c.self.inside.core c.forward-answer.new.self (call_by c.args.caller.now.caller (Forward c.args.id.number (map point_of c.args.points.items)) (forward_reply_of c.forward-answer.result)) c.entry-entry.result c.self.invariant.core c.reserve.ensures.same
-    (subst (λ (ps : List Point). Steps g.S.SigScheme.verifies c.self.inside.core (Forward c.args.id.number (map point_of ps)) (forward_reply_of c.forward-answer.result) c.forward-answer.new.self) c.deref.ensures.value c.forward-answer.ensures.step) c.forward-answer.ensures.genesis c.forward-answer.ensures.opened tt c.entry-entry.ensures in
+    (subst (λ (ps : List Point). Steps g.S.SigScheme.verifies c.self.inside.core (Forward c.args.id.number (map point_of ps)) (forward_reply_of c.forward-answer.result) c.forward-answer.new.self) c.deref.ensures.value c.forward-answer.ensures.step) c.forward-answer.ensures.start tt c.entry-entry.ensures in
     record { core = subst (λ (j : Journal). IsCoreOf g.S.SigScheme.verifies g.B.Room.genesis j c.forward-answer.new.self) (sym c.write.ensures.entries) core; writer = c.write.ensures.writer }

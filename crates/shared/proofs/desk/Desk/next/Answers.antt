@@ -13,13 +13,13 @@ use Rattle.shared.proofs.desk.Desk.next.Goals as goal
 pub write-requires-clause-core : goal.write-requires-clause-core
 write-requires-clause-core g c =
     core_after g.S.SigScheme.verifies g.B.Room.genesis c.self.inside.journal.entries.items c.reserve.new.self.entries.items c.self.inside.core c.next-answer.new.self (call_by c.args.caller.now.caller (Next c.args.id.number) (next_reply_of c.next-answer.result)) c.entry-entry.result c.self.invariant.core c.reserve.ensures.same
-    (c.next-answer.ensures.step) c.next-answer.ensures.genesis c.next-answer.ensures.opened tt c.entry-entry.ensures
+    (c.next-answer.ensures.step) c.next-answer.ensures.start tt c.entry-entry.ensures
 
 pub invariant_of-self-2 : goal.invariant_of-self-2
 invariant_of-self-2 g c =
     let core =
     core_after g.S.SigScheme.verifies g.B.Room.genesis c.self.inside.journal.entries.items c.reserve.new.self.entries.items c.self.inside.core c.next-answer.new.self (call_by c.args.caller.now.caller (Next c.args.id.number) (next_reply_of c.next-answer.result)) c.entry-entry.result c.self.invariant.core c.reserve.ensures.same
-    (c.next-answer.ensures.step) c.next-answer.ensures.genesis c.next-answer.ensures.opened tt c.entry-entry.ensures in
+    (c.next-answer.ensures.step) c.next-answer.ensures.start tt c.entry-entry.ensures in
     record { core = subst (λ (j : Journal). IsCoreOf g.S.SigScheme.verifies g.B.Room.genesis j c.next-answer.new.self) (sym c.write.ensures.entries) core; writer = c.write.ensures.writer }
 
 pub returns-clause-answered : goal.returns-clause-answered

@@ -11,11 +11,11 @@ use Rattle.shared.proofs.desk.Desk.submit.Goals as goal
 pub write-requires-clause-core : goal.write-requires-clause-core
 write-requires-clause-core g c =
     core_after g.S.SigScheme.verifies g.B.Room.genesis c.self.inside.journal.entries.items c.reserve.new.self.entries.items c.self.inside.core c.submit.new.self (call_by c.args.caller.now.caller (Submit c.args.bytes.items) (submit_reply_of (Ok c.in-Ok-submit.reply))) c.entry-entry.result c.self.invariant.core c.reserve.ensures.same
-    (subst (λ (bs : List ℕ). Steps g.S.SigScheme.verifies c.self.inside.core (Submit bs) (submit_reply_of (Ok c.in-Ok-submit.reply)) c.submit.new.self) c.deref.ensures.value c.in-Ok-submit.ensures.step) c.submit.ensures.genesis c.submit.ensures.opened tt c.entry-entry.ensures
+    (subst (λ (bs : List ℕ). Steps g.S.SigScheme.verifies c.self.inside.core (Submit bs) (submit_reply_of (Ok c.in-Ok-submit.reply)) c.submit.new.self) c.deref.ensures.value c.in-Ok-submit.ensures.step) c.submit.ensures.start tt c.entry-entry.ensures
 
 pub invariant_of-self-2 : goal.invariant_of-self-2
 invariant_of-self-2 g c =
     let core =
     core_after g.S.SigScheme.verifies g.B.Room.genesis c.self.inside.journal.entries.items c.reserve.new.self.entries.items c.self.inside.core c.submit.new.self (call_by c.args.caller.now.caller (Submit c.args.bytes.items) (submit_reply_of (Ok c.in-Ok-submit.reply))) c.entry-entry.result c.self.invariant.core c.reserve.ensures.same
-    (subst (λ (bs : List ℕ). Steps g.S.SigScheme.verifies c.self.inside.core (Submit bs) (submit_reply_of (Ok c.in-Ok-submit.reply)) c.submit.new.self) c.deref.ensures.value c.in-Ok-submit.ensures.step) c.submit.ensures.genesis c.submit.ensures.opened tt c.entry-entry.ensures in
+    (subst (λ (bs : List ℕ). Steps g.S.SigScheme.verifies c.self.inside.core (Submit bs) (submit_reply_of (Ok c.in-Ok-submit.reply)) c.submit.new.self) c.deref.ensures.value c.in-Ok-submit.ensures.step) c.submit.ensures.start tt c.entry-entry.ensures in
     record { core = subst (λ (j : Journal). IsCoreOf g.S.SigScheme.verifies g.B.Room.genesis j c.submit.new.self) (sym c.write.ensures.entries) core; writer = c.write.ensures.writer }
