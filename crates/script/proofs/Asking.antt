@@ -3,13 +3,14 @@ use Rattle.std.proofs.Common.{◌≡◌, ℕ, Bool, true, false, cond, nat_eq, L
 use Rattle.std.specs.Prelude.{IsOk}
 use Rattle.std.specs.Result.{IsErrAnd}
 use Rattle.std.proofs.lemmas.Result.{err_from_is_err_and}
+use Rattle.model.specs.Script.{Script}
 use Rattle.script.specs.declared.fault.LineFault.{LineFault}
 use Rattle.script.specs.declared.stop.Stop.{Stop}
 use Rattle.script.specs.declared.stop.Stop.TheVariants.{OutOfMemory}
 use Rattle.script.specs.declared.request.Request.{Request}
 use Rattle.script.specs.declared.names.Names.{Names}
 use Rattle.script.specs.Names.{AllNames}
-use Rattle.script.specs.Meaning.{Meaning, MeansScriptIf, where_free, built_key}
+use Rattle.script.specs.Meaning.{Meaning, MeansScript, where_free, built_key}
 use Rattle.script.specs.RequestView.{Asks, AsksFor, Lacks}
 
 -- ---- want of memory
@@ -27,9 +28,9 @@ pub short_for : (names : AllNames) (meaning : Result Meaning LineFault) (late : 
 short_for names meaning late r new short ok = asks_short names (λ m. meaning ≡ m) late r new short (lacks_all meaning late ok)
 
 -- only memory tells whether a script is built
-pub script_lacks : (b : Bool) (name bytes : List ℕ) → b ≡ false → Lacks (MeansScriptIf b name bytes) true
-script_lacks true name bytes is = cc
-script_lacks false name bytes is = λ fault means. (means.0, refl)
+pub script_lacks : (found : Option Script) (name bytes : List ℕ) → found ≡ None → Lacks (MeansScript found name bytes) true
+script_lacks (Some taken) name bytes is = cc
+script_lacks None name bytes is = λ fault means. (means.0, refl)
 
 -- ---- names that are free
 

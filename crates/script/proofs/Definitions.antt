@@ -24,7 +24,7 @@ use Rattle.script.specs.Names.{OpenTx, AllNames, Bound, bound_to}
 use Rattle.script.specs.Adding.{IsPartAdded, AreGathered, AreFound}
 use Rattle.tx.proofs.ForCallers.{same_list}
 use Rattle.script.specs.Line.{NamedPlace}
-use Rattle.script.specs.Meaning.{Meaning, Defines, ForwardsFollower, BindsScript, Continues, MeansScriptIf, Base, meaning_by, continued, where_known, where_built, binds_bytes}
+use Rattle.script.specs.Meaning.{Meaning, Defines, ForwardsFollower, BindsScript, Continues, MeansScript, Base, meaning_by, continued, where_known, where_built, binds_bytes}
 use Rattle.script.specs.Meaning.{are_some, base_after, block_meaning, block_on, bound_block, built, txs_named}
 use Rattle.script.specs.RequestView.{AreNamed, Asked, AsksFor, IsOpen, IsMaking}
 
@@ -114,9 +114,9 @@ part_refused names c made o draft (Err e) late OutOfMemory named is making lacks
 
 -- ---- scripts
 
-pub means_script : (b : Bool) (name bytes : List ℕ) (script : Script) → b ≡ false → SpellsScript script bytes → MeansScriptIf b name bytes (Ok (Defines (BindsScript (record { name = name; bound = script }))))
-means_script true name bytes script is spelled = cc
-means_script false name bytes script is spelled = (script, spelled, refl)
+pub means_script : (found : Option Script) (name bytes : List ℕ) (script : Script) → found ≡ None → SpellsScript script bytes → MeansScript found name bytes (Ok (Defines (BindsScript (record { name = name; bound = script }))))
+means_script (Some taken) name bytes script is spelled = cc
+means_script None name bytes script is spelled = (script, spelled, refl)
 
 -- ---- blocks
 

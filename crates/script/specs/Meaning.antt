@@ -230,16 +230,13 @@ begun number name = Ok (Defines (Continues (record { name = name; line = number;
 abbrev pub continued : OpenTx → Draft → Meaning
 continued making draft = Defines (Continues (record making { draft = draft }))
 
--- a script has the text, or there is none that has
-abbrev pub MeansScript : (name bytes : List ℕ) → Result Meaning LineFault → Type 0
-MeansScript name bytes (Ok meaning) = (script : Script) × SpellsScript script bytes
+-- what a script's line means, where this is bound to its name: the name is taken, which is told first; or a script has
+-- the text; or there is none that has
+abbrev pub MeansScript : Option Script → (name bytes : List ℕ) → Result Meaning LineFault → Type 0
+MeansScript (Some taken) name bytes result = result ≡ Err NameTaken
+MeansScript None name bytes (Ok meaning) = (script : Script) × SpellsScript script bytes
     × (meaning ≡ Defines (BindsScript (record { name = name; bound = script })))
-MeansScript name bytes (Err fault) = (fault ≡ NotBuilt) × ((script : Script) → SpellsScript script bytes → ⊥)
-
--- what a script's line means: that its name is taken is told first
-abbrev pub MeansScriptIf : Bool → (name bytes : List ℕ) → Result Meaning LineFault → Type 0
-MeansScriptIf true name bytes result = result ≡ Err NameTaken
-MeansScriptIf false name bytes result = MeansScript name bytes result
+MeansScript None name bytes (Err fault) = (fault ≡ NotBuilt) × ((script : Script) → SpellsScript script bytes → ⊥)
 
 -- what a line means between `tx` and `end`, where only parts and empty lines stand
 abbrev pub meaning_inside : AllNames → OpenTx → Line → Result Meaning LineFault
@@ -275,19 +272,14 @@ meaning_outside number names AskUtxo = Ok PrintsUtxo
 -- a part or an end of no transaction
 meaning_outside number names line = Err BadLine
 
--- the line means this, or has this as its first fault
-abbrev pub MeansOutside : (number : ℕ) → AllNames → Line → Result Meaning LineFault → Type 0
-MeansOutside number names (DefineScript name bytes) result =
-    MeansScriptIf (is_some (bound_to name names.of_scripts)) name bytes result
-MeansOutside number names line result = meaning_outside number names line ≡ result
-
-abbrev pub MeansLine : (number : ℕ) → AllNames → Option OpenTx → Line → Result Meaning LineFault → Type 0
-MeansLine number names None line result = MeansOutside number names line result
-MeansLine number names (Some making) line result = meaning_inside names making line ≡ result
-
-abbrev pub MeansIfLine : (number : ℕ) → AllNames → Option Line → Result Meaning LineFault → Type 0
-MeansIfLine number names None result = result ≡ Err BadLine
-MeansIfLine number names (Some line) result = MeansLine number names names.making line result
+-- A text is a line or none, and stands inside of a transaction that is being made or outside of any. It means this, or
+-- has this as its first fault.
+abbrev pub MeansLine : (number : ℕ) → AllNames → Option OpenTx → Option Line → Result Meaning LineFault → Type 0
+MeansLine number names making None result = result ≡ Err BadLine
+MeansLine number names (Some making) (Some line) result = meaning_inside names making line ≡ result
+MeansLine number names None (Some (DefineScript name bytes)) result =
+    MeansScript (bound_to name names.of_scripts) name bytes result
+MeansLine number names None (Some line) result = meaning_outside number names line ≡ result
 
 -- what a line says, where the script isn't too long with it
 abbrev pub parse_within : (before : ℕ) → (line : List ℕ) → Option Line
@@ -296,7 +288,7 @@ parse_within before line = if nat_le (before + length line) script_size_limit th
 -- WHAT A LINE MEANS
 -- of this number, that comes after so many bytes of the script, which may not be too long
 abbrev pub Means : (number before : ℕ) → AllNames → (line : List ℕ) → Result Meaning LineFault → Type 0
-Means number before names line result = MeansIfLine number names (parse_within before line) result
+Means number before names line result = MeansLine number names names.making (parse_within before line) result
 
 -- ---- names after a definition
 

@@ -19,7 +19,7 @@ use Rattle.script.specs.KnownView.{AreKnown}
 use Rattle.script.specs.Line.{Line}
 use Rattle.script.specs.Meaning.{Meaning, Defines, Definition, Arrives, SubmitsTx, ForgesBlock, OpensFollower}
 use Rattle.script.specs.Meaning.{TellsFollower, ForwardsFollower, ClosesFollower, PrintsTip, PrintsMempool, PrintsUtxo}
-use Rattle.script.specs.Meaning.{AreNamesAfter, MeansOutside, MeansLine, is_late}
+use Rattle.script.specs.Meaning.{AreNamesAfter, MeansLine, is_late}
 
 -- the code holds this transaction in the making
 pub record IsMaking (code : code.OpenTx) (making : OpenTx) : Type 0 where
@@ -95,9 +95,7 @@ Asks names means late (Err OutOfMemory) new = Lacks means late
 abbrev pub AsksFor : AllNames → Result Meaning LineFault → (late : Bool) → Result Request Stop → Names → Type 0
 AsksFor names meaning late result new = Asks names (λ m. meaning ≡ m) late result new
 
--- what a line asks for outside of a transaction, and anywhere
-abbrev pub AsksOutside : (number : ℕ) → AllNames → Line → Result Request Stop → Names → Type 0
-AsksOutside number names line result new = Asks names (MeansOutside number names line) (is_late line) result new
-
-abbrev pub AsksLine : (number : ℕ) → AllNames → Line → Result Request Stop → Names → Type 0
-AsksLine number names line result new = Asks names (MeansLine number names names.making line) (is_late line) result new
+-- what a line asks for, inside of a transaction that is being made or outside of any
+abbrev pub AsksLine : (number : ℕ) → AllNames → Option OpenTx → Line → Result Request Stop → Names → Type 0
+AsksLine number names making line result new =
+    Asks names (MeansLine number names making (Some line)) (is_late line) result new

@@ -5,7 +5,7 @@ ghost use Rattle.script.specs.PlaceView.{place_of};
 ghost use Rattle.script.specs.Line.{said_bytes};
 ghost use Rattle.script.specs.Names.{AllNames, OpenTx as Making, bound_to};
 ghost use Rattle.script.specs.NamesView.{bound_of};
-ghost use Rattle.script.specs.Meaning.{Defines, Finishes, MeansScriptIf, base_after, begun, binds_bytes, block_meaning};
+ghost use Rattle.script.specs.Meaning.{Defines, Finishes, MeansScript, base_after, begun, binds_bytes, block_meaning};
 ghost use Rattle.script.specs.Meaning.{are_some, bound_raw, built_key, where_free};
 ghost use Rattle.script.specs.RequestView.{AreNamed, Asks, AsksFor};
 ghost use Rattle.script.specs.WordsView.{words_left};
@@ -54,7 +54,7 @@ impl Names {
         digits: Digits<'_>,
     ) -> Result<Request<'a>, Stop>
         ensures { (names : AllNames) → AreNamed self.old names → Asks names
-            (MeansScriptIf (is_some (bound_to name.entry.text.now names.of_scripts)) name.entry.text.now
+            (MeansScript (bound_to name.entry.text.now names.of_scripts) name.entry.text.now
             (said_bytes digits.entry.text.now)) true result self.new }
     {
         if self.known.scripts.get(name.text).is_some() {

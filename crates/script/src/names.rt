@@ -140,7 +140,7 @@ impl Names {
     /// Does what a line of this number says by itself.
     pub(crate) fn obey_line<'a>(&mut self, number: u64, line: Line<'a>) -> Result<Request<'a>, Stop>
         ensures { (names : AllNames) → AreNamed self.old names
-            → AsksLine number names (line_of line.entry) result self.new }
+            → AsksLine number names names.making (line_of line.entry) result self.new }
     {
         if self.making.is_some() {
             self.obey_inside(line)

@@ -8,7 +8,7 @@ ghost use Rattle.script.specs.Meaning.{where_free, where_known};
 ghost use Rattle.script.specs.Names.{AllNames, OpenTx, bound_to};
 ghost use Rattle.script.specs.PartView.{part_of};
 ghost use Rattle.script.specs.Line.{AddPart, said_places};
-ghost use Rattle.script.specs.RequestView.{AreNamed, AsksFor, AsksOutside};
+ghost use Rattle.script.specs.RequestView.{AreNamed, AsksFor, AsksLine};
 ghost use Rattle.script.specs.WordsView.{words_left};
 
 use crate::fault::LineFault;
@@ -147,7 +147,7 @@ impl Names {
         line: Line<'a>,
     ) -> Result<Request<'a>, Stop>
         ensures { (names : AllNames) → AreNamed self.old names
-            → AsksOutside number names (line_of line.entry) result self.new }
+            → AsksLine number names None (line_of line.entry) result self.new }
     {
         match line {
             Line::Nothing => Ok(Request::Nothing),

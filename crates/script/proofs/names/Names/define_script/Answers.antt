@@ -1,8 +1,8 @@
-use Rattle.std.proofs.Common.{◌≡◌, ◌∙◌, ◌∷◌, [], ◌++◌, ℕ, List, None, is_some, sym, refl, subst}
+use Rattle.std.proofs.Common.{◌≡◌, ◌∙◌, ◌∷◌, [], ◌++◌, ℕ, List, None, sym, refl, subst}
 use Rattle.model.specs.Script.{SpellsScript}
 use Rattle.script.specs.Line.{said_bytes}
 use Rattle.script.specs.KnownView.{IsTable}
-use Rattle.script.specs.Meaning.{Defines, BindsScript, MeansScriptIf}
+use Rattle.script.specs.Meaning.{Defines, BindsScript, MeansScript}
 use Rattle.script.specs.Names.{bound_to}
 use Rattle.script.proofs.Asking.{asks_short, script_lacks, free_so}
 use Rattle.script.proofs.Definitions.{means_script}
@@ -11,22 +11,22 @@ use Rattle.script.proofs.names.Names.define_script.Goals as goal
 pub returns-in_err-bytes : goal.returns-in_err-bytes
 returns-in_err-bytes c = λ names named.
     let free : bound_to c.args.name.text.now names.of_scripts ≡ None = free_so (λ s. s.now) c.get.result _ (c.get.ensures names.of_scripts named.known.of_scripts) (sym c.is_some.ensures ∙ c.if-is_some.false) in
-    asks_short names (MeansScriptIf (is_some (bound_to c.args.name.text.now names.of_scripts)) c.args.name.text.now (said_bytes c.args.digits.text.now)) _ c.from_residual.result _ c.from_residual.ensures.1 (script_lacks _ _ _ (rw free refl))
+    asks_short names (MeansScript (bound_to c.args.name.text.now names.of_scripts) c.args.name.text.now (said_bytes c.args.digits.text.now)) _ c.from_residual.result _ c.from_residual.ensures.1 (script_lacks _ _ _ free)
 
 pub returns-in-Err-OutOfMemory : goal.returns-in-Err-OutOfMemory
 returns-in-Err-OutOfMemory c = λ names named.
     let free : bound_to c.args.name.text.now names.of_scripts ≡ None = free_so (λ s. s.now) c.get.result _ (c.get.ensures names.of_scripts named.known.of_scripts) (sym c.is_some.ensures ∙ c.if-is_some.false) in
-    script_lacks _ _ _ (rw free refl)
+    script_lacks _ _ _ free
 
 pub returns-in_err-name : goal.returns-in_err-name
 returns-in_err-name c = λ names named.
     let free : bound_to c.args.name.text.now names.of_scripts ≡ None = free_so (λ s. s.now) c.get.result _ (c.get.ensures names.of_scripts named.known.of_scripts) (sym c.is_some.ensures ∙ c.if-is_some.false) in
-    asks_short names (MeansScriptIf (is_some (bound_to c.args.name.text.now names.of_scripts)) c.args.name.text.now (said_bytes c.args.digits.text.now)) _ c.from_residual-in_err-name.result _ c.from_residual-in_err-name.ensures.1 (script_lacks _ _ _ (rw free refl))
+    asks_short names (MeansScript (bound_to c.args.name.text.now names.of_scripts) c.args.name.text.now (said_bytes c.args.digits.text.now)) _ c.from_residual-in_err-name.result _ c.from_residual-in_err-name.ensures.1 (script_lacks _ _ _ free)
 
 pub returns-in_err-bind : goal.returns-in_err-bind
 returns-in_err-bind c = λ names named.
     let free : bound_to c.args.name.text.now names.of_scripts ≡ None = free_so (λ s. s.now) c.get.result _ (c.get.ensures names.of_scripts named.known.of_scripts) (sym c.is_some.ensures ∙ c.if-is_some.false) in
-    asks_short names (MeansScriptIf (is_some (bound_to c.args.name.text.now names.of_scripts)) c.args.name.text.now (said_bytes c.args.digits.text.now)) _ c.from_residual-in_err-bind.result _ c.from_residual-in_err-bind.ensures.1 (script_lacks _ _ _ (rw free refl))
+    asks_short names (MeansScript (bound_to c.args.name.text.now names.of_scripts) c.args.name.text.now (said_bytes c.args.digits.text.now)) _ c.from_residual-in_err-bind.result _ c.from_residual-in_err-bind.ensures.1 (script_lacks _ _ _ free)
 
 pub returns : goal.returns
 returns c = λ names named.
@@ -35,7 +35,7 @@ returns c = λ names named.
     let table = c.in_ok-bind.ensures names.of_scripts named.known.of_scripts (rw c.in_ok-name.ensures.items free) in
     record {
       meaning = Defines (BindsScript (record { name = c.args.name.text.now; bound = c.in-Ok.script }));
-      is_meant = means_script _ c.args.name.text.now (said_bytes c.args.digits.text.now) c.in-Ok.script (rw free refl) spelled;
+      is_meant = means_script _ c.args.name.text.now (said_bytes c.args.digits.text.now) c.in-Ok.script free spelled;
       is_request = (
         BindsScript (record { name = c.args.name.text.now; bound = c.in-Ok.script }),
         refl,
