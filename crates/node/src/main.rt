@@ -1,25 +1,11 @@
 //! The program `node`: runs a script on the chain database.
 #![tactic(auto)]
 
-mod command_line;
-mod failure;
-mod genesis_file;
-mod jobs;
-mod log_runs;
-mod start;
-
 use std::process::ExitCode;
 use std::{env, io};
 
 fn main(rt: HostRuntime) -> io::Result<ExitCode> {
     let words: Vec<String> = env::args(&rt)?.collect(rt.alloc())?;
-    let status = start::start(&rt, words.as_slice(), &mut rt.stdout(), &mut rt.stderr());
+    let status = commands::start(&rt, words.as_slice(), &mut rt.stdout(), &mut rt.stderr());
     Ok(ExitCode::from(status))
 }
-
-#[cfg(test)]
-mod log_tests;
-#[cfg(test)]
-mod sim_tests;
-#[cfg(test)]
-mod tests;

@@ -1,0 +1,32 @@
+-- What the bytes of a genesis file say.
+use Rattle.std.specs.Prelude.{◌≡◌, ◌⊎◌, ◌≤◌, List, ℕ, length, Result, Ok, Err}
+use Rattle.std.specs.Str.{IsUtf8}
+use Rattle.model.specs.Genesis.{Genesis}
+use Rattle.genesis.specs.declared.genesis_fault.GenesisFault.{GenesisFault}
+use Rattle.genesis.specs.declared.genesis_fault.GenesisFault.TheVariants as faults
+use Rattle.genesis.specs.Meaning.{IsAnswer}
+use Rattle.commands.specs.declared.genesis_file.NoGenesis.{NoGenesis}
+use Rattle.commands.specs.declared.genesis_file.NoGenesis.TheVariants.{Unread, Fault}
+
+-- how many bytes a genesis file may have
+abbrev pub genesis_size_limit : ℕ
+genesis_size_limit = 16777216
+
+-- the answer to bytes: where they are a text the answer to that, and else that they are no TOML
+abbrev pub IsFileAnswer : List ℕ → Result Genesis GenesisFault → Type 0
+IsFileAnswer bytes answer = (IsUtf8 bytes × IsAnswer bytes answer) ⊎ (¬ (IsUtf8 bytes) × (answer ≡ Err faults.NotToml))
+
+-- the file's bytes, which are not too many, say this genesis
+pub record IsGenesisOfFile (genesis : Genesis) (bytes : List ℕ) : Type 0 where
+  pub size : length bytes ≤ genesis_size_limit
+  pub answer : IsFileAnswer bytes (Ok genesis)
+
+-- no fault of the bytes
+abbrev pub IsReadFault : NoGenesis → Type 0
+IsReadFault Unread = Unit {0}
+IsReadFault (Fault fault) = fault ≡ faults.OutOfMemory
+
+-- why the file's bytes say no genesis: they weren't read, for whatever reason, or have this fault
+abbrev pub IsNoGenesis : NoGenesis → List ℕ → Type 0
+IsNoGenesis Unread bytes = Unit {0}
+IsNoGenesis (Fault fault) bytes = IsFileAnswer bytes (Err fault) ⊎ (fault ≡ faults.OutOfMemory)

@@ -1,0 +1,11 @@
+//! The commands of the program `node`: what the words of a command line ask for is done, and told by a status.
+#![tactic(auto)]
+
+mod command_line;
+mod failure;
+mod genesis_file;
+mod jobs;
+mod log_runs;
+mod program;
+
+pub use program::start;

@@ -1,0 +1,229 @@
+//! The start of the program: from its words to its status.
+
+ghost use Rattle.std.specs.Prelude.{◌≡◌, ◌≢◌, ◌≤◌, ◌⊎◌, IfErr, IfSome, OnOk};
+ghost use Rattle.clap.specs.Words.{kind_of};
+ghost use Rattle.scenario.specs.Run.{script_network, EndsWell};
+ghost use Rattle.commands.specs.Ending.{EndsBySome};
+
+use crate::command_line::job;
+use crate::failure::Failure;
+use crate::genesis_file::{MAX_GENESIS_SIZE, NoGenesis, read_genesis};
+use crate::jobs::Job;
+use crate::log_runs::{replay, run_logged};
+use clap::Error;
+use clap::error::ErrorKind;
+use genesis::Genesis;
+use scenario::ScenarioFault;
+use simulation::{Clients, sim};
+use std::alloc::{AllocError, Global};
+use std::fs::File;
+use std::io::{BufReader, Read, Write};
+use std::rt::Files;
+use std::sync::Wait;
+use std::thread::Threads;
+use witness_pool::OpenGate;
+
+/// Why a genesis file of this path says no genesis.
+fn genesis_failure<'a>(path: &'a str, why: NoGenesis) -> Failure<'a> {
+    match why {
+        NoGenesis::Unread => Failure::CannotRead(path),
+        NoGenesis::Fault(fault) => match fault.number() {
+            Some(number) => Failure::Genesis { number, fault },
+            None => Failure::Scenario(ScenarioFault::OutOfMemory),
+        },
+    }
+}
+
+/// The genesis that a file says.
+pub fn genesis_of_file<'a, R: Files + AllocGlobal>(
+    rt: &R,
+    path: &'a str,
+) -> Result<Genesis, Failure<'a>> {
+    let Ok(file) = File::open(rt, path) else {
+        return Err(Failure::CannotRead(path));
+    };
+    // One byte more than a genesis file may have makes it too large, so a file without end takes no more memory.
+    let mut bytes = file.take(MAX_GENESIS_SIZE + 1);
+    match read_genesis(rt.alloc(), &mut bytes) {
+        Ok(genesis) => Ok(genesis),
+        Err(why) => Err(genesis_failure(path, why)),
+    }
+}
+
+/// Runs the script that a reader gives, read through a buffer, on a network of this genesis.
+fn run_reader<R: Read, W: Write>(
+    alloc: Global,
+    genesis: Genesis,
+    reader: &mut R,
+    out: &mut W,
+) -> Result<(), ScenarioFault>
+    ensures ok { OnOk result (IfSome (R.remaining reader.old)
+        (λ text. EndsWell (script_network genesis) text (W.contents out.old) (W.contents out.new))) }
+    ensures fault { IfErr result (λ why. IfSome (R.remaining reader.old)
+        (λ text. EndsBySome (script_network genesis) text (W.contents out.old) (W.contents out.new) why)) }
+{
+    let Ok(mut reader) = BufReader::new(alloc, reader) else {
+        return Err(ScenarioFault::OutOfMemory);
+    };
+    scenario::run(alloc, genesis, &mut reader, out)
+}
+
+/// Runs the script of a file on a network of this genesis.
+fn run_file<'a, R: Files + AllocGlobal, W: Write>(
+    rt: &R,
+    genesis: Genesis,
+    path: &'a str,
+    out: &mut W,
+) -> Result<(), Failure<'a>> {
+    let Ok(file) = File::open(rt, path) else {
+        return Err(Failure::CannotRead(path));
+    };
+    // One byte more than a script may have makes its line a bad one, so a line without end takes no more memory.
+    let mut script = file.take(scenario::MAX_SCRIPT_SIZE + 1);
+    match run_reader(rt.alloc(), genesis, &mut script, out) {
+        Ok(()) => Ok(()),
+        Err(fault) => Err(Failure::Scenario(fault)),
+    }
+}
+
+/// Runs the script of a file under the genesis of another. The genesis is read first, and where it is none the script
+/// isn't opened.
+fn run_files<'a, R: Files + AllocGlobal, W: Write>(
+    rt: &R,
+    genesis: &'a str,
+    script: &'a str,
+    out: &mut W,
+) -> Result<(), Failure<'a>> {
+    let genesis = genesis_of_file(rt, genesis)?;
+    run_file(rt, genesis, script, out)
+}
+
+/// Runs the simulation that the script of a file says, with so many clients, on a network of this genesis.
+fn sim_file<'a, R: Files + AllocGlobal + Threads + Wait + Sync, W: Write>(
+    rt: &R,
+    genesis: Genesis,
+    path: &'a str,
+    clients: Clients,
+    out: &mut W,
+) -> Result<(), Failure<'a>> {
+    let Ok(file) = File::open(rt, path) else {
+        return Err(Failure::CannotRead(path));
+    };
+    // One byte more than a script may have makes its line a bad one, so a line without end takes no more memory.
+    let script = file.take(scenario::MAX_SCRIPT_SIZE + 1);
+    let Ok(mut reader) = BufReader::new(rt.alloc(), script) else {
+        return Err(Failure::Scenario(ScenarioFault::OutOfMemory));
+    };
+    match sim(rt, genesis, &mut reader, out, clients, &OpenGate) {
+        Ok(()) => Ok(()),
+        Err(fault) => Err(Failure::Scenario(fault)),
+    }
+}
+
+/// Runs the simulation that the script of a file says, with so many clients, under the genesis of another.
+fn sim_files<'a, R: Files + AllocGlobal + Threads + Wait + Sync, W: Write>(
+    rt: &R,
+    genesis: &'a str,
+    script: &'a str,
+    clients: Clients,
+    out: &mut W,
+) -> Result<(), Failure<'a>> {
+    let genesis = genesis_of_file(rt, genesis)?;
+    sim_file(rt, genesis, script, clients, out)
+}
+
+/// Tells why a command line is no job, and answers the status.
+fn refuse<O: Write, E: Write>(error: &Error, out: &mut O, err: &mut E) -> u8
+    ensures memory { kind_of error.now ≡ ErrorKind.OutOfMemory → result ≡ 1 }
+    ensures mistake { kind_of error.now ≢ ErrorKind.OutOfMemory → kind_of error.now ≢ ErrorKind.DisplayHelp
+        → kind_of error.now ≢ ErrorKind.DisplayVersion → result ≡ 2 }
+    ensures status { result ≤ 2 }
+    ensures quiet { result ≡ 0 → err.new ≡ err.old }
+    ensures refused { result ≡ 2 → out.new ≡ out.old }
+    ensures never_done { result ≡ 0 → (kind_of error.now ≡ ErrorKind.DisplayHelp)
+        ⊎ (kind_of error.now ≡ ErrorKind.DisplayVersion) }
+{
+    if error.kind() == ErrorKind::OutOfMemory {
+        return fail(&ScenarioFault::OutOfMemory, err);
+    }
+    if error.use_stderr() {
+        let _ = write!(err, "{error}");
+        return 2;
+    }
+    match write!(out, "{error}") {
+        Ok(()) => 0,
+        Err(_) => fail(&ScenarioFault::WriteFailed, err),
+    }
+}
+
+/// Does a job, and answers the status: 0 where it was done, and else 1 with one line on standard error.
+fn do_job<R: Files + AllocGlobal + Threads + Wait + Sync, O: Write, E: Write>(
+    rt: &R,
+    job: &Job<'_>,
+    out: &mut O,
+    err: &mut E,
+) -> u8
+    ensures status { result ≤ 1 }
+    ensures quiet { result ≡ 0 → err.new ≡ err.old }
+{
+    match job {
+        Job::Run {
+            genesis,
+            script,
+            log: None,
+        } => tell(run_files(rt, *genesis, *script, out), err),
+        Job::Run {
+            genesis,
+            script,
+            log: Some(log),
+        } => tell(run_logged(rt, *genesis, *script, *log, out), err),
+        Job::Sim {
+            genesis,
+            script,
+            clients,
+        } => tell(sim_files(rt, *genesis, *script, *clients, out), err),
+        Job::Replay { genesis, log } => tell(replay(rt, *genesis, *log, out), err),
+    }
+}
+
+/// Tells why a job wasn't done, where it wasn't, and answers the status.
+fn tell<E: Write>(end: Result<(), Failure<'_>>, err: &mut E) -> u8
+    ensures status { result ≤ 1 }
+    ensures quiet { result ≡ 0 → err.new ≡ err.old }
+{
+    match end {
+        Ok(()) => 0,
+        Err(failure) => {
+            let _ = write!(err, "{failure}\n");
+            1
+        }
+    }
+}
+
+/// Does what the words of the command line ask for. Answers 0 where that was done, 2 for a refused command line
+/// and else 1 with one line on standard error.
+pub fn start<R: Files + AllocGlobal + Threads + Wait + Sync, O: Write, E: Write>(
+    rt: &R,
+    words: &[String],
+    out: &mut O,
+    err: &mut E,
+) -> u8
+    ensures status { result ≤ 2 }
+    // Where that was done nothing is written on standard error.
+    ensures quiet { result ≡ 0 → err.new ≡ err.old }
+    // For a refused command line nothing is written on standard output.
+    ensures refused { result ≡ 2 → out.new ≡ out.old }
+{
+    match job(rt.alloc(), words) {
+        Ok(job) => do_job(rt, &job, out, err),
+        Err(error) => refuse(&error, out, err),
+    }
+}
+
+/// Tells a fault in one line, and answers the status.
+fn fail<E: Write>(fault: &ScenarioFault, err: &mut E) -> u8
+    ensures { result ≡ 1 }
+{
+    let _ = write!(err, "{fault}\n");
+    1
+}
