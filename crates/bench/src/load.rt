@@ -4,7 +4,7 @@
 ghost use Rattle.std.specs.Prelude.{◌≡◌};
 
 use crate::networks::{FAR_BACK, genesis};
-use crate::peers::{Sender, Work, bring, dealt, send_each};
+use crate::peers::{Sender, Work, bring_if, dealt, send_each};
 use crate::texts::{End, genesis_id, put_payments};
 use crate::timing::{Telling, nanos_if, now, print};
 use chain_core::{FollowerId, Instruction};
@@ -178,58 +178,45 @@ fn clients_of<B: Room, R: Wait>(
     Some(clients)
 }
 
-/// Those who have done their part, and how long all arrivals took.
+/// The clients, who have done their part, and how long all arrivals took, if every thread could be started.
 #[derive(Drop)]
-struct Ended<B: Room, M: Mailroom> {
-    adder: Adder<OpenGate, B, M>,
+struct Ended<B: Room> {
     clients: Vec<Client<B>>,
-    brought: Work,
+    brought: Option<Work>,
 }
 
-/// Runs all threads, the adder on this one. None where one couldn't be started.
+/// Runs all threads, the adder on this one.
 fn run_threads<B: Room + Send + Sync, M: Mailroom + Send + Sync, R: Threads + Wait + Clock + Sync>(
     rt: &R,
     alloc: Global,
     shared: &Shared<TestScheme, B>,
-    mut adder: Adder<OpenGate, B, M>,
+    adder: &mut Adder<OpenGate, B, M>,
     senders: Vec<Sender<M>>,
     clients: Vec<Client<B>>,
-) -> Option<Ended<B, M>> {
+) -> Ended<B> {
     let ended = AtomicBool::new(false);
     let ended = &ended;
-    thread::scope(
-        thread::scope_env(),
-        rt,
-        move |scope| -> Option<Ended<B, M>> {
-            let mut all = true;
-            let mut visiting = Vec::new(alloc);
-            for client in clients {
-                let visitor = scope.spawn(move || visited(rt, alloc, shared, client, ended));
-                match visitor {
-                    Ok(visitor) => all &= visiting.push(visitor).is_ok(),
-                    Err(_) => all = false,
-                }
+    thread::scope(thread::scope_env(), rt, move |scope| -> Ended<B> {
+        let mut all = true;
+        let mut visiting = Vec::new(alloc);
+        for client in clients {
+            let visitor = scope.spawn(move || visited(rt, alloc, shared, client, ended));
+            match visitor {
+                Ok(visitor) => all &= visiting.push(visitor).is_ok(),
+                Err(_) => all = false,
             }
-            for sender in senders {
-                all &= scope.spawn(move || send_each(rt, sender, ended)).is_ok();
-            }
-            if !all {
-                ended.store(true, Ordering::SeqCst);
-                return None;
-            }
-            let brought = bring(rt, shared, &mut adder, TEXTS, ended);
-            let mut clients = Vec::new(alloc);
-            for visitor in visiting {
-                let client = visitor.join(rt);
-                clients.push(client).ok()?;
-            }
-            Some(Ended {
-                adder,
-                clients,
-                brought,
-            })
-        },
-    )
+        }
+        for sender in senders {
+            all &= scope.spawn(move || send_each(rt, sender, ended)).is_ok();
+        }
+        let brought = bring_if(all, rt, shared, adder, TEXTS, ended);
+        let mut clients = Vec::new(alloc);
+        for visitor in visiting {
+            // One that is lost here is missed when all are counted.
+            let _ = clients.push(visitor.join(rt));
+        }
+        Ended { clients, brought }
+    })
 }
 
 /// Whether each sending peer's texts were all brought, and nothing of the others.
@@ -260,19 +247,15 @@ fn learns_all<B: Room, M: Mailroom, R: Wait>(
 fn summed_up<B: Room, M: Mailroom, R: Wait>(
     rt: &R,
     shared: &Shared<TestScheme, B>,
-    ended: Ended<B, M>,
+    adder: &mut Adder<OpenGate, B, M>,
+    clients: &mut [Client<B>],
+    brought: Work,
 ) -> Option<(Work, u64)> {
-    let Ended {
-        mut adder,
-        clients,
-        brought,
-    } = ended;
     let mut all = are_counted(&adder.counts()) && clients.len() == CLIENTS;
     let mut calls = 0u64;
     for client in clients {
-        let mut client = client;
         calls = calls.saturating_add(client.calls);
-        all &= learns_all(rt, shared, &mut adder, &mut client);
+        all &= learns_all(rt, shared, adder, client);
     }
     if all { Some((brought, calls)) } else { None }
 }
@@ -292,9 +275,15 @@ fn run_inbox<B: Room + Send + Sync, M: Mailroom + Send + Sync, R: Threads + Wait
     let (ends, end) = inbox.named::<M>().ok()?;
     let senders = dealt(alloc, ends, SENDING, texts_sent(alloc))?;
     let clients = clients_of(rt, alloc, shared, callers)?;
-    let adder = Adder::new(alloc, end, caller, Pool::new(OpenGate), WORKERS);
-    let ended = run_threads(rt, alloc, shared, adder, senders, clients)?;
-    summed_up(rt, shared, ended)
+    let mut adder = Adder::new(alloc, end, caller, Pool::new(OpenGate), WORKERS);
+    let mut ended = run_threads(rt, alloc, shared, &mut adder, senders, clients);
+    summed_up(
+        rt,
+        shared,
+        &mut adder,
+        ended.clients.as_mut_slice(),
+        ended.brought?,
+    )
 }
 
 /// Opens the core under a name, and runs all. None where it can't be made, or anything was lost.

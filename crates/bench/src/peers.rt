@@ -106,7 +106,7 @@ fn bring_all<B: Room, M: Mailroom, R: Threads + Wait + Sync>(
 }
 
 /// Brings all blocks, and tells how long that took. Whoever watches is then to end.
-pub fn bring<B: Room, M: Mailroom, R: Threads + Wait + Clock + Sync>(
+fn bring<B: Room, M: Mailroom, R: Threads + Wait + Clock + Sync>(
     rt: &R,
     shared: &Shared<TestScheme, B>,
     adder: &mut Adder<OpenGate, B, M>,
@@ -121,6 +121,22 @@ pub fn bring<B: Room, M: Mailroom, R: Threads + Wait + Clock + Sync>(
         calls: blocks,
         nanos,
     }
+}
+
+/// The same where every thread could be started. Else those that were are to end.
+pub fn bring_if<B: Room, M: Mailroom, R: Threads + Wait + Clock + Sync>(
+    all_started: bool,
+    rt: &R,
+    shared: &Shared<TestScheme, B>,
+    adder: &mut Adder<OpenGate, B, M>,
+    blocks: u64,
+    ended: &AtomicBool,
+) -> Option<Work> {
+    if all_started {
+        return Some(bring(rt, shared, adder, blocks, ended));
+    }
+    ended.store(true, Ordering::SeqCst);
+    None
 }
 
 /// Reads the height until it is told to end, and tells how often.
@@ -167,7 +183,7 @@ fn two_of<B: Room>(callers: &mut Vec<Caller<B>>) -> Option<(Caller<B>, Caller<B>
 fn run_all<B: Room + Send + Sync, M: Mailroom + Send + Sync, R: Threads + Wait + Clock + Sync>(
     rt: &R,
     shared: &Shared<TestScheme, B>,
-    mut adder: Adder<OpenGate, B, M>,
+    adder: &mut Adder<OpenGate, B, M>,
     senders: Vec<Sender<M>>,
     watcher: Caller<B>,
     blocks: u64,
@@ -180,13 +196,12 @@ fn run_all<B: Room + Send + Sync, M: Mailroom + Send + Sync, R: Threads + Wait +
         for sender in senders {
             all &= scope.spawn(move || send_each(rt, sender, ended)).is_ok();
         }
-        if !all {
-            ended.store(true, Ordering::SeqCst);
-            return None;
-        }
-        let brought = bring(rt, shared, &mut adder, blocks, ended);
+        let brought = bring_if(all, rt, shared, adder, blocks, ended);
         let watched = watching.ok()?.join(rt);
-        Some(Measured { brought, watched })
+        Some(Measured {
+            brought: brought?,
+            watched,
+        })
     })
 }
 
@@ -215,8 +230,8 @@ fn run_inbox<B: Room + Send + Sync, M: Mailroom + Send + Sync, R: Threads + Wait
     let (ends, end) = inbox.named::<M>().ok()?;
     let blocks = load.texts.len() as u64;
     let senders = dealt(alloc, ends, load.peers, load.texts)?;
-    let adder = Adder::new(alloc, end, caller, Pool::new(OpenGate), load.workers);
-    run_all(rt, shared, adder, senders, watcher, blocks)
+    let mut adder = Adder::new(alloc, end, caller, Pool::new(OpenGate), load.workers);
+    run_all(rt, shared, &mut adder, senders, watcher, blocks)
 }
 
 /// Opens the core under a name, and runs the measurement. None where it can't be made.

@@ -11,7 +11,6 @@ use Rattle.model.specs.Block.{Block}
 use Rattle.model.specs.Ledger.{Network}
 use Rattle.std.specs.BTreeSet.{BTreeSet}
 use Rattle.model.specs.Chain.{HaveDistinctHashes, immutable_length, immutable_part}
-use Rattle.std.specs.Global.{Vec}
 use Rattle.model.specs.Rules.{Params}
 use Rattle.model.specs.Applying.{LedgerState, IsStateOf}
 use Rattle.model.specs.Mempool.{SubmitReply}
@@ -171,18 +170,18 @@ opened_noted network old whole back blocks noted within grows =
     take-append-le o (take stays items) blocks (omega (arith, length-take stays items, begins, within, d)) ∙ take-take o stays items (omega (arith, begins, within, d)) in
     subst (AllByRecursion (IsBlockNoted noted)) (sym same) (blocks_keep old.past noted grows (take o items) first)
 
-pub switch_noted : {S : Type 0} (network : Network) (old : ChainDb S) → IsWhole network old → (switch : Switch S) (chain : Vec Block) (noted next : BTreeSet (List ℕ)) (k : ℕ) → chain.items ≡ old.chain.items → switch.back ≤ depth old.db → k ≡ network.genesis.k
+pub switch_noted : {S : Type 0} (network : Network) (old : ChainDb S) → IsWhole network old → (switch : Switch S) (noted next : BTreeSet (List ℕ)) (k : ℕ) → switch.back ≤ depth old.db → k ≡ network.genesis.k
     → next ≡ noted → ((hash : List ℕ) → IsNoted old.past hash → IsNoted noted hash)
-    → (AllByRecursion (IsBlockNoted old.past) (take (length chain.items - depth old.db) chain.items)
-    → AllByRecursion (IsBlockNoted noted) (take (length chain.items - switch.back + length switch.blocks.items - k) (without_last switch.back chain.items ++ switch.blocks.items)))
+    → (AllByRecursion (IsBlockNoted old.past) (take (length old.chain.items - depth old.db) old.chain.items)
+    → AllByRecursion (IsBlockNoted noted) (take (length old.chain.items - switch.back + length switch.blocks.items - k) (without_last switch.back old.chain.items ++ switch.blocks.items)))
     → AllByRecursion (IsBlockNoted next) (immutable_part network (without_last switch.back old.chain.items ++ switch.blocks.items))
-switch_noted network old whole switch chain noted next k same within k_is stays grows told =
+switch_noted network old whole switch noted next k within k_is stays grows told =
     let items = old.chain.items in
     let after = without_last switch.back items ++ switch.blocks.items in
     let a = length items - switch.back + length switch.blocks.items - k in
     let before : AllByRecursion (IsBlockNoted old.past) (take (length items - depth old.db) items) =
     subst (λ n. AllByRecursion (IsBlockNoted old.past) (take n items)) (let d = whole.settled.depth in let e : immutable_length network items ≡ length items - depth old.db = omega (arith, d) in e) whole.past in
-    let here : AllByRecursion (IsBlockNoted noted) (take a after) = subst (λ (bs : List Block). AllByRecursion (IsBlockNoted old.past) (take (length bs - depth old.db) bs) → AllByRecursion (IsBlockNoted noted) (take (length bs - switch.back + length switch.blocks.items - k) (without_last switch.back bs ++ switch.blocks.items))) same told before in
+    let here : AllByRecursion (IsBlockNoted noted) (take a after) = told before in
     let long = length-append (without_last switch.back items) switch.blocks.items in
     let kept = length-take (length items - switch.back) items in
     let begins = begins_not_longer items network.opened whole.settled.opened in

@@ -151,14 +151,40 @@ impl<S: SigScheme> ChainDb<S> {
                 Ok(Change { back: 0, added: 0 })
             }
             Choice::Switch(switch) => {
-                let resynced = self.resync(&switch)?;
-                self.chain.reserve(switch.blocks.len())?;
-                self.note_past(genesis.k(), &switch)?;
+                let resynced = self.make_ready(genesis.k(), &switch)?;
                 self.insert(block, &invalid)?;
                 self.mempool.put(resynced);
                 self.switch_to(switch)
             }
         }
+    }
+
+    /// What stays of the mempool beside the chain that the switch makes, for which there is room then, and whose past
+    /// blocks are noted. Where memory runs out there may be more room, and some of them noted, which changes no answer.
+    fn make_ready(&mut self, k: u64, switch: &Switch<S>) -> Result<Resynced<S>, AllocError>
+        requires depth { switch.now.prepared.back ≤ depth self.old.db }
+        requires back { switch.now.back ≤ length self.old.chain.items }
+        ensures resynced { IfOk result (λ resynced. (genesis : Genesis) (opened chain blocks : List Block) →
+            IsDatabaseOf (network_on genesis S.verifies opened) chain self.old.db →
+            IsPreparedOf (network_on genesis S.verifies opened) (without_last switch.now.prepared.back chain) blocks
+            switch.now.prepared → IsResynced (network_on genesis S.verifies opened)
+            (without_last switch.now.prepared.back chain ++ blocks) self.old.mempool.waiting.txs resynced) }
+        ensures room { OnOk result (length self.new.chain.items + length switch.now.blocks.items
+            ≤ vec_capacity self.new.chain) }
+        ensures kept { (hash : List ℕ) → IsNoted self.old.past hash → IsNoted self.new.past hash }
+        ensures noted { OnOk result (
+            AllByRecursion (IsBlockNoted self.old.past)
+            (take (length self.old.chain.items - depth self.old.db) self.old.chain.items) →
+            AllByRecursion (IsBlockNoted self.new.past)
+            (take (length self.old.chain.items - switch.now.back + length switch.now.blocks.items - k)
+            (without_last switch.now.back self.old.chain.items ++ switch.now.blocks.items))) }
+        ensures chain { self.new.chain.items ≡ self.old.chain.items }
+        ensures frame { self.new ≡ record self.old { chain = self.new.chain; past = self.new.past } }
+    {
+        let resynced = self.resync(switch)?;
+        self.chain.reserve(switch.blocks.len())?;
+        self.note_past(k, switch)?;
+        Ok(resynced)
     }
 
     /// What stays of the mempool beside the chain that the switch makes.

@@ -1,7 +1,7 @@
 //! A shared core that is being opened.
 
-ghost use Rattle.std.specs.Prelude.{◌≡◌, [], IfOk, IfErr};
-ghost use Rattle.shared.specs.Heights.{has_dealt, new_caller, Deals};
+ghost use Rattle.std.specs.Prelude.{◌≡◌, [], IfOk, IfErr, OnOk};
+ghost use Rattle.shared.specs.Heights.{first_view, has_dealt, new_caller, Deals};
 ghost use Rattle.shared.specs.Opening.{IsOpenFault, newcomers};
 
 use crate::caller::Caller;
@@ -56,6 +56,36 @@ fn deal<S: SigScheme>(heights: &Heights<S>, seat: &mut HeightSeat, number: u64) 
     heights.shared.split_seat::<Dealing>(seat)
 }
 
+/// The callers of the numbers below `count`, who made no call and have seen nothing.
+fn deal_all<S: SigScheme, B: Room>(
+    alloc: Global,
+    heights: &Heights<S>,
+    seat: &mut HeightSeat,
+    count: usize,
+) -> Result<Vec<Caller<B>>, AllocError>
+    requires word { heights.now.shared.table_id.words ≡ 1 }
+    requires table { heights.now.shared.table_id ≡ B.table }
+    requires seat { seat.old.table_id ≡ heights.now.shared.table_id }
+    requires first { seat.old.me ≡ (first_view B.genesis, []) }
+    ensures all { IfOk result (λ all. all.items ≡ newcomers count) }
+    ensures table { seat.new.table_id ≡ seat.old.table_id }
+    ensures seat { OnOk result (seat.new.me ≡ (record (first_view B.genesis) { role = Deals count }, [])) }
+{
+    let mut all = Vec::with_capacity(alloc, count)?;
+    for number in 0..count as u64 {
+        let dealt = deal(heights, seat, number);
+        let seat_of_caller = CallerSeat {
+            number,
+            seat: dealt,
+            room: PhantomData,
+        };
+        all.push(Caller {
+            seat: seat_of_caller,
+        })?;
+    }
+    Ok(all)
+}
+
 impl<S: SigScheme> Opened<S> {
     /// A core of this genesis for so many callers, 1 to 64, before anything arrived. Err `BadCallers` where they are
     /// fewer or more, and `OutOfMemory` only where they aren't. Takes what [`Core::new`] takes.
@@ -93,18 +123,7 @@ impl<S: SigScheme> Opened<S> {
             heights,
             mut seat,
         } = self;
-        let mut all = Vec::with_capacity(alloc, callers)?;
-        for number in 0..callers as u64 {
-            let dealt = deal(&heights, &mut seat, number);
-            let seat_of_caller = CallerSeat {
-                number,
-                seat: dealt,
-                room: PhantomData,
-            };
-            all.push(Caller {
-                seat: seat_of_caller,
-            })?;
-        }
+        let all = deal_all(alloc, &heights, &mut seat, callers)?;
         let journal = Journal {
             entries: Vec::new(alloc),
             writer: seat,

@@ -34,14 +34,14 @@ returns-clause-ok g c =
     let choice = subst (IsChoice network c.deref.result.now old.store old.db new) c.in-Switch.is (c.in_ok-choice.ensures.choice c.args.genesis.now opened ready) in
     let is = subst (λ (bs : List Block). IsSwitch network bs old.store old.db new c.in-Switch.switch) c.deref.ensures.value choice in
     let found = subst (λ (bs : List Block). AllByRecursion (IsFoundDead network bs (new ∷ blocks_of old.store)) c.in_ok-choice.field-0.invalid.items) c.deref.ensures.value (c.in_ok-choice.ensures.invalid c.args.genesis.now opened ready) in
-    let frame : c.insert-in-Switch.new.self ≡ record old { chain = c.reserve.new.self; store = c.insert-in-Switch.new.self.store; past = c.note_past.new.self.past } =
-    subst (λ (a : ChainDb g.row.S.Denot). c.insert-in-Switch.new.self ≡ record a { store = c.insert-in-Switch.new.self.store }) c.note_past.ensures.frame c.insert-in-Switch.ensures.frame in
-    let taken = subst (λ (x : Store). IsTakenIn x new c.in_ok-choice.field-0.invalid.items c.insert-in-Switch.new.self.store) (ap (λ (a : ChainDb g.row.S.Denot). a.store) c.note_past.ensures.frame)
-    (subst (λ (hs : List BlockHash). IsTakenIn c.note_past.new.self.store new hs c.insert-in-Switch.new.self.store) c.deref-in-Switch.ensures.value c.in_ok-insert-in-Switch.ensures.ok) in
-    let noted = switch_noted network old c.requires.whole c.in-Switch.switch c.reserve.new.self c.note_past.new.self.past c.switch_to.new.self.past c.k.result c.reserve.ensures.items is.within c.k.ensures.k
-    (ap (λ (a : ChainDb g.row.S.Denot). a.past) c.switch_to.ensures.frame ∙ ap (λ (a : ChainDb g.row.S.Denot). a.past) frame) c.note_past.ensures.kept c.in_ok-note_past-in-Switch.ensures.noted in
+    let frame : c.insert-in-Switch.new.self ≡ record old { chain = c.make_ready.new.self.chain; store = c.insert-in-Switch.new.self.store; past = c.make_ready.new.self.past } =
+    subst (λ (a : ChainDb g.row.S.Denot). c.insert-in-Switch.new.self ≡ record a { store = c.insert-in-Switch.new.self.store }) c.make_ready.ensures.frame c.insert-in-Switch.ensures.frame in
+    let taken = subst (λ (x : Store). IsTakenIn x new c.in_ok-choice.field-0.invalid.items c.insert-in-Switch.new.self.store) (ap (λ (a : ChainDb g.row.S.Denot). a.store) c.make_ready.ensures.frame)
+    (subst (λ (hs : List BlockHash). IsTakenIn c.make_ready.new.self.store new hs c.insert-in-Switch.new.self.store) c.deref-in-Switch.ensures.value c.in_ok-insert-in-Switch.ensures.ok) in
+    let noted = switch_noted network old c.requires.whole c.in-Switch.switch c.make_ready.new.self.past c.switch_to.new.self.past c.k.result is.within c.k.ensures.k
+    (ap (λ (a : ChainDb g.row.S.Denot). a.past) c.switch_to.ensures.frame ∙ ap (λ (a : ChainDb g.row.S.Denot). a.past) frame) c.make_ready.ensures.kept c.in_ok-resynced-in-Switch.ensures.noted in
     added_at_switch network old new c.requires.whole c.requires.ready c.in_ok-choice.field-0.invalid.items found c.in-Switch.switch c.insert-in-Switch.new.self c.switch_to.new.self c.switch_to.result is taken
-    (ap (λ (a : ChainDb g.row.S.Denot). a.chain.items) frame ∙ c.reserve.ensures.items) (ap (λ (a : ChainDb g.row.S.Denot). a.db) frame) c.switch_to.ensures.chain c.switch_to.ensures.db c.switch_to.ensures.store
-    c.in_ok-resynced-in-Switch.resynced (c.in_ok-resynced-in-Switch.ensures c.args.genesis.now opened old.chain.items c.in-Switch.switch.blocks.items c.requires.whole.settled.database (subst (λ (n : ℕ). IsPreparedOf network (without_last n old.chain.items) c.in-Switch.switch.blocks.items c.in-Switch.switch.prepared) (sym is.back) is.prepared))
+    (ap (λ (a : ChainDb g.row.S.Denot). a.chain.items) frame ∙ c.make_ready.ensures.chain) (ap (λ (a : ChainDb g.row.S.Denot). a.db) frame) c.switch_to.ensures.chain c.switch_to.ensures.db c.switch_to.ensures.store
+    c.in_ok-resynced-in-Switch.resynced (c.in_ok-resynced-in-Switch.ensures.resynced c.args.genesis.now opened old.chain.items c.in-Switch.switch.blocks.items c.requires.whole.settled.database (subst (λ (n : ℕ). IsPreparedOf network (without_last n old.chain.items) c.in-Switch.switch.blocks.items c.in-Switch.switch.prepared) (sym is.back) is.prepared))
     (ap (λ (a : ChainDb g.row.S.Denot). a.mempool) c.switch_to.ensures.frame ∙ (c.put.ensures ∙ ap (λ (a : ChainDb g.row.S.Denot). record a.mempool { waiting = c.in_ok-resynced-in-Switch.resynced }) frame))
     noted (ap (λ (a : ChainDb g.row.S.Denot). a.opened) c.switch_to.ensures.frame ∙ ap (λ (a : ChainDb g.row.S.Denot). a.opened) frame) c.switch_to.ensures.change
