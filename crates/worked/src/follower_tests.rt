@@ -1,11 +1,10 @@
 //! What followers are told.
 
-use super::fixture::{MEMORY, SMALL_NETWORK, boxed, core_on, make, run_all};
+use super::fixture::{MEMORY, Made, SMALL_NETWORK, boxed, core_on, make, run_all};
 use chain_core::{
-    ArriveReply, Core, FollowerId, Instruction, NextFault, OpenFollowerFault, RawEvent, Reply,
-    UnknownFollower,
+    Core, FollowerId, NextFault, OpenFollowerFault, RawEvent, Reply, UnknownFollower,
 };
-use ident::Point;
+use ident::{BlockHash, Point};
 use std::process::Abort;
 use witness_pool::TestScheme;
 
@@ -45,48 +44,149 @@ fn follower_ids(rt: HostRuntime) {
     is_full(&rt, &mut core);
 }
 
-/// A question of a follower that is not open, its opening, an arrival, two questions, and that it is set to genesis and
+/// The one follower.
+const FOLLOWER: FollowerId = FollowerId { number: 0 };
+
+/// Two forks.
+#[derive(Drop)]
+struct Forks {
+    a1: Made,
+    a2: Made,
+    a3: Made,
+    a4: Made,
+    b1: Made,
+    b2: Made,
+    b3: Made,
+}
+
+/// Four blocks in the slots 1, 2, 3 and 8, and three in the slots 4, 5 and 6.
+fn forks(rt: &(impl Abort + AllocGlobal)) -> Box<Forks> {
+    let a1 = make(rt, None, 1);
+    let a2 = make(rt, Some(&a1), 2);
+    let a3 = make(rt, Some(&a2), 3);
+    let a4 = make(rt, Some(&a3), 8);
+    let b1 = make(rt, None, 4);
+    let b2 = make(rt, Some(&b1), 5);
+    let b3 = make(rt, Some(&b2), 6);
+    let forks = Forks {
+        a1,
+        a2,
+        a3,
+        a4,
+        b1,
+        b2,
+        b3,
+    };
+    boxed(rt, forks)
+}
+
+/// These blocks arrive.
+fn arrive_all(rt: &(impl Abort + AllocGlobal), events: &mut Vec<RawEvent>, blocks: &[&Made]) {
+    for made in blocks {
+        let text = made.text.to_vec(rt.alloc()).expect(rt, MEMORY);
+        events.push(RawEvent::Arrive(text)).expect(rt, MEMORY);
+    }
+}
+
+/// The follower asks so many times what is next.
+fn ask(rt: &impl Abort, events: &mut Vec<RawEvent>, times: u64) {
+    for _ in 0..times {
+        events.push(RawEvent::Next(FOLLOWER)).expect(rt, MEMORY);
+    }
+}
+
+/// The follower is to be set to the first of these blocks that is on the chain.
+fn forward(rt: &(impl Abort + AllocGlobal), events: &mut Vec<RawEvent>, blocks: &[&Made]) {
+    let mut points = Vec::new(rt.alloc());
+    for made in blocks {
+        let point = Point {
+            number: made.number,
+            hash: made.hash,
+        };
+        points.push(point).expect(rt, MEMORY);
+    }
+    let event = RawEvent::Forward(FOLLOWER, points);
+    events.push(event).expect(rt, MEMORY);
+}
+
+/// The chain is switched from the one fork to the other and back, beside a follower who asks, is set to blocks, and is
 /// closed.
-fn events_of(rt: &(impl Abort + AllocGlobal), text: Vec<u8>) -> Box<Vec<RawEvent>> {
-    let id = FollowerId { number: 0 };
-    let genesis = vec![in rt.alloc(); Point::genesis()].expect(rt, MEMORY);
+fn events_of(rt: &(impl Abort + AllocGlobal), forks: &Forks) -> Box<Vec<RawEvent>> {
     let mut events = boxed(rt, Vec::new(rt.alloc()));
-    events.push(RawEvent::Next(id)).expect(rt, MEMORY);
     events.push(RawEvent::Open).expect(rt, MEMORY);
-    events.push(RawEvent::Arrive(text)).expect(rt, MEMORY);
-    for _ in 0..2 {
-        events.push(RawEvent::Next(id)).expect(rt, MEMORY);
-    }
-    events
-        .push(RawEvent::Forward(id, genesis))
-        .expect(rt, MEMORY);
-    events.push(RawEvent::Close(id)).expect(rt, MEMORY);
+    arrive_all(rt, &mut events, &[&forks.a1, &forks.a2]);
+    ask(rt, &mut events, 2);
+    arrive_all(rt, &mut events, &[&forks.b1, &forks.b2, &forks.b3]);
+    arrive_all(rt, &mut events, &[&forks.a3, &forks.a4]);
+    ask(rt, &mut events, 6);
+    forward(rt, &mut events, &[&forks.b3, &forks.a2]);
+    ask(rt, &mut events, 1);
+    forward(rt, &mut events, &[&forks.b3]);
+    events.push(RawEvent::Close(FOLLOWER)).expect(rt, MEMORY);
+    ask(rt, &mut events, 1);
     events
 }
 
-/// Whether the answers to those are that the follower is told the block of this text.
-fn is_told(replies: &[Reply<TestScheme>], text: &[u8]) -> bool {
-    match replies {
-        [
-            Reply::Next(Err(NextFault::UnknownFollower)),
-            Reply::Open(Ok(opened)),
-            Reply::Arrive(Ok(ArriveReply::Kept { back: 0, added: 1 })),
-            Reply::Next(Ok(Some(Instruction::AddBlock(told)))),
-            Reply::Next(Ok(None)),
-            Reply::Forward(Ok(Some(Point { number: 0, .. }))),
-            Reply::Close(Ok(())),
-        ] => opened.number == 0 && told.bytes() == text,
-        _ => false,
+/// What is answered to these, with names in place of hashes.
+const ANSWERS: &str = "opened 0
+kept back 0 added 1
+kept back 0 added 1
+add A1
+add A2
+kept back 0 added 0
+kept back 0 added 0
+kept back 2 added 3
+kept back 0 added 0
+kept back 3 added 4
+rollback 0 genesis
+add A1
+add A2
+add A3
+add A4
+none
+2 A2
+add A3
+none
+closed
+refused UnknownFollower
+";
+
+/// What is answered, one answer a line.
+fn text_of(rt: &(impl Abort + AllocGlobal), replies: &[Reply<TestScheme>]) -> String {
+    let mut text = String::new(rt.alloc());
+    for reply in replies {
+        write!(text, "{reply}\n").expect(rt, MEMORY);
     }
+    text
 }
 
-// Events in a list are answered as one by one.
+/// The text with this name in place of the hash.
+fn named(rt: &(impl Abort + AllocGlobal), text: &str, hash: BlockHash, name: &str) -> String {
+    let digits = format!(in rt.alloc(); "{hash}").expect(rt, MEMORY);
+    text.replace(rt.alloc(), digits.as_str(), name)
+        .expect(rt, MEMORY)
+}
+
+/// These are the answers.
+fn are_answered(rt: &(impl Abort + AllocGlobal), replies: &[Reply<TestScheme>], forks: &Forks) {
+    let mut text = text_of(rt, replies);
+    text = named(rt, &text, Point::genesis().hash, "genesis");
+    text = named(rt, &text, forks.a1.hash, "A1");
+    text = named(rt, &text, forks.a2.hash, "A2");
+    text = named(rt, &text, forks.a3.hash, "A3");
+    text = named(rt, &text, forks.a4.hash, "A4");
+    assert!(rt; text.as_str() == ANSWERS);
+}
+
+// Events in a list are answered as one by one, as a case of scripts has it line by line.
 #[test]
-fn run_with_a_follower(rt: HostRuntime) {
-    let again = make(&rt, None, 1).text;
-    let text = make(&rt, None, 1).text;
-    let events = events_of(&rt, text);
-    let mut core = core_on(&rt, SMALL_NETWORK);
+fn calls_with_ample_memory(rt: HostRuntime) {
+    let forks = forks(&rt);
+    let events = events_of(&rt, &forks);
+    let network = SMALL_NETWORK
+        .replace(rt.alloc(), "k = 2\n", "k = 3\n")
+        .expect(&rt, MEMORY);
+    let mut core = core_on(&rt, network.as_str());
     let replies = run_all(&rt, &mut core, &events);
-    assert!(rt; is_told(&replies, &again));
+    are_answered(&rt, &replies, &forks);
 }

@@ -242,3 +242,27 @@ fn versions_share_their_nodes(rt: HostRuntime) {
     keep_versions(&rt, &mut map, &mut versions);
     have_what_they_had(&rt, &map, &versions);
 }
+
+/// The entries of the map are these keys, each with itself as its amount, in their order.
+fn has_just(rt: &(impl Abort + AllocGlobal), map: &Amounts, keys: &[u64]) {
+    let mut entries = map.iter();
+    for key in keys {
+        comes_next(rt, &mut entries, *key, *key);
+    }
+    is_at_end(rt, &mut entries);
+}
+
+// A version that was kept stays as it was, also where a key is put in and another taken out.
+#[test]
+fn a_kept_version_stays(rt: HostRuntime) {
+    let keys = rising(&rt, 1000);
+    let mut map = PersistentMap::new(rt.alloc());
+    fill(&rt, &mut map, &keys);
+    let kept = map.try_clone().expect(&rt, MEMORY);
+    same(&rt, "before", put(&rt, &mut map, 1000, 7), 0);
+    same(&rt, "with one more", map.len() as u64, 1001);
+    same(&rt, "taken out", take(&rt, &mut map, 500), 500);
+    same(&rt, "with one less", map.len() as u64, 1000);
+    assert!(rt; map.get(&500).is_none());
+    has_just(&rt, &kept, &keys);
+}

@@ -3,14 +3,23 @@
 use super::fixture::{check, is_spelled};
 use super::transaction_making::{MINTING_ID, PAYING_ID};
 use super::transactions::read_all;
-use super::verdicts::{BAD_PAYMENT, PAYMENT, SIGNED, SIGNED_MINTING, has_key};
+use super::verdicts::{
+    BAD_PAYMENT, BADLY_IN_VAIN, PAYMENT, SIGNED, SIGNED_IN_VAIN, SIGNED_MINTING, has_key,
+};
 use std::process::Abort;
 use std::sync::atomic::{AtomicBool, AtomicU64, Ordering};
 use std::thread::{self, Threads};
 use witness_pool::{CheckedTx, Gate, OpenGate, Pool, PoolFault, TestScheme};
 
-/// Three jobs: the payment of 910 lovelace, the same badly signed, and the minting.
-const JOBS: &[&[&str]] = &[PAYMENT, BAD_PAYMENT, SIGNED_MINTING];
+/// Five jobs: the payment of 910 lovelace, the same badly signed, both of these with a script that never holds, and the
+/// minting.
+const JOBS: &[&[&str]] = &[
+    PAYMENT,
+    BAD_PAYMENT,
+    SIGNED_IN_VAIN,
+    BADLY_IN_VAIN,
+    SIGNED_MINTING,
+];
 
 /// The transactions with their verdicts, by so many workers.
 fn checked_by<R: Threads + Sync + Abort + AllocGlobal, G: Gate + Drop>(
@@ -23,16 +32,18 @@ fn checked_by<R: Threads + Sync + Abort + AllocGlobal, G: Gate + Drop>(
     Pool::new(gate).check::<R, TestScheme>(rt, rt.alloc(), workers, txs)
 }
 
-/// The identifiers of the three jobs, whether each is signed, and whether its scripts hold.
+/// The identifiers of the five jobs, whether each is signed, and whether its scripts hold.
 const VERDICTS: &[(&str, bool, bool)] = &[
     (PAYING_ID, true, true),
     (PAYING_ID, false, true),
+    (PAYING_ID, true, false),
+    (PAYING_ID, false, false),
     (MINTING_ID, true, true),
 ];
 
-/// These are the three jobs in their order, each with the key of all of them.
+/// These are the five jobs in their order, each with the key of all of them.
 fn are_judged(rt: &(impl Abort + AllocGlobal), checked: &[CheckedTx<TestScheme>]) {
-    check(rt, "three", checked.len() == 3);
+    check(rt, "five", checked.len() == 5);
     for (checked, (id, signed, holding)) in checked.iter().zip(VERDICTS) {
         is_spelled(rt, &[*id], checked.tx().id().as_bytes());
         has_key(rt, checked);
@@ -107,7 +118,7 @@ fn two_workers_run_at_once(rt: HostRuntime) {
         met: AtomicU64::new(0),
     };
     let checked = checked_by(&rt, &gate, 2, JOBS).expect(&rt, "verdicts");
-    check(&rt, "three", checked.len() == 3);
+    check(&rt, "five", checked.len() == 5);
     check(&rt, "both met", gate.met.load(Ordering::SeqCst) == 2);
 }
 

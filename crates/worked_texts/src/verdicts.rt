@@ -69,7 +69,7 @@ const BADLY_TOO: &[&str] = &[
 ];
 
 /// The signed payment and a bad one with the script that asks for one of none, which holds never.
-const SIGNED_IN_VAIN: &[&str] = &[
+pub const SIGNED_IN_VAIN: &[&str] = &[
     "83",
     PAYING_BODY,
     "a2 0081825820",
@@ -80,7 +80,7 @@ const SIGNED_IN_VAIN: &[&str] = &[
     "0181820280 f6",
 ];
 
-const BADLY_IN_VAIN: &[&str] = &[
+pub const BADLY_IN_VAIN: &[&str] = &[
     "83",
     PAYING_BODY,
     "a2 0081825820",

@@ -127,15 +127,17 @@ fn forty_blocks(rt: &(impl Abort + AllocGlobal), peers: u64) -> String {
     lines
 }
 
-/// A simulation of this script with so many clients prints this.
+/// A simulation of this script with so many clients, where the line says how many blocks may be rolled back, prints
+/// this.
 fn simulates<G: Gate>(
     rt: &(impl Abort + Threads + Wait + Sync + AllocGlobal),
+    back: &str,
     script: &str,
     clients: usize,
     gate: &G,
     told: &str,
 ) {
-    let genesis = genesis_of(rt, "k = 50\n");
+    let genesis = genesis_of(rt, back);
     let clients = Clients::new(clients).expect(rt, "1 to 8 clients");
     let mut reader = script.as_bytes();
     let mut out = Vec::new(rt.alloc());
@@ -148,7 +150,7 @@ fn simulates<G: Gate>(
 fn forty_blocks_from_eight_peers(rt: HostRuntime) {
     let script = forty_blocks(&rt, 8);
     for _ in 0..50u64 {
-        simulates(&rt, &script, 1, &OpenGate, FORTY_TOLD);
+        simulates(&rt, "k = 50\n", &script, 1, &OpenGate, FORTY_TOLD);
     }
 }
 
@@ -156,7 +158,7 @@ fn forty_blocks_from_eight_peers(rt: HostRuntime) {
 fn forty_blocks_from_four_peers(rt: HostRuntime) {
     let script = forty_blocks(&rt, 4);
     for _ in 0..50u64 {
-        simulates(&rt, &script, 1, &OpenGate, FORTY_OF_FOUR_TOLD);
+        simulates(&rt, "k = 50\n", &script, 1, &OpenGate, FORTY_OF_FOUR_TOLD);
     }
 }
 
@@ -164,14 +166,21 @@ fn forty_blocks_from_four_peers(rt: HostRuntime) {
 fn several_clients(rt: HostRuntime) {
     let script = forty_blocks(&rt, 4);
     for _ in 0..50u64 {
-        simulates(&rt, &script, 3, &OpenGate, FORTY_OF_FOUR_TOLD_TO_THREE);
+        simulates(
+            &rt,
+            "k = 50\n",
+            &script,
+            3,
+            &OpenGate,
+            FORTY_OF_FOUR_TOLD_TO_THREE,
+        );
     }
 }
 
 #[test]
 fn repeated_arrivals(rt: HostRuntime) {
     for _ in 0..50u64 {
-        simulates(&rt, REPEATED, 1, &OpenGate, REPEATED_TOLD);
+        simulates(&rt, "k = 2\n", REPEATED, 1, &OpenGate, REPEATED_TOLD);
     }
 }
 
@@ -226,7 +235,7 @@ impl Gate for Gathering {
 fn gathers(rt: &(impl Abort + Threads + Wait + Sync + AllocGlobal), clients: usize, told: &str) {
     let threads = threads_of(clients);
     let gate = Gathering::new(rt, threads);
-    simulates(rt, REPEATED, clients, &gate, told);
+    simulates(rt, "k = 2\n", REPEATED, clients, &gate, told);
     assert!(rt; gate.gathered.load(Ordering::SeqCst) == threads as u64);
     assert!(rt; gate.ended.load(Ordering::SeqCst) == threads as u64);
 }
