@@ -4,7 +4,7 @@
 //! let mut store = BlockStore::<TestScheme>::new(alloc, genesis.max_volatile());
 //! store.insert(block)?; // or why not: Known, Clash, VolatileFull
 //! for next in &store.successors(Some(tip))? {
-//!     println!("{}", next.block().number());
+//!     println!(rt; "{}", next.block().number())?;
 //! }
 //! store.drop_up_to(immutable_tip.number);
 //! ```

@@ -18,8 +18,8 @@ const MOST_BYTES: usize = 0x7fff_ffff_ffff_ffff;
 /// A file as a disk. It keeps what the file holds and each change that was made, since no contract can say what a file
 /// of the system gives: a read gives what is kept, which is what the file gave when it was opened with what was written
 /// since. Once the system failed in a call it isn't known what the file holds: from then on each call fails, and
-/// [`FileDisk::into_file`] gives the file, on which a disk may be opened anew. That the file holds what was written, and
-/// that after a sync that succeeds a crash leaves it, is trusted of the system.
+/// [`FileDisk::into_file`] gives the file, on which a disk may be opened anew. That the file holds what was written,
+/// and that after a sync that succeeds a crash leaves it, is trusted of the system.
 #[derive(Drop)]
 pub struct FileDisk<F: Read + Write + Seek + OpenFile + Drop> {
     alloc: Global,

@@ -2,7 +2,7 @@
 //!
 //! ```text
 //! let genesis = Genesis::from_toml(alloc, &text)?;
-//! println!("{} lovelace at {} addresses", genesis.supply(), genesis.outputs().len());
+//! println!(rt; "{} lovelace at {} addresses", genesis.supply(), genesis.outputs().len())?;
 //! ```
 #![tactic(auto)]
 

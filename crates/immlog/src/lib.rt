@@ -3,7 +3,7 @@
 //! ```text
 //! let mut log = Log::open(rt, alloc, disk)?; // or the disk again, beside why not
 //! log.append(&blocks)?;                  // once it answers Ok, each crash leaves them all
-//! println!("{}", log.durable());
+//! println!(rt; "{}", log.durable())?;
 //! let disk = log.into_disk();
 //! ```
 #![tactic(auto)]

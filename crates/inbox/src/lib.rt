@@ -2,7 +2,8 @@
 //!
 //! ```text
 //! let opened = Opened::new(alloc, 8)?;
-//! let (mut peers, mut adder) = opened.named::<Brand>()?;
+//! // In a function for every `M: Mailroom`, which a program calls with `std::marker::Brand`:
+//! let (mut peers, mut adder) = opened.named::<M>()?;
 //! // Each thread has an end of its own.
 //! peers[0].send(rt, bytes)?; // Full gives the bytes back
 //! let arrival = adder.take(rt); // None where the inbox is empty

@@ -86,7 +86,7 @@ fn with_block<S: SigScheme>(
 /// ```text
 /// match apply_block(&state, &block) {
 ///     Ok(after) => state = after,
-///     Err(fault) => println!("block {}: {fault}", block.number()),
+///     Err(fault) => println!(rt; "block {}: {fault}", block.number())?,
 /// }
 /// ```
 pub fn apply_block<S: SigScheme>(

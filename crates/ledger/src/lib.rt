@@ -5,7 +5,7 @@
 //! for block in &blocks {
 //!     state = apply_block(&state, block)?; // or why not: WrongNumber, .., TxFault(index, reason)
 //! }
-//! println!("{} lovelace of fees after slot {}", state.fees(), state.slot());
+//! println!(rt; "{} lovelace of fees after slot {}", state.fees(), state.slot())?;
 //! ```
 #![tactic(auto)]
 

@@ -105,7 +105,7 @@ impl LedgerDb {
     /// ```text
     /// match db.fork(2, &blocks) {
     ///     Ok(prepared) => db.commit(prepared),
-    ///     Err(ForkFault::Refused(index, fault)) => println!("{}: {fault}", blocks[index].number()),
+    ///     Err(ForkFault::Refused(index, fault)) => println!(rt; "block {index}: {fault}")?,
     ///     Err(ForkFault::OutOfMemory) => .., // try again later
     /// }
     /// ```

@@ -2,9 +2,12 @@
 //! can be judged without applying the chain anew.
 //!
 //! ```text
-//! let mut db = LedgerDb::new(alloc, LedgerState::new(alloc, &genesis)?, genesis.k())?;
-//! let prepared = db.fork(2, &blocks)?; // or why not: the first block that isn't applied, and its first fault
-//! db.commit(prepared);                 // the last two blocks are rolled back, and these stand in their place
+//! let mut db = LedgerDb::new(alloc, LedgerState::new(alloc, &genesis)?, genesis.k());
+//! let prepared = db.fork(0, &blocks)?; // or why not: the first block that isn't applied, and its first fault
+//! db.commit(prepared);                 // the blocks are applied
+//! // Where these were two at least:
+//! let prepared = db.fork(2, &others)?;
+//! db.commit(prepared); // the last two blocks are rolled back, and the others stand in their place
 //! ```
 #![tactic(auto)]
 

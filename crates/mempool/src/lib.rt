@@ -4,7 +4,7 @@
 //! let mut mempool = Mempool::<TestScheme>::new(alloc, 100, state.utxo())?;
 //! match mempool.submit(state.params(), state.slot() + 1, &bytes)? {
 //!     SubmitReply::Added => .., // it waits
-//!     SubmitReply::Refused(reason) => println!("{reason}"),
+//!     SubmitReply::Refused(reason) => println!(rt; "{reason}")?,
 //!     SubmitReply::Malformed | SubmitReply::Known | SubmitReply::Full => ..,
 //! }
 //! // Another chain is selected.

@@ -28,10 +28,10 @@ use utxo_rules::{CheckFault, Params, Utxo};
 use witness_pool::{CheckedTx, SigScheme, plain};
 
 /// Transactions that wait to come into a block, in the order in which they came. In contracts it is their list, the
-/// outputs on which the next one is judged, and how many may wait. No two of them have one identifier. The type knows no
-/// chain: that there is no reason against each of them on what those before it leave of the chain's outputs, and that
-/// the outputs here are what all of them leave, is kept by the crate `chain_core`, which submits at the slot after the
-/// tip's, and puts in what stays on each chain that is selected.
+/// outputs on which the next one is judged, and how many may wait. No two of them have one identifier. The type knows
+/// no chain: that there is no reason against each of them on what those before it leave of the chain's outputs, and
+/// that the outputs here are what all of them leave, is kept by the crate `chain_core`, which submits at the slot after
+/// the tip's, and puts in what stays on each chain that is selected.
 #[derive(Drop)]
 pub struct Mempool<S: SigScheme> {
     alloc: Global,

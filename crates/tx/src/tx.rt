@@ -115,7 +115,7 @@ impl Tx {
     ///
     /// ```text
     /// let tx = Tx::new(alloc, parts)?;
-    /// println!("{} has {} bytes", tx.id(), tx.size());
+    /// println!(rt; "{} has {} bytes", tx.id(), tx.size())?;
     /// ```
     pub fn new(alloc: Global, mut parts: TxParts) -> Result<Tx, PartsFault>
         ensures made { IfOk result (λ tx. IsTxOf tx (parts_of parts)) }
@@ -148,7 +148,7 @@ impl Tx {
     ///
     /// ```text
     /// let tx = Tx::decode(alloc, &bytes)?;
-    /// println!("{} pays {} lovelace", tx.id(), tx.fee());
+    /// println!(rt; "{} pays {} lovelace", tx.id(), tx.fee())?;
     /// ```
     pub fn decode(alloc: Global, bytes: &[u8]) -> Result<Tx, CborFault>
         ensures found { IfOk result (λ tx. SpellsTransaction tx bytes.now) }

@@ -142,7 +142,7 @@ pub fn check_late<S: SigScheme>(
 /// ```text
 /// match check(alloc, &params, &utxo, slot, &tx) {
 ///     Ok(()) => apply(&mut utxo, tx.tx())?,
-///     Err(fault) => println!("{fault}"),
+///     Err(fault) => println!(rt; "{fault}")?,
 /// }
 /// ```
 pub fn check<S: SigScheme>(
