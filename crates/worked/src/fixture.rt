@@ -82,6 +82,11 @@ pub fn make(rt: &(impl Abort + AllocGlobal), parent: Option<&Made>, slot: u64) -
     }
 }
 
+/// The block without transactions that goes on from this one, in this slot.
+pub fn after(rt: &(impl Abort + AllocGlobal), parent: &Made, slot: u64) -> Made {
+    make(rt, Some(parent), slot)
+}
+
 /// The blocks of a chain, in the slots from 1 on.
 pub fn chain_of(rt: &(impl Abort + AllocGlobal), count: u64) -> Vec<Made> {
     let mut blocks: Vec<Made> = Vec::new(rt.alloc());

@@ -1,6 +1,6 @@
 //! What followers are told.
 
-use super::fixture::{MEMORY, Made, SMALL_NETWORK, boxed, core_on, make, run_all};
+use super::fixture::{MEMORY, Made, SMALL_NETWORK, after, boxed, core_on, make, run_all};
 use chain_core::{
     Core, FollowerId, NextFault, OpenFollowerFault, RawEvent, Reply, UnknownFollower,
 };
@@ -60,14 +60,14 @@ struct Forks {
 }
 
 /// Four blocks in the slots 1, 2, 3 and 8, and three in the slots 4, 5 and 6.
-fn forks(rt: &(impl Abort + AllocGlobal)) -> Box<Forks> {
+fn two_forks(rt: &(impl Abort + AllocGlobal)) -> Box<Forks> {
     let a1 = make(rt, None, 1);
-    let a2 = make(rt, Some(&a1), 2);
-    let a3 = make(rt, Some(&a2), 3);
-    let a4 = make(rt, Some(&a3), 8);
+    let a2 = after(rt, &a1, 2);
+    let a3 = after(rt, &a2, 3);
+    let a4 = after(rt, &a3, 8);
     let b1 = make(rt, None, 4);
-    let b2 = make(rt, Some(&b1), 5);
-    let b3 = make(rt, Some(&b2), 6);
+    let b2 = after(rt, &b1, 5);
+    let b3 = after(rt, &b2, 6);
     let forks = Forks {
         a1,
         a2,
@@ -181,7 +181,7 @@ fn are_answered(rt: &(impl Abort + AllocGlobal), replies: &[Reply<TestScheme>], 
 // Events in a list are answered as one by one, as a case of scripts has it line by line.
 #[test]
 fn calls_with_ample_memory(rt: HostRuntime) {
-    let forks = forks(&rt);
+    let forks = two_forks(&rt);
     let events = events_of(&rt, &forks);
     let network = SMALL_NETWORK
         .replace(rt.alloc(), "k = 2\n", "k = 3\n")

@@ -1,7 +1,7 @@
 //! Cores that are opened on blocks that were kept.
 
 use super::fixture::{
-    MEMORY, Made, SMALL_NETWORK, answers, boxed, chain_of, core_on, kept, make, same,
+    MEMORY, Made, SMALL_NETWORK, after, answers, boxed, chain_of, core_on, kept, make, same,
 };
 use chain_core::{ArriveReply, Core, Instruction, Refusal, ReopenFault};
 use genesis::Genesis;
@@ -32,11 +32,6 @@ fn is_refused(rt: &(impl Abort + AllocGlobal), texts: &[Vec<u8>], number: u64) {
         Err(ReopenFault::OutOfMemory) => u64::MAX,
     };
     same(rt, "the invalid block", told, number);
-}
-
-/// The block without transactions that goes on from this one, in this slot.
-fn after(rt: &(impl Abort + AllocGlobal), parent: &Made, slot: u64) -> Made {
-    make(rt, Some(parent), slot)
 }
 
 /// A copy of the block's text, behind the others.
