@@ -1,6 +1,13 @@
 //! The program `node`: runs a script on the chain database.
 #![tactic(auto)]
 
+#[cfg(test)]
+mod log_tests;
+#[cfg(test)]
+mod sim_tests;
+#[cfg(test)]
+mod start_tests;
+
 use std::process::ExitCode;
 use std::{env, io};
 

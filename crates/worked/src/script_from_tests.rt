@@ -35,19 +35,20 @@ const UNKNOWN_NAME_6: ScenarioFault = ScenarioFault::Line {
 fn ends_on(
     rt: &(impl Abort + AllocGlobal),
     genesis: &Genesis,
-    core: Core<TestScheme>,
+    core: Box<Core<TestScheme>>,
     case: (&str, &str),
     want: Result<(), ScenarioFault>,
-) -> Core<TestScheme>
-    requires { core.genesis ≡ genesis.now }
-    ensures { result.genesis ≡ core.genesis }
+) -> Box<Core<TestScheme>>
+    requires { core.value.genesis ≡ genesis.now }
+    ensures { result.value.genesis ≡ core.value.genesis }
 {
     let (script, printed) = case;
     let mut reader = script.as_bytes();
     let mut out = Vec::new(rt.alloc());
+    let core = Box::into_inner(core);
     let (core, result) = run_from(rt.alloc(), genesis, core, &mut reader, &mut out);
     is_end(rt, result, &out, want, printed.as_bytes());
-    core
+    Box::new(rt.alloc(), core).expect(rt, MEMORY)
 }
 
 #[test]
@@ -55,6 +56,7 @@ fn scripts_one_after_the_other(rt: HostRuntime) {
     let genesis = Genesis::from_toml(rt.alloc(), SMALL_NETWORK).expect(&rt, MEMORY);
     let same = genesis.try_clone().expect(&rt, MEMORY);
     let core = Core::<TestScheme>::new(rt.alloc(), same).expect(&rt, MEMORY);
+    let core = Box::new(rt.alloc(), core).expect(&rt, MEMORY);
     let core = ends_on(&rt, &genesis, core, FIRST, Ok(()));
     let core = ends_on(&rt, &genesis, core, SECOND, Err(UNKNOWN_NAME_6));
     let core = ends_on(&rt, &genesis, core, THIRD, Ok(()));

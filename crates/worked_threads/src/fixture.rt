@@ -49,7 +49,7 @@ end
 ";
 
 /// The genesis of the small network.
-fn genesis_of(rt: &(impl Abort + AllocGlobal)) -> Genesis {
+pub fn genesis_of(rt: &(impl Abort + AllocGlobal)) -> Genesis {
     Genesis::from_toml(rt.alloc(), SMALL_NETWORK).expect(rt, "a genesis")
 }
 

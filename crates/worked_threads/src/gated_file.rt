@@ -1,12 +1,12 @@
 //! A file whose first write waits until another thread was answered.
 
+use super::fake_file::FakeFile;
 use std::alloc::Global;
 use std::fs::{Metadata, OpenFile};
 use std::io::{Read, Seek, SeekFrom, Write};
 use std::sync::Arc;
 use std::sync::atomic::{AtomicBool, Ordering};
 use std::{io, thread};
-use worked_logs::FakeFile;
 
 /// What a thread that writes and one that calls tell each other.
 #[derive(Drop)]

@@ -1,4 +1,5 @@
-//! What data can't say of a shared core: its callers and its adder, on one thread and on several, and simulations.
+//! What data can't say of disks, of logs, and of a shared core: its callers and its adder, on one thread and on several,
+//! and simulations.
 #![tactic(auto)]
 
 #[cfg(test)]
@@ -6,7 +7,13 @@ mod adder_tests;
 #[cfg(test)]
 mod caller_tests;
 #[cfg(test)]
+mod disk_tests;
+#[cfg(test)]
+mod fake_file;
+#[cfg(test)]
 mod fixture;
+#[cfg(test)]
+mod flush_tests;
 #[cfg(test)]
 mod gated_file;
 #[cfg(test)]

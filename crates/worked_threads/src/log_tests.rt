@@ -5,6 +5,7 @@ ghost use Rattle.model.specs.Ledger.{network_of};
 ghost use Rattle.model.specs.Signature.{test_verifies};
 ghost use Rattle.flushing.specs.Sharing.{BeginAfter};
 
+use super::fake_file::FakeFile;
 use super::fixture::{MEMORY, Parts, bytes_of, drains, names_of, next_of, open, parts_of, sends};
 use super::gated_file::{Crossing, GatedFile};
 use file_disk::FileDisk;
@@ -23,7 +24,6 @@ use std::sync::atomic::{AtomicBool, Ordering};
 use std::sync::{Arc, Wait};
 use std::thread::{self, Threads, join};
 use witness_pool::{OpenGate, TestScheme};
-use worked_logs::FakeFile;
 
 /// How many blocks are brought. As 2 may be rolled back, all but 2 of them go onto the log.
 const BLOCKS: usize = 40;

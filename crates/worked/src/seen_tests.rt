@@ -1,8 +1,7 @@
 //! Blocks that arrive in bytes at one core, and seen at another: the same replies and the same chain.
 
-use crate::core_tests::{arrive, is_seen, new_core};
-use crate::networks::MEMORY;
-use crate::payments::{bytes_of, names_of};
+use super::fixture::{MEMORY, SMALL_NETWORK, arrive_at, core_on, same};
+use super::payments::{bytes_of, names_of};
 use block::Seen;
 use chain_core::{ArriveReply, Core, Refusal};
 use script::Names;
@@ -20,6 +19,16 @@ fn arrive_seen(
     core.arrive_seen(Seen::read(alloc, bytes)?)
 }
 
+/// The core's tip has this number, and one output is unspent, of this lovelace, beside these fees.
+fn is_seen(rt: &impl Abort, core: &Core<TestScheme>, tip: u64, coin: u64, fees: u64) {
+    let utxo = core.utxo();
+    let found = utxo.coin().expect(rt, MEMORY);
+    assert!(rt; found == u128::from(coin));
+    same(rt, "tip", core.tip().number, tip);
+    same(rt, "outputs", utxo.len() as u64, 1);
+    same(rt, "fees", core.fees(), fees);
+}
+
 /// Bytes that arrive, by the name of their block and what comes behind them, and what is answered.
 type Row = (&'static str, &'static [u8], ArriveReply);
 
@@ -31,7 +40,7 @@ fn both_tell(
     bytes: &[u8],
     want: ArriveReply,
 ) {
-    let first = arrive(rt, by_bytes, bytes);
+    let first = arrive_at(rt, by_bytes, bytes);
     assert!(rt; first == want);
     let second = arrive_seen(rt.alloc(), by_seen, bytes).expect(rt, MEMORY);
     assert!(rt; second == want);
@@ -46,8 +55,8 @@ fn are_told(
     coin: u64,
     fees: u64,
 ) {
-    let mut by_bytes = new_core(rt);
-    let mut by_seen = new_core(rt);
+    let mut by_bytes = core_on(rt, SMALL_NETWORK);
+    let mut by_seen = core_on(rt, SMALL_NETWORK);
     for (name, tail, want) in rows {
         let mut bytes = Vec::from_slice(rt.alloc(), bytes_of(rt, names, *name)).expect(rt, MEMORY);
         bytes.extend_from_slice(*tail).expect(rt, MEMORY);

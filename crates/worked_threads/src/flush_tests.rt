@@ -1,38 +1,15 @@
 //! The blocks of a core on a log, and a core on the blocks of a log.
 
-use crate::fake_file::FakeFile;
+use super::fake_file::FakeFile;
+use super::fixture::{MEMORY, genesis_of};
 use block::{Header, empty_body_hash, read, write_empty};
 use chain_core::Core;
 use file_disk::FileDisk;
 use flushing::flush;
-use genesis::Genesis;
 use ident::BlockHash;
 use immlog::{Disk, Log};
 use std::process::Abort;
 use witness_pool::TestScheme;
-
-/// What is said where memory runs out, or the disk fails.
-const MEMORY: &str = "memory";
-
-/// A network where 2 blocks may be rolled back.
-const NETWORK: &str = "network = 0
-k = 2
-min_fee_a = 1
-min_fee_b = 100
-min_utxo = 10
-max_tx_size = 4096
-max_body_size = 65536
-max_volatile = 100
-max_mempool = 100
-[[output]]
-key = \"0101010101010101010101010101010101010101010101010101010101010101\"
-coin = 1200
-";
-
-/// The genesis of that network.
-fn genesis(rt: &(impl Abort + AllocGlobal)) -> Genesis {
-    Genesis::from_toml(rt.alloc(), NETWORK).expect(rt, "a genesis")
-}
 
 /// The text of the block of this number and slot without transactions that comes after the one of this hash.
 fn text_of(rt: &(impl Abort + AllocGlobal), number: u64, previous: Option<BlockHash>) -> Vec<u8> {
@@ -47,7 +24,7 @@ fn text_of(rt: &(impl Abort + AllocGlobal), number: u64, previous: Option<BlockH
 
 /// A core to which so many blocks came, one after the other.
 fn core_after(rt: &(impl Abort + AllocGlobal), blocks: u64) -> Box<Core<TestScheme>> {
-    let core = Core::new(rt.alloc(), genesis(rt)).expect(rt, MEMORY);
+    let core = Core::new(rt.alloc(), genesis_of(rt)).expect(rt, MEMORY);
     let mut core = Box::new(rt.alloc(), core).expect(rt, MEMORY);
     let mut previous = None;
     for number in 1..blocks.saturating_add(1) {
@@ -83,7 +60,7 @@ fn size_of(rt: &impl Abort, disk: &mut FileDisk<FakeFile>) -> usize {
 fn log_after_a_run(rt: HostRuntime) {
     for (arrived, height, size) in [(1, 0, 1), (2, 0, 1), (3, 1, 78), (4, 2, 188)] {
         let log = Box::into_inner(log_after(&rt, arrived));
-        let again = Core::<TestScheme>::reopen(rt.alloc(), genesis(&rt), log.blocks());
+        let again = Core::<TestScheme>::reopen(rt.alloc(), genesis_of(&rt), log.blocks());
         let again = Box::new(rt.alloc(), again.expect(&rt, "a chain")).expect(&rt, MEMORY);
         assert!(rt; again.height() == height);
         let mut disk = log.into_disk();

@@ -1,8 +1,8 @@
 //! Payments that are judged where an output stands in the place of their own, and one that spends a thousand outputs.
 
-use crate::networks::{MEMORY, same};
-use crate::payments::{names_of, obey, payment_of};
-use crate::unspent_tests::{coin_at, no_outputs, put_unspent};
+use super::fixture::{MEMORY, same};
+use super::payments::{names_of, obey, payment_of};
+use super::unspent_tests::{coin_at, no_outputs, put_unspent};
 use ident::TxId;
 use script::Names;
 use std::alloc::Global;

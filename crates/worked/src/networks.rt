@@ -1,13 +1,8 @@
-//! The small network of the tests, and what they share.
+//! The small network, in parts of which a test makes others.
 
+use super::fixture::MEMORY;
 use ledger::Genesis;
 use std::process::Abort;
-
-// Each way out of a function drops all that it owns, which makes its proof longer. So want of memory and what can't be
-// otherwise end a test on the spot, and what has much to drop stands in a box, whose drop is a call.
-
-/// What is said where memory runs out.
-pub const MEMORY: &str = "memory";
 
 /// The nine numbers of the network.
 pub const NUMBERS: &str = "network = 0
@@ -36,14 +31,4 @@ fn document(rt: &(impl Abort + AllocGlobal), outputs: &str) -> String {
 pub fn genesis_of(rt: &(impl Abort + AllocGlobal), outputs: &str) -> Genesis {
     let text = document(rt, outputs);
     Genesis::from_toml(rt.alloc(), text.as_str()).expect(rt, "a genesis")
-}
-
-/// The value in a box.
-pub fn boxed<T: Drop>(rt: &(impl Abort + AllocGlobal), value: T) -> Box<T> {
-    Box::new(rt.alloc(), value).expect(rt, MEMORY)
-}
-
-/// The number that this is said of is the one that is wanted.
-pub fn same(rt: &impl Abort, about: &str, found: u64, want: u64) {
-    assert!(rt; found == want, "{about}: {found} in place of {want}");
 }

@@ -1,6 +1,7 @@
 //! Payments and blocks of them, made by the lines of scripts.
 
-use crate::networks::{MEMORY, OUTPUT, boxed, genesis_of};
+use super::fixture::{MEMORY, boxed};
+use super::networks::{OUTPUT, genesis_of};
 use block::CheckedBlock;
 use ident::BlockHash;
 use script::{LinePlace, Names};

@@ -1,9 +1,9 @@
 //! Chains that are selected when blocks come, on a genesis of one output of 1,200 lovelace, and the blocks that are
 //! found dead then. What comes of the chain alone stands in files of cases.
 
-use crate::ledgerdb_tests::{new_db, switch};
-use crate::networks::{MEMORY, boxed, same};
-use crate::payments::{block_of, hash_of, names_of};
+use super::fixture::{MEMORY, boxed, same};
+use super::ledgerdb_tests::{new_db, switch};
+use super::payments::{block_of, hash_of, names_of};
 use block::CheckedBlock;
 use blockstore::BlockStore;
 use chainsel::{Choice, Selection, Switch, select};

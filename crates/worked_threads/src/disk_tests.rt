@@ -3,7 +3,7 @@ ghost use Rattle.std.specs.List.{AllByRecursion};
 ghost use Rattle.model.specs.Log.{IsLogBlock};
 ghost use Rattle.immlog.specs.Views.{lists_of};
 
-use crate::fake_file::FakeFile;
+use super::fake_file::FakeFile;
 use file_disk::FileDisk;
 use immlog::Log;
 use std::alloc::{AllocError, Global};

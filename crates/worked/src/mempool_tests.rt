@@ -1,9 +1,8 @@
 //! The mempool of a core: bytes of no transaction, a transaction with its verdicts, and the words of replies. What else
 //! is submitted stands in files of cases.
 
-use crate::core_tests::new_core;
-use crate::networks::{MEMORY, boxed};
-use crate::payments::{bytes_of, hash_of, names_of, payment_of};
+use super::fixture::{MEMORY, SMALL_NETWORK, boxed, core_on};
+use super::payments::{bytes_of, hash_of, names_of, payment_of};
 use chain_core::{Core, FollowerId, RawEvent, Reply};
 use mempool::SubmitReply;
 use script::Names;
@@ -27,7 +26,7 @@ fn answer(rt: &impl Abort, core: &mut Core<TestScheme>, bytes: &[u8]) -> SubmitR
 fn bytes_of_no_transaction(rt: HostRuntime) {
     let names = names_of(&rt, "");
     let mut text = good_text(&rt, &names);
-    let mut core = new_core(&rt);
+    let mut core = core_on(&rt, SMALL_NETWORK);
     text.push(0).expect(&rt, MEMORY);
     for size in [191, 189, 0] {
         text.truncate(size);
@@ -42,7 +41,7 @@ fn bytes_of_no_transaction(rt: HostRuntime) {
 fn submitted_with_verdicts(rt: HostRuntime) {
     let names = names_of(&rt, "");
     let tx = Box::into_inner(payment_of(&rt, &names, "Good"));
-    let mut core = new_core(&rt);
+    let mut core = core_on(&rt, SMALL_NETWORK);
     let reply = core.submit_checked(tx).expect(&rt, MEMORY);
     assert!(rt; reply == SubmitReply::Added);
 }
@@ -86,7 +85,7 @@ fn words_of(rt: &impl Abort, alloc: Global, replies: &[Reply<TestScheme>]) -> St
 fn replies_in_words(rt: HostRuntime) {
     let names = names_of(&rt, "block A1 genesis 1 Good");
     let events = events_of(&rt, &names);
-    let mut core = new_core(&rt);
+    let mut core = core_on(&rt, SMALL_NETWORK);
     let replies = boxed(&rt, replies_to(&rt, &mut core, &events));
     let words = words_of(&rt, rt.alloc(), &replies);
     let want = format!(in rt.alloc();

@@ -1,6 +1,6 @@
 //! Outputs that are put in and spent, while an older version keeps them, and that are told in their order.
 
-use crate::networks::{MEMORY, boxed, same};
+use super::fixture::{MEMORY, boxed, same};
 use ident::{KeyHash, TxId};
 use std::process::Abort;
 use tx::{Address, Credential, Input, Output};

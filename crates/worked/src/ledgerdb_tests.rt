@@ -1,7 +1,8 @@
 //! A ledger database on a genesis of one output of 1,200 lovelace.
 
-use crate::networks::{MEMORY, OUTPUT, boxed, genesis_of, same};
-use crate::payments::{blocks_of, names_of};
+use super::fixture::{MEMORY, boxed, same};
+use super::networks::{OUTPUT, genesis_of};
+use super::payments::{blocks_of, names_of};
 use block::CheckedBlock;
 use ledger::{BlockFault, LedgerState};
 use ledgerdb::{ForkFault, LedgerDb};

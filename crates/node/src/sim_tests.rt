@@ -1,6 +1,6 @@
 //! Simulations of files.
 
-use crate::start_tests::{GENESIS, ends, own_folder, remove, write_file};
+use super::start_tests::{GENESIS, ends, own_folder, remove, write_file};
 
 /// What comes of one block from the last peer.
 const LAST_TOLD: &str = "height 1

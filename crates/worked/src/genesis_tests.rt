@@ -1,6 +1,7 @@
 //! Documents that are a genesis, and what it is then.
 
-use crate::networks::{MEMORY, OUTPUT, genesis_of, same};
+use super::fixture::{MEMORY, same};
+use super::networks::{OUTPUT, genesis_of};
 use genesis::Genesis;
 use ident::KeyHash;
 use std::process::Abort;

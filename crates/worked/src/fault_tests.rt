@@ -1,6 +1,7 @@
 //! Documents of many outputs, and the numbers and names of the faults.
 
-use crate::networks::{MEMORY, NUMBERS};
+use super::fixture::MEMORY;
+use super::networks::NUMBERS;
 use genesis::{Genesis, GenesisFault};
 use std::process::Abort;
 

@@ -1,6 +1,6 @@
 //! Runs on logs in files.
 
-use crate::start_tests::{GENESIS, MEMORY, ends, own_folder, remove, write_file};
+use super::start_tests::{GENESIS, MEMORY, ends, own_folder, remove, write_file};
 use std::fs;
 use std::process::Abort;
 use std::rt::Files;
