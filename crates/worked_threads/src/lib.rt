@@ -1,5 +1,5 @@
-//! What data can't say of disks, of logs, and of a shared core: its callers and its adder, on one thread and on several,
-//! and simulations.
+//! What data can't say of disks, of logs, and of a shared core: its callers and its adder, on one thread and on
+//! several, and simulations.
 #![tactic(auto)]
 
 #[cfg(test)]
