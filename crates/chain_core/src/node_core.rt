@@ -37,12 +37,23 @@ use witness_pool::{CheckedTx, SigScheme};
 ///
 /// The core keeps the selected chain, the live blocks, the states of the chain's last k blocks, the mempool, and for
 /// each follower how many blocks it was told and how many of these the chain still has.
-#[derive(Drop)]
 pub struct Core<S: SigScheme> {
     alloc: Global,
     genesis: Genesis,
     chain_db: ChainDb<S>,
     followers: Followers,
+}
+
+// By hand, so that each exit calls it: the derived one is copied to each exit of each owner.
+impl<S: SigScheme> Drop for Core<S> {
+    fn drop(self) {
+        let Core {
+            alloc: _,
+            genesis: _,
+            chain_db: _,
+            followers: _,
+        } = self;
+    }
 }
 
 impl<S: SigScheme> Model for Core<S> {

@@ -37,7 +37,6 @@ pub struct LinePlace {
 
 /// All names of a script with what they are bound to: keys, native scripts, transactions, bytes (those of a block or
 /// others) and followers, and the transaction that is being made. One name may be of each kind.
-#[derive(Drop)]
 pub struct Names {
     pub(crate) alloc: Global,
     pub(crate) known: Known,
@@ -45,6 +44,20 @@ pub struct Names {
     pub(crate) bytes: BoundNames,
     pub(crate) followers: FollowerNames,
     pub(crate) making: Option<OpenTx>,
+}
+
+// By hand, so that each exit calls it: the derived one is copied to each exit of each owner.
+impl Drop for Names {
+    fn drop(self) {
+        let Names {
+            alloc: _,
+            known: _,
+            printed: _,
+            bytes: _,
+            followers: _,
+            making: _,
+        } = self;
+    }
 }
 
 impl Names {

@@ -28,12 +28,23 @@ use witness_pool::{Gate, Pool, SigScheme};
 /// a caller, what it took, and the arrival that it took and hasn't brought: one that memory ran out for stays with it.
 ///
 /// Of each peer, the arrivals among its calls, and then the one that it holds, are what it took of that peer.
-#[derive(Drop)]
 pub struct Adder<G, B: Room, M: Mailroom> {
     reader: Reader<G>,
     caller: CallerSeat<B>,
     end: AdderEnd<M>,
     held: Option<Arrival>,
+}
+
+// By hand, so that each exit calls it: the derived one is copied to each exit of each owner.
+impl<G: Drop, B: Room, M: Mailroom> Drop for Adder<G, B, M> {
+    fn drop(self) {
+        let Adder {
+            reader: _,
+            caller: _,
+            end: _,
+            held: _,
+        } = self;
+    }
 }
 
 impl<G, B: Room, M: Mailroom> Model for Adder<G, B, M> {

@@ -32,10 +32,19 @@ use std::marker::Model;
 use witness_pool::SigScheme;
 
 /// The core, and the journal of all calls that were made. A contract sees it as its journal.
-#[derive(Drop)]
 pub struct Desk<S: SigScheme, B: Room> {
     pub(crate) core: Core<S>,
     pub(crate) journal: Journal<S, B>,
+}
+
+// By hand, so that each exit calls it: the derived one is copied to each exit of each owner.
+impl<S: SigScheme, B: Room> Drop for Desk<S, B> {
+    fn drop(self) {
+        let Desk {
+            core: _,
+            journal: _,
+        } = self;
+    }
 }
 
 impl<S: SigScheme, B: Room> Model for Desk<S, B> {

@@ -24,13 +24,25 @@ use witness_pool::SigScheme;
 pub const MAX_CALLERS: usize = 64;
 
 /// A shared core that has no name yet: its word gets one when the program runs, and [`Opened::named`] takes the name.
-#[derive(Drop)]
 pub struct Opened<S: SigScheme> {
     alloc: Global,
     callers: usize,
     core: Core<S>,
     heights: Heights<S>,
     seat: HeightSeat,
+}
+
+// By hand, so that each exit calls it: the derived one is copied to each exit of each owner.
+impl<S: SigScheme> Drop for Opened<S> {
+    fn drop(self) {
+        let Opened {
+            alloc: _,
+            callers: _,
+            core: _,
+            heights: _,
+            seat: _,
+        } = self;
+    }
 }
 
 impl<S: SigScheme> Model for Opened<S> {

@@ -35,11 +35,20 @@ use witness_pool::SigScheme;
 /// that it had seen before, and ends with this call and its reply. A call that is refused stands in the journal too,
 /// but where memory runs out: then it is in no journal, and nothing changes. Each call takes room for its entry first,
 /// and that and the core's own want are all the memory that it asks for.
-#[derive(Drop)]
 pub struct Shared<S: SigScheme, B: Room> {
     pub(crate) heights: Heights<S>,
     pub(crate) desk: Mutex<Desk<S, B>>,
     pub(crate) ghost word: { IsHeightOf B.table B.genesis heights },
+}
+
+// By hand, so that each exit calls it: the derived one is copied to each exit of each owner.
+impl<S: SigScheme, B: Room> Drop for Shared<S, B> {
+    fn drop(self) {
+        let Shared {
+            heights: _,
+            desk: _,
+        } = self;
+    }
 }
 
 impl<S: SigScheme, B: Room> Shared<S, B> {
