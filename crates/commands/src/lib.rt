@@ -2,10 +2,12 @@
 #![tactic(auto)]
 
 mod command_line;
+mod descriptors;
 mod failure;
 mod genesis_file;
 mod jobs;
 mod log_runs;
 mod program;
 
+pub use descriptors::hold_descriptors;
 pub use program::start;

@@ -1,24 +1,28 @@
 //! Runs on a log, and what a log has.
 
-ghost use Rattle.std.specs.Prelude.{◌≡◌, false, IsOk, OnOk, IfOk, length};
+ghost use Rattle.std.specs.Prelude.{◌≡◌, ℕ, false, IsOk, OnOk, IfOk, IfSome, IsErrOf, length};
 ghost use Rattle.model.specs.Signature.{test_verifies};
 ghost use Rattle.model.specs.Disk.{LeavesSince};
 ghost use Rattle.model.specs.Log.{OpensToBeginning};
+ghost use Rattle.immlog.specs.Left.{IsLeft, IsLook};
 ghost use Rattle.chain_core.specs.Held.{Held};
 ghost use Rattle.chain_core.specs.Immutable.{texts_of, immutable_texts};
 ghost use Rattle.scenario.specs.Handed.{HasRun};
 
+use crate::descriptors::LAST_STANDARD;
 use crate::failure::Failure;
 use crate::program::genesis_of_file;
 use chain_core::Core;
 use file_disk::FileDisk;
 use flushing::{core_on, flush};
 use genesis::Genesis;
-use immlog::{AppendFault, Disk, Log};
+use immlog::{AppendFault, Disk, Log, Look, LookFault, look_at};
 use scenario::ScenarioFault;
 use std::alloc::Global;
-use std::fs::{File, OpenOptions};
+use std::fs;
+use std::fs::{File, OpenFile, OpenOptions};
 use std::io::{BufReader, ErrorKind, Read, Write};
+use std::os::fd::AsRawFd;
 use std::rt::Files;
 use std::thread::Threads;
 use witness_pool::TestScheme;
@@ -43,14 +47,13 @@ fn log_on<'a, D: Disk + Drop, R: Threads + Sync + AllocGlobal>(
     }
 }
 
-/// The log of a file. Where the file is empty, or is missing and may be made, it has no block.
-fn log_of_file<'a, R: Files + AllocGlobal + Threads + Sync>(
+/// The file of this path, made where it is missing and may be made. No other program gets it as long as it is open:
+/// where another has it, it can't be read.
+fn own_file<'a, R: Files<File = File>>(
     rt: &R,
     path: &'a str,
     may_make: bool,
-) -> Result<Log<FileDisk<R::File>>, Failure<'a>>
-    ensures sound { IfOk result (λ log. log.broken ≡ false) }
-{
+) -> Result<File, Failure<'a>> {
     let Ok(file) = OpenOptions::new()
         .read(true)
         .write(true)
@@ -59,9 +62,68 @@ fn log_of_file<'a, R: Files + AllocGlobal + Threads + Sync>(
     else {
         return Err(Failure::CannotRead(path));
     };
+    // What is printed never goes to a log.
+    if file.as_raw_fd() <= LAST_STANDARD {
+        return Err(Failure::CannotRead(path));
+    }
+    match file.try_lock() {
+        Ok(()) => Ok(file),
+        Err(_) => Err(Failure::CannotRead(path)),
+    }
+}
+
+/// Refuses the bytes of this path's file where no log left them. Changes nothing, and reads no further than it has to.
+fn refuse_others<'a, F: Read>(alloc: Global, file: &mut F, path: &'a str) -> Result<(), Failure<'a>>
+    ensures left { OnOk result (IfSome (F.remaining file.old) IsLeft) }
+    ensures damaged { (place : ℕ) → IsErrOf result (Failure.Damaged place) →
+        IfSome (F.remaining file.old) (λ bytes. IsLook bytes (Look.Damaged place)) }
+{
+    let Ok(mut reader) = BufReader::new(alloc, file) else {
+        return Err(Failure::Scenario(ScenarioFault::OutOfMemory));
+    };
+    match look_at(alloc, &mut reader) {
+        Ok(Look::Log) => Ok(()),
+        Ok(Look::NoLog) => Err(Failure::CannotRead(path)),
+        Ok(Look::Damaged(place)) => Err(Failure::Damaged(place)),
+        Err(LookFault::Unread) => Err(Failure::DiskFault),
+        Err(LookFault::OutOfMemory) => Err(Failure::Scenario(ScenarioFault::OutOfMemory)),
+    }
+}
+
+/// Makes sure that the file of this path is found again after a loss of power, in the folder where it is.
+fn sync_folder<'a, R: Files + AllocGlobal>(rt: &R, path: &'a str) -> Result<(), Failure<'a>> {
+    let Ok(whole) = fs::canonicalize(rt, path) else {
+        return Err(Failure::CannotRead(path));
+    };
+    let Some(folder) = whole.as_path().parent() else {
+        return Err(Failure::CannotRead(path));
+    };
+    let Ok(folder) = File::open(rt, folder) else {
+        return Err(Failure::CannotRead(path));
+    };
+    match folder.sync_all() {
+        Ok(()) => Ok(()),
+        Err(_) => Err(Failure::DiskFault),
+    }
+}
+
+/// The log of a file that is this program's. Where the file is empty, or is missing and may be made, it has no block.
+fn log_of_file<'a, R: Files<File = File> + AllocGlobal + Threads + Sync>(
+    rt: &R,
+    path: &'a str,
+    may_make: bool,
+) -> Result<Log<FileDisk<File>>, Failure<'a>>
+    ensures sound { IfOk result (λ log. log.broken ≡ false) }
+{
+    let mut file = own_file(rt, path, may_make)?;
+    refuse_others(rt.alloc(), &mut file, path)?;
     match FileDisk::open(rt.alloc(), file) {
         Ok(disk) => {
             let is_empty = disk.is_empty();
+            // Before the first byte is written, so that a log that has one is in a folder that knows it.
+            if is_empty {
+                sync_folder(rt, path)?;
+            }
             log_on(rt, disk, is_empty)
         }
         Err(error) if error.kind() == ErrorKind::OutOfMemory => {
@@ -161,7 +223,7 @@ fn run_script<'a, D: Disk, R: Files + AllocGlobal, W: Write>(
 /// Runs the script of a file under the genesis of another, on the log of a third, which is made where it is missing.
 /// The genesis is read first, then the log is opened, then the script is run. After that, also after a fault of the
 /// script, the blocks that are never rolled back any more are put onto the log.
-pub fn run_logged<'a, R: Files + AllocGlobal + Threads + Sync, W: Write>(
+pub fn run_logged<'a, R: Files<File = File> + AllocGlobal + Threads + Sync, W: Write>(
     rt: &R,
     genesis: &'a str,
     script: &'a str,
@@ -184,7 +246,7 @@ fn height_of<'a, D: Disk>(
 }
 
 /// Opens the log of a file under the genesis of another, and prints how high its chain is.
-pub fn replay<'a, R: Files + AllocGlobal + Threads + Sync, W: Write>(
+pub fn replay<'a, R: Files<File = File> + AllocGlobal + Threads + Sync, W: Write>(
     rt: &R,
     genesis: &'a str,
     log: &'a str,

@@ -157,7 +157,7 @@ fn refuse<O: Write, E: Write>(error: &Error, out: &mut O, err: &mut E) -> u8
 }
 
 /// Does a job, and answers the status: 0 where it was done, and else 1 with one line on standard error.
-fn do_job<R: Files + AllocGlobal + Threads + Wait + Sync, O: Write, E: Write>(
+fn do_job<R: Files<File = File> + AllocGlobal + Threads + Wait + Sync, O: Write, E: Write>(
     rt: &R,
     job: &Job<'_>,
     out: &mut O,
@@ -202,7 +202,7 @@ fn tell<E: Write>(end: Result<(), Failure<'_>>, err: &mut E) -> u8
 
 /// Does what the words of the command line ask for. Answers 0 where that was done, 2 for a refused command line
 /// and else 1 with one line on standard error.
-pub fn start<R: Files + AllocGlobal + Threads + Wait + Sync, O: Write, E: Write>(
+pub fn start<R: Files<File = File> + AllocGlobal + Threads + Wait + Sync, O: Write, E: Write>(
     rt: &R,
     words: &[String],
     out: &mut O,

@@ -6,7 +6,7 @@ use Rattle.std.proofs.lemmas.List.{reverse-append, length-append, length-take-le
 use Rattle.model.specs.Disk.{touched, MayLeave, IsWritten}
 use Rattle.file_disk.specs.declared.step.Step.{Step}
 use Rattle.file_disk.specs.declared.step.Step.TheVariants.{Written, Cut}
-use Rattle.file_disk.specs.Steps.{bytes_after, moment_of}
+use Rattle.file_disk.specs.Steps.{bytes_after, moment_of, IsNoted}
 use Rattle.file_disk.proofs.Changes.{left_written, left_cut}
 
 -- the steps make these bytes, and a crash may leave them
@@ -25,6 +25,11 @@ written_kept old new bytes more after place copy kept within written copied new_
       same = ap bytes_after back ∙ made;
       left = subst (λ (steps : List Step). MayLeave (moment_of steps) after) (sym back) (subst (λ (c : List ℕ). MayLeave (touched place (place + length c) (moment_of (reverse old))) after) (sym copied) left);
     }
+
+-- the same, by what was noted
+pub noted_kept : (old new : List Step) (bytes more after : List ℕ) (place : ℕ) → IsKept old bytes → place ≤ length bytes → IsWritten bytes place more after → IsNoted old place more new → IsKept new after
+noted_kept old new bytes more after place kept within written noted =
+    written_kept old new bytes more after place noted.copy kept within written noted.same noted.behind
 
 pub cut_kept : (old new : List Step) (bytes after : List ℕ) (len : ℕ) → IsKept old bytes → len ≤ length bytes → after ≡ take len bytes → new ≡ old ++ Cut len ∷ [] → IsKept new after
 cut_kept old new bytes after len kept within cut new_is =

@@ -4,8 +4,8 @@ ghost use Rattle.std.specs.Prelude.{◌≡◌, ◌↔◌, ◌<◌, ◌^◌, [], 
 ghost use Rattle.model.specs.Disk.{MayLeave, settled};
 ghost use Rattle.file_disk.specs.Steps.{bytes_after, moment_of, past_of};
 
-use crate::overwriting::{from_place, give, overwrite};
-use crate::step::Step;
+use crate::overwriting::{from_place, give};
+use crate::step::{Step, note_write};
 use immlog::{Disk, DiskFailed};
 use std::alloc::Global;
 use std::fs::OpenFile;
@@ -17,9 +17,9 @@ const MOST_BYTES: usize = 0x7fff_ffff_ffff_ffff;
 
 /// A file as a disk. It keeps what the file holds and each change that was made, since no contract can say what a file
 /// of the system gives: a read gives what is kept, which is what the file gave when it was opened with what was written
-/// since. Once the system failed in a call it isn't known what the file holds: from then on each call fails, and
-/// [`FileDisk::into_file`] gives the file, on which a disk may be opened anew. That the file holds what was written,
-/// and that after a sync that succeeds a crash leaves it, is trusted of the system.
+/// since. Once the system failed in a call it isn't known what the file holds: from then on each call fails but
+/// [`Disk::put_back`], and [`FileDisk::into_file`] gives the file, on which a disk may be opened anew. That the file
+/// holds what was written, and that after a sync that succeeds a crash leaves it, is trusted of the system.
 #[derive(Drop)]
 pub struct FileDisk<F: Read + Write + Seek + OpenFile + Drop> {
     alloc: Global,
@@ -125,25 +125,25 @@ impl<F: Read + Write + Seek + OpenFile + Drop> Disk for FileDisk<F> {
             self.failures = self.failures.wrapping_add(1);
             return Err(DiskFailed);
         }
-        let Ok(copy) = bytes.to_vec(self.alloc) else {
+        let Ok(()) = note_write(self.alloc, &mut self.bytes, &mut self.steps, place, bytes) else {
             self.failures = self.failures.wrapping_add(1);
             return Err(DiskFailed);
         };
-        if self.steps.reserve(1).is_err() {
-            self.failures = self.failures.wrapping_add(1);
-            return Err(DiskFailed);
-        }
-        let Ok(()) = overwrite(&mut self.bytes, place, bytes) else {
-            self.failures = self.failures.wrapping_add(1);
-            return Err(DiskFailed);
-        };
-        self.steps.push_reserved(Step::Written(place, copy));
         if write_file(&mut self.file, place, bytes).is_err() {
             self.has_failed = true;
             self.failures = self.failures.wrapping_add(1);
             return Err(DiskFailed);
         }
         Ok(())
+    }
+
+    fn put_back(&mut self, place: usize, bytes: &[u8]) {
+        if bytes.len() > MOST_BYTES - place {
+            return;
+        }
+        if let Ok(()) = note_write(self.alloc, &mut self.bytes, &mut self.steps, place, bytes) {
+            let _ = write_file(&mut self.file, place, bytes);
+        }
     }
 
     fn cut(&mut self, len: usize) -> Result<(), DiskFailed> {

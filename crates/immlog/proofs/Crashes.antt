@@ -8,7 +8,7 @@ use Rattle.model.specs.Disk.{Moment, settled, touched, MayLeave, Leaves, HoldsSi
 use Rattle.model.specs.Log.{IsLogBlock, body_of, records, at_rest, IsLogOf}
 use Rattle.model.proofs.LogTexts.{records-push}
 use Rattle.immlog.specs.Steps.{IsFixed, IsGateMoment, gate_written}
-use Rattle.immlog.proofs.Moments.{since_weaker}
+use Rattle.immlog.proofs.Moments.{since_weaker, torn_once}
 use Rattle.immlog.proofs.Fronts.{fixed_left, gate_left, gate_written_is}
 
 pub body_split : (block rest : List ℕ) → body_of block ++ rest ≡ to_be_bytes w32 (length block) ++ sha256 block ++ (block ++ rest)
@@ -72,7 +72,7 @@ gate_leaves done later block more bytes old place gate sizes at text m (inl befo
     crash_gate done later block more left_bytes old sizes (settled_left.whole refl ∙ text)
 gate_leaves done later block more bytes old place gate sizes at text m (inr (inl torn)) left_bytes left =
     let torn_left : MayLeave (touched place (place + 1) (settled (records done ++ old ∷ (body_of block ++ 0 ∷ more)))) left_bytes =
-    subst (λ (l : List ℕ). MayLeave (touched place (place + 1) (settled l)) left_bytes) text (subst (λ (x : Moment). MayLeave x left_bytes) torn left) in
+    subst (λ (l : List ℕ). MayLeave (touched place (place + 1) (settled l)) left_bytes) text (torn_once place bytes left_bytes m torn left) in
     let is = gate_left (records done) (body_of block ++ 0 ∷ more) left_bytes old place at (some_behind block more) torn_left in
     crash_gate done later block (more ++ is.1) left_bytes is.0 sizes (is.2 ∙ ap (λ (l : List ℕ). records done ++ is.0 ∷ l) (append_assoc (body_of block) (0 ∷ more) is.1))
 gate_leaves done later block more bytes old place gate sizes at text m (inr (inr written)) left_bytes left =

@@ -6,3 +6,5 @@ pub mod Appending
 pub mod Reading
 pub mod Framing
 pub mod Recovering
+pub mod Looking
+pub mod Torn

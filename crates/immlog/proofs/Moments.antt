@@ -1,9 +1,11 @@
 -- Moments that go by: steps put together, and beginnings of the disk that stay.
-use Rattle.std.proofs.Common.{◌≡◌, inl, inr, ℕ, ◌≤◌, List, [], ◌∷◌, ◌++◌, length, refl, sym, ◌∙◌, ap, subst, arith, append_assoc}
+use Rattle.std.proofs.Common.{◌≡◌, ◌⊎◌, inl, inr, ℕ, ◌+◌, ◌<◌, ◌≤◌, List, [], ◌∷◌, ◌++◌, length, refl, sym, ◌∙◌, ap, subst, arith, append_assoc}
 use Rattle.std.proofs.lemmas.List.{append-nil}
-use Rattle.model.specs.Disk.{Moment, settled, touched, HoldsSince, IsTouched}
+use Rattle.std.specs.Prelude.{slice_get}
+use Rattle.std.specs.List.{AllByRecursion}
+use Rattle.model.specs.Disk.{Moment, settled, touched, IsOutside, MayLeave, HoldsSince, IsTouched}
 use Rattle.model.proofs.Lists.{all_append, all_weaker}
-use Rattle.immlog.specs.Steps.{IsFixed, KeepsFixed}
+use Rattle.immlog.specs.Steps.{IsFixed, KeepsFixed, IsGateTorn, IsGateMoment}
 
 -- no moment goes by
 pub since_now : (Q : Moment → Type 0) (past : List Moment) (m : Moment) → Q m → HoldsSince past past m Q
@@ -65,3 +67,42 @@ keeps_then place next m n k past middle new_past one two further front fixed beh
 -- what is sure begins with it
 pub fixed_longer : (front bytes more : List ℕ) → bytes ≡ front ++ more → IsFixed front (settled bytes)
 fixed_longer front bytes more is = record { more = more; sure = is; behind = tt }
+
+-- ---- a gate that was written more than once
+
+pub torn_first : (place : ℕ) (bytes : List ℕ) (m : Moment) → m ≡ settled bytes → IsGateTorn place bytes (touched place (place + 1) m)
+torn_first place bytes m is = record { sure = ap (λ (x : Moment). x.sure) is; there = (refl, subst (λ (x : Moment). AllByRecursion (λ range. range ≡ (place, place + 1)) x.touched) (sym is) tt) }
+
+pub torn_more : (place : ℕ) (bytes : List ℕ) (m : Moment) → IsGateTorn place bytes m → IsGateTorn place bytes (touched place (place + 1) m)
+torn_more place bytes m torn = record { sure = torn.sure; there = (refl, torn.there) }
+
+-- after a write that may have been made
+pub torn_after : (place : ℕ) (bytes : List ℕ) (m n : Moment) (past new_past : List Moment) → IsTouched place (place + 1) m past n new_past → m ≡ settled bytes → IsGateTorn place bytes n
+torn_after place bytes m n past new_past (inl made) is = subst (IsGateTorn place bytes) (sym made.0) (torn_first place bytes m is)
+torn_after place bytes m n past new_past (inr not_made) is =
+    subst (IsGateTorn place bytes) (sym (not_made.0 ∙ is)) (record { sure = refl; there = tt })
+
+outside_all : (place p : ℕ) (ranges : List (ℕ × ℕ)) → AllByRecursion (λ range. range ≡ (place, place + 1)) ranges → (p < place) ⊎ (place + 1 ≤ p) → IsOutside ranges p
+outside_all place p [] all outside = tt
+outside_all place p (range ∷ ranges) all outside =
+    (subst (λ (r : ℕ × ℕ). (p < r.0) ⊎ (r.1 ≤ p)) (sym all.0) outside, outside_all place p ranges all.1 outside)
+
+-- it is left as one that was written once
+pub torn_once : (place : ℕ) (bytes left_bytes : List ℕ) (m : Moment) → IsGateTorn place bytes m → MayLeave m left_bytes → MayLeave (touched place (place + 1) (settled bytes)) left_bytes
+torn_once place bytes left_bytes m torn left = record {
+  stays = λ p below outside.
+      subst (λ (l : List ℕ). slice_get left_bytes p ≡ slice_get l p) torn.sure
+      (left.stays p (subst (λ (l : List ℕ). p < length l) (sym torn.sure) below) (outside_all place p m.touched torn.there outside.0));
+  whole = λ none. absurd cc;
+}
+
+-- a gate written, not made sure, and written back
+pub gate_put_back : (place gate : ℕ) (bytes : List ℕ) (m n k l : Moment) (past one two new_past : List Moment) → m ≡ settled bytes → IsTouched place (place + 1) m past n one → k ≡ n → two ≡ one → IsTouched place (place + 1) k two l new_past → HoldsSince past new_past l (IsGateMoment place gate bytes)
+gate_put_back place gate bytes m n k l past one two new_past is first same clock second =
+    let Q : Moment → Type 0 = IsGateMoment place gate bytes in
+    let torn : IsGateTorn place bytes n = torn_after place bytes m n past one first is in
+    let again : IsGateTorn place bytes k = subst (IsGateTorn place bytes) (sym same) torn in
+    let written = since_touched Q place (place + 1) past one m n first (inl is) (inr (inl (torn_first place bytes m is))) in
+    let failed = since_same Q one two n k same clock (inr (inl torn)) in
+    let back = since_touched Q place (place + 1) two new_past k l second (inr (inl again)) (inr (inl (torn_more place bytes k again))) in
+    since_then Q past two new_past k l (since_then Q past one two n k written failed) back

@@ -1,7 +1,7 @@
 -- What the steps of the log keep of the disk's moments.
 use Rattle.std.specs.Prelude.{◌≡◌, ◌⊎◌, ℕ, ◌+◌, ◌≤◌, List, [], ◌∷◌, ◌++◌, length, take, drop}
 use Rattle.std.specs.List.{AllByRecursion}
-use Rattle.model.specs.Disk.{Moment, settled, touched, Leaves, HoldsSince, LeavesSince}
+use Rattle.model.specs.Disk.{Moment, settled, Leaves, HoldsSince, LeavesSince}
 use Rattle.model.specs.Log.{IsLogBlock, records, IsClosed, IsLogOf}
 
 -- this beginning of the disk is sure, and nothing in it was written or cut since
@@ -19,11 +19,15 @@ KeepsFixed place m past new_m new_past =
 abbrev pub gate_written : ℕ → ℕ → List ℕ → List ℕ
 gate_written place gate bytes = take place bytes ++ (gate ∷ []) ++ drop (place + 1) bytes
 
+-- these bytes are sure, and nothing but the gate at this place was written since
+pub record IsGateTorn (place : ℕ) (bytes : List ℕ) (m : Moment) : Type 0 where
+  pub sure : m.sure ≡ bytes
+  pub there : AllByRecursion (λ range. range ≡ (place, place + 1)) m.touched
+
 -- a moment in which a gate is written over these bytes: before it, while it may be torn, or when it is sure
 abbrev pub IsGateMoment : ℕ → ℕ → List ℕ → Moment → Type 0
 IsGateMoment place gate bytes m =
-    (m ≡ settled bytes)
-    ⊎ ((m ≡ touched place (place + 1) (settled bytes)) ⊎ (m ≡ settled (gate_written place gate bytes)))
+    (m ≡ settled bytes) ⊎ (IsGateTorn place bytes m ⊎ (m ≡ settled (gate_written place gate bytes)))
 
 -- the records of these blocks begin the bytes, and at this place stands a gate that isn't open, or nothing
 pub record IsFound (bytes : List ℕ) (place : ℕ) (blocks : List (List ℕ)) : Type 0 where

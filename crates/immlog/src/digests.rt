@@ -30,7 +30,7 @@ pub fn digests_of<R: Threads + Sync>(
 }
 
 /// Whether two digests are the same.
-fn is_same(one: &[u8; 32], other: &[u8; 32]) -> bool
+pub fn is_same(one: &[u8; 32], other: &[u8; 32]) -> bool
     ensures { IsTrue result ↔ (one.now ≡ other.now) }
 {
     *one == *other

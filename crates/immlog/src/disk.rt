@@ -47,6 +47,15 @@ pub trait Disk {
             (past self.new) }
         ensures failures { IsCounted (failures self.old) (failures self.new) result };
 
+    /// Writes as [`Disk::write_at`] does, as well as may be: nobody is told whether it was done. So a gate is closed
+    /// again whose sync failed, since a system may go on to read back what it has failed to make sure.
+    fn put_back(&mut self, place: usize, bytes: &[u8])
+        requires { place ≤ length (reads self.old) }
+        ensures stays { Stays ((place, place + length bytes.now) ∷ []) (reads self.old) (reads self.new) }
+        ensures time { IsTouched place (place + length bytes.now) (moment self.old) (past self.old) (moment self.new)
+            (past self.new) }
+        ensures failures { failures self.new ≡ failures self.old };
+
     /// Cuts the disk to a length. Err where the disk failed; any bytes may then stand from there on.
     fn cut(&mut self, len: usize) -> Result<(), DiskFailed>
         requires { len ≤ length (reads self.old) }

@@ -1,6 +1,7 @@
 //! The immutable log: the blocks that no rollback can reach any more, on a disk that may stop at any moment.
 //!
 //! ```text
+//! let seen = look_at(alloc, &mut reader)?; // whether a log left these bytes; changes none
 //! let mut log = Log::open(rt, alloc, disk)?; // or the disk again, beside why not
 //! log.append(&blocks)?;                  // once it answers Ok, each crash leaves them all
 //! println!(rt; "{}", log.durable())?;
@@ -13,6 +14,7 @@ mod digests;
 mod disk;
 mod faults;
 mod log;
+mod look;
 mod put;
 mod records;
 mod recover;
@@ -20,3 +22,4 @@ mod recover;
 pub use disk::{Disk, DiskFailed};
 pub use faults::{AppendFault, CreateFault, OpenLogFault};
 pub use log::Log;
+pub use look::{Look, LookFault, look_at};

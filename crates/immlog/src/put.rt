@@ -15,7 +15,10 @@ use crate::disk::{Disk, DiskFailed};
 use sha2::{Digest, Sha256};
 
 /// The gate of a record.
-const OPEN: u8 = 1;
+pub const OPEN: u8 = 1;
+
+/// The gate that ends a log.
+pub const CLOSED: u8 = 0;
 
 /// The most bytes that are written at once: the longest block, what stands before it but for the gate, and the closed
 /// gate behind it.
@@ -102,6 +105,27 @@ pub fn write_gate<D: Disk>(disk: &mut D, place: usize, gate: u8) -> Result<(), D
     Ok(())
 }
 
+/// Opens the gate at this place, behind which a record stands, and makes it sure. Where that fails, the gate is closed
+/// again as well as may be: the block isn't acknowledged, and what the system then reads back is no more than what is.
+fn open_gate<D: Disk>(disk: &mut D, place: usize) -> Result<(), DiskFailed>
+    requires place { place < length (D.reads disk.old) }
+    requires settled { D.moment disk.old ≡ settled (D.reads disk.old) }
+    ensures text { OnOk result (D.reads disk.new ≡ gate_written place 1 (D.reads disk.old)) }
+    ensures settled { OnOk result (D.moment disk.new ≡ settled (D.reads disk.new)) }
+    ensures moments { HoldsSince (D.past disk.old) (D.past disk.new) (D.moment disk.new)
+        (IsGateMoment place 1 (D.reads disk.old)) }
+    ensures failures { IsCounted (D.failures disk.old) (D.failures disk.new) result }
+{
+    disk.write_at(place, &[OPEN])?;
+    match disk.sync() {
+        Ok(()) => Ok(()),
+        Err(failed) => {
+            disk.put_back(place, &[CLOSED]);
+            Err(failed)
+        }
+    }
+}
+
 /// Puts one block behind the closed gate at this place, and answers the place of the gate behind it.
 fn put<D: Disk>(
     disk: &mut D,
@@ -124,7 +148,7 @@ fn put<D: Disk>(
     ensures failures { IsCounted (D.failures disk.old) (D.failures disk.new) result }
 {
     let next = stage(disk, room, gate, block)?;
-    write_gate(disk, gate, OPEN)?;
+    open_gate(disk, gate)?;
     Ok(next)
 }
 

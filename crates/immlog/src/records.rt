@@ -21,7 +21,7 @@ const MAX_BLOCK: usize = 1_048_576;
 pub const BEFORE_BLOCK: usize = 37;
 
 /// Whether a block may have so many bytes.
-fn is_block_size(len: usize) -> bool
+pub fn is_block_size(len: usize) -> bool
     ensures { IsTrue result ↔ ((0 < len) × (len ≤ block_size_limit)) }
 {
     0 < len && len <= MAX_BLOCK
@@ -39,7 +39,7 @@ fn behind_open_gate(bytes: &[u8]) -> Option<&[u8]>
 
 /// The digest and the block of the record whose gate stands before these bytes, if one begins there by the length that
 /// it tells. Whether the digest is that of the block isn't looked at.
-fn first_frame(bytes: &[u8]) -> Option<(&[u8; 32], &[u8])>
+pub fn first_frame(bytes: &[u8]) -> Option<(&[u8; 32], &[u8])>
     ensures { MatchOption result (NoRecordBehind bytes.now)
         (λ frame. BeginsWithFrame frame.0.now frame.1.now bytes.now) }
 {

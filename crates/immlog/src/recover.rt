@@ -9,7 +9,7 @@ ghost use Rattle.immlog.specs.Views.{lists_of};
 
 use crate::disk::{Disk, DiskFailed};
 use crate::faults::OpenLogFault;
-use crate::put::write_gate;
+use crate::put::{CLOSED, write_gate};
 use crate::records::{byte_at, read_blocks};
 use std::alloc::{AllocError, Global};
 use std::thread::Threads;
@@ -17,11 +17,8 @@ use std::thread::Threads;
 /// How many bytes are read at once.
 const CHUNK: usize = 65_536;
 
-/// The gate that ends a log.
-const CLOSED: u8 = 0;
-
 /// Room for so many bytes.
-fn room_for(alloc: Global, len: usize) -> Result<Vec<u8>, AllocError>
+pub fn room_for(alloc: Global, len: usize) -> Result<Vec<u8>, AllocError>
     ensures { IfOk result (λ room. length room.items ≡ len) }
 {
     let mut room = Vec::new(alloc);

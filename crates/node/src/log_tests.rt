@@ -2,6 +2,7 @@
 
 use super::start_tests::{GENESIS, MEMORY, ends, own_folder, remove, write_file};
 use std::fs;
+use std::fs::{File, OpenOptions};
 use std::process::Abort;
 use std::rt::Files;
 use std::sync::Wait;
@@ -84,7 +85,7 @@ impl Paths {
 
 /// The script is run on the log, with this status, and this is printed and told.
 fn runs_on_log(
-    rt: &(impl Abort + Files + AllocGlobal + Threads + Wait + Sync),
+    rt: &(impl Abort + Files<File = File> + AllocGlobal + Threads + Wait + Sync),
     paths: &Paths,
     (status, printed, told): (u8, &str, &str),
 ) {
@@ -103,7 +104,7 @@ fn runs_on_log(
 
 /// The log is opened, with this status, and this is printed and told.
 fn replays(
-    rt: &(impl Abort + Files + AllocGlobal + Threads + Wait + Sync),
+    rt: &(impl Abort + Files<File = File> + AllocGlobal + Threads + Wait + Sync),
     paths: &Paths,
     (status, printed, told): (u8, &str, &str),
 ) {
@@ -227,5 +228,93 @@ fn log_after_a_fault(rt: HostRuntime) {
     let told = format!(in rt.alloc(); "cannot read {}\n", no_script.script).expect(&rt, MEMORY);
     runs_on_log(&rt, &no_script, (1, "", told.as_str()));
     assert!(&rt; log_bytes(&rt, &no_script).as_slice() == b"\x00".as_slice());
+    remove(&rt, &folder);
+}
+
+// Where another program has the log, it is neither run on nor replayed, and stays as it was; later it is.
+#[test]
+fn log_of_another_program(rt: HostRuntime) {
+    let folder = own_folder(&rt);
+    let paths = Paths::of(&rt, &folder, THREE);
+    runs_on_log(&rt, &paths, (0, THREE_KEPT, ""));
+    let bytes = log_bytes(&rt, &paths);
+    let told = format!(in rt.alloc(); "cannot read {}\n", paths.log).expect(&rt, MEMORY);
+    let mut options = OpenOptions::new();
+    let other = options
+        .read(true)
+        .write(true)
+        .open(&rt, paths.log.as_str())
+        .expect(&rt, "a log");
+    assert!(&rt; other.try_lock().is_ok());
+    replays(&rt, &paths, (1, "", told.as_str()));
+    runs_on_log(&rt, &paths, (1, "", told.as_str()));
+    assert!(&rt; log_bytes(&rt, &paths) == bytes);
+    drop(other);
+    replays(&rt, &paths, (0, "height 1\n", ""));
+    remove(&rt, &folder);
+}
+
+/// Beginnings of files that are no log, and how many zeros follow. The last three have a zero for a gate, but no
+/// length of a block behind it, or one that is too short for what follows.
+const NO_LOGS: &[(&[u8], usize)] = &[
+    (b"network = 0\nk = 2\n", 0),
+    (b"block A1 genesis 1\narrive A1\n", 0),
+    (b"\x89PNG\r\n\x1a\n", 100_000),
+    (b"\x7fELF\x02\x01\x01\x00", 1_100_000),
+    (b"\x00\x01\x00\x00\x00\x10", 50_000),
+    (b"\x00\x00\x00\x18ftypmp42", 10_000),
+    (b"\x00", 1_048_614),
+];
+
+// What isn't a log is refused, and no byte of it is changed.
+#[test]
+fn files_that_are_no_log(rt: HostRuntime) {
+    let folder = own_folder(&rt);
+    let paths = Paths::of(&rt, &folder, "tip\n");
+    let told = format!(in rt.alloc(); "cannot read {}\n", paths.log).expect(&rt, MEMORY);
+    for (beginning, more) in NO_LOGS {
+        let mut bytes = (*beginning).to_vec(rt.alloc()).expect(&rt, MEMORY);
+        bytes.resize(bytes.len() + *more, 0).expect(&rt, MEMORY);
+        write_log(&rt, &paths, &bytes);
+        replays(&rt, &paths, (1, "", told.as_str()));
+        runs_on_log(&rt, &paths, (1, "", told.as_str()));
+        assert!(&rt; log_bytes(&rt, &paths) == bytes);
+    }
+    remove(&rt, &folder);
+}
+
+/// A fifth block.
+const FIFTH: &str = "block A5 A4 9
+arrive A5
+";
+
+// Three blocks are never rolled back, and their records begin at 0, 77 and 187. A bit of a gate behind which stands
+// more than one record is told, and the log stays. Where just the last record stands behind it, a crash may have left
+// that.
+#[test]
+fn gates_with_another_bit(rt: HostRuntime) {
+    let folder = own_folder(&rt);
+    let text = format!(in rt.alloc(); "{FOUR}{FIFTH}").expect(&rt, MEMORY);
+    let paths = Paths::of(&rt, &folder, text.as_str());
+    let kept = format!(in rt.alloc(); "{FOUR_KEPT}arrive A5: kept back 0 added 1\n").expect(
+        &rt, MEMORY,
+    );
+    runs_on_log(&rt, &paths, (0, kept.as_str(), ""));
+    let whole = log_bytes(&rt, &paths);
+    let no_log = format!(in rt.alloc(); "cannot read {}\n", paths.log).expect(&rt, MEMORY);
+    for bit in 0..8u32 {
+        for (place, told) in [(0usize, no_log.as_str()), (77, "log: damaged at 77\n")] {
+            let mut bytes = whole.clone().expect(&rt, MEMORY);
+            bytes[place] ^= 1u8 << bit;
+            write_log(&rt, &paths, &bytes);
+            replays(&rt, &paths, (1, "", told));
+            runs_on_log(&rt, &paths, (1, "", told));
+            assert!(&rt; log_bytes(&rt, &paths) == bytes);
+        }
+        let mut bytes = whole.clone().expect(&rt, MEMORY);
+        bytes[187] ^= 1u8 << bit;
+        write_log(&rt, &paths, &bytes);
+        replays(&rt, &paths, (0, "height 2\n", ""));
+    }
     remove(&rt, &folder);
 }

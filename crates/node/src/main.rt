@@ -12,6 +12,7 @@ use std::process::ExitCode;
 use std::{env, io};
 
 fn main(rt: HostRuntime) -> io::Result<ExitCode> {
+    commands::hold_descriptors(&rt);
     let words: Vec<String> = env::args(&rt)?.collect(rt.alloc())?;
     let status = commands::start(&rt, words.as_slice(), &mut rt.stdout(), &mut rt.stderr());
     Ok(ExitCode::from(status))

@@ -1,6 +1,7 @@
 //! Command lines, files and statuses.
 
 use commands::start;
+use std::fs::File;
 use std::io::Write;
 use std::process::Abort;
 use std::rt::Files;
@@ -27,7 +28,7 @@ fn words_of(rt: &(impl Abort + AllocGlobal), words: &[&str]) -> Vec<String> {
 /// The program ends with this status. On standard output it has printed this text, or one that begins so where two
 /// points stand at its end; on standard error it has told this, or where it is `?` something.
 pub fn ends(
-    rt: &(impl Abort + Files + AllocGlobal + Threads + Wait + Sync),
+    rt: &(impl Abort + Files<File = File> + AllocGlobal + Threads + Wait + Sync),
     words: &[&str],
     status: u8,
     printed: &str,
@@ -175,7 +176,7 @@ pub fn write_file(
 
 /// The script of a file is run under the genesis of another, with this status, and this is printed and told.
 fn runs(
-    rt: &(impl Abort + Files + AllocGlobal + Threads + Wait + Sync),
+    rt: &(impl Abort + Files<File = File> + AllocGlobal + Threads + Wait + Sync),
     genesis: &str,
     script: &str,
     (status, printed, told): (u8, &str, &str),
@@ -312,7 +313,10 @@ fn scripts_of_files(rt: HostRuntime) {
 }
 
 /// These words end with status 1 where standard output takes nothing, and that is told.
-fn fails_to_write(rt: &(impl Abort + Files + AllocGlobal + Threads + Wait + Sync), words: &[&str]) {
+fn fails_to_write(
+    rt: &(impl Abort + Files<File = File> + AllocGlobal + Threads + Wait + Sync),
+    words: &[&str],
+) {
     let words = words_of(rt, words);
     let mut err = Vec::new(rt.alloc());
     let status = start(rt, words.as_slice(), &mut Closed {}, &mut err);

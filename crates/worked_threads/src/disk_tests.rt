@@ -156,14 +156,15 @@ fn count_stops(rt: &(impl Threads + Sync), alloc: Global, torn: bool, counts: &m
     }
 }
 
-// An append makes six calls: a record and its gate are each sought, written and made sure. Where the last of them fails
-// the gate is open, and the block is opened that wasn't told durable; where one of the five others does, it isn't. An
-// opening makes three: what the log holds is made sure, what stands behind its end is cut, and that is made sure.
+// An append makes six calls: a record and its gate are each sought, written and made sure. Whichever of them fails, no
+// block is opened that wasn't told durable: where it is the last one, the gate is closed again, by two calls more,
+// though the file then gives what it was told. An opening makes three: what the log holds is made sure, what stands
+// behind its end is cut, and that is made sure.
 #[test]
 fn stops_in_ten_appends(rt: HostRuntime) {
     let mut counts = [0; 3];
     count_stops(&rt, rt.alloc(), false, &mut counts);
-    assert!(rt; counts == [50 * 3, 10 * 3, 0]);
+    assert!(rt; counts == [60 * 3, 0, 0]);
 }
 
 // The same where a write leaves half of its bytes. A gate whose write fails is then neither open nor closed, and an
@@ -172,5 +173,5 @@ fn stops_in_ten_appends(rt: HostRuntime) {
 fn torn_writes_in_ten_appends(rt: HostRuntime) {
     let mut counts = [0; 3];
     count_stops(&rt, rt.alloc(), true, &mut counts);
-    assert!(rt; counts == [40 * 3 + 10 * 6, 10 * 3, 0]);
+    assert!(rt; counts == [50 * 3 + 10 * 6, 0, 0]);
 }
