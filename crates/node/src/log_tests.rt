@@ -282,39 +282,3 @@ fn files_that_are_no_log(rt: HostRuntime) {
     }
     remove(&rt, &folder);
 }
-
-/// A fifth block.
-const FIFTH: &str = "block A5 A4 9
-arrive A5
-";
-
-// Three blocks are never rolled back, and their records begin at 0, 77 and 187. A bit of a gate behind which stands
-// more than one record is told, and the log stays. Where just the last record stands behind it, a crash may have left
-// that.
-#[test]
-fn gates_with_another_bit(rt: HostRuntime) {
-    let folder = own_folder(&rt);
-    let text = format!(in rt.alloc(); "{FOUR}{FIFTH}").expect(&rt, MEMORY);
-    let paths = Paths::of(&rt, &folder, text.as_str());
-    let kept = format!(in rt.alloc(); "{FOUR_KEPT}arrive A5: kept back 0 added 1\n").expect(
-        &rt, MEMORY,
-    );
-    runs_on_log(&rt, &paths, (0, kept.as_str(), ""));
-    let whole = log_bytes(&rt, &paths);
-    let no_log = format!(in rt.alloc(); "cannot read {}\n", paths.log).expect(&rt, MEMORY);
-    for bit in 0..8u32 {
-        for (place, told) in [(0usize, no_log.as_str()), (77, "log: damaged at 77\n")] {
-            let mut bytes = whole.clone().expect(&rt, MEMORY);
-            bytes[place] ^= 1u8 << bit;
-            write_log(&rt, &paths, &bytes);
-            replays(&rt, &paths, (1, "", told));
-            runs_on_log(&rt, &paths, (1, "", told));
-            assert!(&rt; log_bytes(&rt, &paths) == bytes);
-        }
-        let mut bytes = whole.clone().expect(&rt, MEMORY);
-        bytes[187] ^= 1u8 << bit;
-        write_log(&rt, &paths, &bytes);
-        replays(&rt, &paths, (0, "height 2\n", ""));
-    }
-    remove(&rt, &folder);
-}
