@@ -1,8 +1,10 @@
--- The header of the definitions that a header of the code stands for.
+-- What headers and tips of the code stand for.
 use Rattle.std.specs.Prelude.{ℕ, List, option_map}
 use Rattle.ident.specs.Kinds.{BlockHash}
 use Rattle.block.specs.declared.header.Header as code
+use Rattle.block.specs.declared.tip.Tip.{Tip}
 use Rattle.model.specs.Block.{Header}
+use Rattle.model.specs.Chain as chain
 
 -- the bytes of a hash
 abbrev pub bytes_of : BlockHash → List ℕ
@@ -17,3 +19,7 @@ header_of h =
       previous = option_map bytes_of h.previous;
       body_hash = h.body_hash.bytes;
     }
+
+-- where a chain ends
+abbrev pub tip_of : Tip → chain.Tip
+tip_of tip = record { number = tip.number; slot = tip.slot; hash = option_map bytes_of tip.hash }

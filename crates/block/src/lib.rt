@@ -11,6 +11,7 @@ mod header;
 mod laws;
 mod reading;
 mod seen;
+mod tip;
 mod writing;
 
 pub use block::{Block, read};
@@ -21,4 +22,5 @@ pub use full::{write, write_with_body, write_with_hash};
 pub use header::{Header, NUMBER_LIMIT};
 pub use laws::one_answer;
 pub use seen::Seen;
+pub use tip::Tip;
 pub use writing::{empty_body_hash, write_empty};

@@ -67,10 +67,10 @@ tied_age a = rw (tied_number a.number) (tied_itself nat_list_cmp_total a.hash)
 -- ---- what a map has at a hash
 
 -- after a change at a hash a map has this there, and what it had elsewhere
-pub at_hash : (m n : BTreeMap (List ℕ) Stored) (hash : List ℕ) (w : Option Stored) → tree.UpdatesBy hash_cmp (hash_cmp hash) m n w → get hash_cmp n hash ≡ w
+pub at_hash : {X : Type 0} (m n : BTreeMap (List ℕ) X) (hash : List ℕ) (w : Option X) → tree.UpdatesBy hash_cmp (hash_cmp hash) m n w → get hash_cmp n hash ≡ w
 at_hash m n hash w updates = updates.1
 
-pub at_others : (m n : BTreeMap (List ℕ) Stored) (hash : List ℕ) (w : Option Stored) → tree.UpdatesBy hash_cmp (hash_cmp hash) m n w
+pub at_others : {X : Type 0} (m n : BTreeMap (List ℕ) X) (hash : List ℕ) (w : Option X) → tree.UpdatesBy hash_cmp (hash_cmp hash) m n w
     → (q : List ℕ) → q ≢ hash → get hash_cmp n q ≡ get hash_cmp m q
 at_others m n hash w updates q other = updates.2 q (one (is_eq (hash_cmp hash q)) refl)
   where

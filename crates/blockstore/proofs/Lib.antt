@@ -6,3 +6,5 @@ pub mod Tests
 pub mod Stores
 pub mod Sames
 pub mod ForCallers
+pub mod Noting
+pub mod Rising

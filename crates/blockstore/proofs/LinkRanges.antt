@@ -17,7 +17,6 @@ use Rattle.std.specs.BTreeSet as sorted
 use Rattle.std.proofs.lemmas.Bool.{cases_lt}
 use Rattle.std.proofs.lemmas.List.{take_more, get_or_default}
 use Rattle.std.proofs.lemmas.List.Elements.{Contains-push_cases}
-use Rattle.std.proofs.lemmas.Option.{same_Some}
 use Rattle.blockstore.proofs.Lists.{map_push}
 use Rattle.std.proofs.lemmas.Map.Keys.{IsDistinct-from_sorted}
 use Rattle.std.proofs.lemmas.List.Kept.{IsStrictlySortedBy-filter}
@@ -29,7 +28,7 @@ use Rattle.blockstore.specs.Keys.{hash_cmp, link_cmp, IsLinkOf, AreKeysOf}
 use Rattle.blockstore.specs.Shelves.{AreAfter, AreLinksAfter}
 use Rattle.blockstore.specs.declared.keys.Link.{Link}
 use Rattle.blockstore.proofs.KeySets.{exact_link, tied_link, exact_hashes, tied_hashes, has_member, none_some}
-use Rattle.blockstore.proofs.Shelves.{IsKeyed, value_at, holds_at, distinct_by_keys}
+use Rattle.blockstore.proofs.Shelves.{IsKeyed, value_at, holds_at, apart_on, distinct_by_keys}
 
 -- ---- the least and the greatest hash
 
@@ -142,16 +141,13 @@ are_after m previous links found ordered keyed are same within = record {
     mapped [] = refl
     mapped (x ∷ xs) = ap (λ (hs : List (List ℕ)). block_hash_of x.block ∷ hs) (mapped xs)
 
-    one : (x y : Stored) → Contains (values m) x → Contains (values m) y → block_hash_of x.block ≡ block_hash_of y.block → x ≡ y
-    one x y here there is = same_Some x y (sym (holds_at m ordered keyed x here) ∙ (ap (get hash_cmp m) is ∙ holds_at m ordered keyed y there))
-
     out : (x : Stored) → Contains found x → Contains (values m) x × (x.block.header.previous ≡ previous)
     out x member =
         let here = within x member in
         let l = contains_before (λ (l : Link). l.hash) links (block_hash_of x.block)
         (subst (λ (hs : List (List ℕ)). Contains hs (block_hash_of x.block)) same (contains_map (λ (y : Stored). block_hash_of y.block) found x member)) in
         let y = are.named l.0 l.1 in
-        let is : x ≡ y.0 = one x y.0 here y.1 (sym l.2 ∙ y.2.1) in
+        let is : x ≡ y.0 = apart_on m ordered keyed x y.0 here y.1 (sym l.2 ∙ y.2.1) in
         (here, ap (λ (z : Stored). z.block.header.previous) is ∙ (sym y.2.0 ∙ are.same l.0 l.1))
 
     back : (x : Stored) → Contains (values m) x × (x.block.header.previous ≡ previous) → Contains found x
@@ -159,7 +155,7 @@ are_after m previous links found ordered keyed are same within = record {
         let l = are.kept x was.0 was.1 in
         let y = contains_before (λ (y : Stored). block_hash_of y.block) found l.0.hash
         (subst (λ (hs : List (List ℕ)). Contains hs l.0.hash) (sym same) (contains_map (λ (k : Link). k.hash) links l.0 l.1)) in
-        subst (Contains found) (one y.0 x (within y.0 y.1) was.0 (y.2 ∙ l.2.1)) y.1
+        subst (Contains found) (apart_on m ordered keyed y.0 x (within y.0 y.1) was.0 (y.2 ∙ l.2.1)) y.1
 
 pub links_answer : {E : Type 0} (m : BTreeMap (List ℕ) Stored) (links : BTreeSet Link) (previous : Option (List ℕ)) (r : Result (Vec (Bor Link)) E) → IsOrdered hash_cmp m → IsKeyed m
     → AreKeysOf IsLinkOf (contains link_cmp links) m → sorted.IsOrdered link_cmp links

@@ -51,6 +51,7 @@ module _ (store : Store) (xs ys : List Stored) (same : IsSame xs ys) where
   pub inserted_same : (b : Block) → IsInserted store b (with_blocks store ys) → IsInserted store b (with_blocks store xs)
   inserted_same b is = record {
     capacity = refl;
+    root = refl;
     members = λ x. ((λ member. (is.members x).0 ((same.members x).0 member)), (λ there. (same.members x).1 ((is.members x).1 there)));
     count = same.count ∙ is.count;
   }
@@ -65,6 +66,7 @@ module _ (store : Store) (xs ys : List Stored) (same : IsSame xs ys) where
   pub mark_same : (hash : List ℕ) → IsMarkSet store hash (with_blocks store ys) → IsMarkSet store hash (with_blocks store xs)
   mark_same hash is = record {
     capacity = refl;
+    root = refl;
     members = λ x. ((λ member. (is.members x).0 ((same.members x).0 member)), (λ there. (same.members x).1 ((is.members x).1 there)));
     count = same.count ∙ is.count;
   }

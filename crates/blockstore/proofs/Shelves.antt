@@ -27,7 +27,7 @@ use Rattle.blockstore.specs.Stored.{Stored, marked}
 use Rattle.blockstore.specs.Tests.{has_hash, marked_at}
 use Rattle.blockstore.specs.Keys.{hash_cmp, age_cmp, IsAgeOf, AreKeysOf}
 use Rattle.blockstore.specs.declared.keys.Age.{Age}
-use Rattle.blockstore.specs.Shelves.{IsSame, HasNone, IsThere}
+use Rattle.blockstore.specs.Shelves.{IsSame, AreApart, HasNone, IsThere}
 use Rattle.blockstore.proofs.KeySets.{eq_from, is_hash, at_others, none_some, exact_age, has_member}
 
 -- each block of the map stands at its hash
@@ -47,6 +47,11 @@ holds_at m ordered keyed x member =
     lookup-from_Contains (eq_by_cmp_equiv nat_list_cmp_total) e.0.0 e.0.1 m.entries (IsDistinct-from_sorted hash_cmp (keys m) ordered) e.1 in
     subst (λ (y : Stored). get hash_cmp m (block_hash_of y.block) ≡ Some y) e.2
     (subst (λ (q : List ℕ). get hash_cmp m q ≡ Some e.0.1) (sym (keyed e.0.0 e.0.1 there)) there)
+
+-- no two blocks of a map have one hash
+pub apart_on : (m : BTreeMap (List ℕ) Stored) → IsOrdered hash_cmp m → IsKeyed m → AreApart (values m)
+apart_on m ordered keyed x y here there same =
+    same_Some x y (sym (holds_at m ordered keyed x here) ∙ (ap (get hash_cmp m) same ∙ holds_at m ordered keyed y there))
 
 -- ---- a block comes
 

@@ -33,7 +33,7 @@ AreRead blocks = AllByRecursion (λ x. IsRead x.block (block_text x.block)) bloc
 -- ---- a mark
 
 abbrev pub with_blocks : Store → List Stored → Store
-with_blocks store blocks = record { capacity = store.capacity; blocks = blocks }
+with_blocks store blocks = record { capacity = store.capacity; root = store.root; blocks = blocks }
 
 same_blocks : (hash : List ℕ) (blocks : List Stored) → map block_of (map (marked_at hash) blocks) ≡ map block_of blocks
 same_blocks hash blocks = map_same block_of (marked_at hash) blocks (same_block hash)
@@ -43,6 +43,7 @@ mark_set store hash blocks is =
     subst (λ (xs : List Stored). IsMarkSet store hash (with_blocks store xs)) (sym is)
     (record {
       capacity = refl;
+      root = refl;
       members = λ x. (
         (λ member. let before = contains_before (marked_at hash) store.blocks x member in (before.0, before.1, subst (IsMarkedAt hash before.0) before.2 (is_marked hash before.0))),
         (λ before. subst (Contains (map (marked_at hash) store.blocks)) (sym (marked_is hash before.0 x before.2)) (contains_map (marked_at hash) store.blocks before.0 before.1)),
@@ -187,6 +188,7 @@ inserted store b blocks is =
     subst (λ (xs : List Stored). IsInserted store b (with_blocks store xs)) (sym is)
     (record {
       capacity = refl;
+      root = refl;
       members = λ x. (
         (λ member. elim (Contains-push_cases store.blocks (unmarked b) x member) [ inl before ↦ inl before | inr is ↦ inr (sym is) ]),
         (λ either. elim either [

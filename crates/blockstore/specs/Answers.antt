@@ -32,6 +32,7 @@ pub record IsMarkedAt (hash : List ℕ) (before after : Stored) : Type 0 where
 -- the block of this hash has its mark, and nothing else changed
 pub record IsMarkSet (old : Store) (hash : List ℕ) (new : Store) : Type 0 where
   pub capacity : new.capacity ≡ old.capacity
+  pub root : new.root ≡ old.root
   pub members : (x : Stored) → Contains new.blocks x ↔ ((y : Stored) × Contains old.blocks y × IsMarkedAt hash y x)
   pub count : length new.blocks ≡ length old.blocks
 

@@ -1,14 +1,20 @@
 -- What a store of the code stands for, and what it keeps.
+use Rattle.std.specs.Prelude.{◌≡◌, ◌≤◌, Some, [], length, vec_capacity}
 use Rattle.std.specs.List.{AllByRecursion}
 use Rattle.block.specs.Read.{IsRead}
+use Rattle.block.specs.View.{tip_of}
 use Rattle.model.specs.Block.{block_text}
 use Rattle.blockstore.specs.declared.store.BlockStore.TheInside.{Inside}
 use Rattle.blockstore.specs.Stored.{Store, IsSet}
+use Rattle.blockstore.specs.Ways.{AreNotes}
 
 abbrev pub store_of : {S : Type 0} → Inside S → Store
-store_of s = record { capacity = s.max_volatile; blocks = s.blocks }
+store_of s = record { capacity = s.max_volatile; root = tip_of s.root; blocks = s.blocks }
 
--- the blocks were read, so that the text of each is no other block's
+-- the blocks were read, so that the text of each is no other block's; to which of them a way leads is noted
 pub record IsHeldStore {S : Type 0} (s : Inside S) : Type 0 where
   pub is_set : IsSet (store_of s)
   pub read : AllByRecursion (λ x. IsRead x.block (block_text x.block)) s.blocks
+  pub notes : AreNotes (Some (tip_of s.root)) s.blocks s.reach.notes
+  pub none_waits : s.reach.waiting.items ≡ []
+  pub room : length s.blocks ≤ vec_capacity s.reach.waiting

@@ -34,5 +34,6 @@ IsInsertFault store b OutOfMemory = IsAllowed store b
 -- to the live blocks this one came, without a mark, and nothing else changed
 pub record IsInserted (old : Store) (b : Block) (new : Store) : Type 0 where
   pub capacity : new.capacity ≡ old.capacity
+  pub root : new.root ≡ old.root
   pub members : (x : Stored) → Contains new.blocks x ↔ (Contains old.blocks x ⊎ (x ≡ unmarked b))
   pub count : length new.blocks ≡ length old.blocks + 1

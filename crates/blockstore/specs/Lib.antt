@@ -8,3 +8,4 @@ pub mod Live
 pub mod Keys
 pub mod Shelves
 pub mod HeldShelf
+pub mod Ways

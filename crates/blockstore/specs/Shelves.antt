@@ -14,6 +14,11 @@ pub record IsSame (xs ys : List Stored) : Type 0 where
   pub members : (x : Stored) → Contains xs x ↔ Contains ys x
   pub count : length xs ≡ length ys
 
+-- no two of these have one hash
+abbrev pub AreApart : List Stored → Type 0
+AreApart xs =
+    (x y : Stored) → Contains xs x → Contains xs y → block_hash_of x.block ≡ block_hash_of y.block → x ≡ y
+
 -- none has this hash
 abbrev pub HasNone : List Stored → List ℕ → Type 0
 HasNone xs hash = (x : Stored) → Contains xs x → block_hash_of x.block ≢ hash

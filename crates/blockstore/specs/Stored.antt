@@ -2,17 +2,19 @@
 use Rattle.std.specs.Prelude.{ℕ, ◌≤◌, List, [], length, map, Contains, Bool, true, false, refl}
 use Rattle.std.specs.Coded.{Coded, code_by, coded×, coded_list, coded_ℕ, coded_bool}
 use Rattle.model.specs.Block.{Block}
-use Rattle.model.specs.Chain.{HaveDistinctHashes}
-use Rattle.model.specs.Codes.{coded_block}
+use Rattle.model.specs.Chain.{Tip, HaveDistinctHashes}
+use Rattle.model.specs.Codes.{coded_block, coded_tip}
 
 -- a live block, and whether it is known that no valid chain will ever have it
 pub record Stored : Type 0 where
   pub block : Block
   pub invalid : Bool
 
--- how many live blocks there may be, and those that there are, in no order that is spoken of
+-- how many live blocks there may be, the place that ways to them begin behind, and those that there are, in no order that
+-- is spoken of
 pub record Store : Type 0 where
   pub capacity : ℕ
+  pub root : Tip
   pub blocks : List Stored
 
 abbrev pub coded_stored : Coded Stored
@@ -22,8 +24,9 @@ coded_stored =
 
 abbrev pub coded_store : Coded Store
 coded_store =
-    code_by (ℕ × List Stored) (coded× coded_ℕ (coded_list coded_stored)) (λ s. (s.capacity, s.blocks))
-    (λ p. record { capacity = p.0; blocks = p.1 }) (λ _. refl)
+    code_by (ℕ × (Tip × List Stored)) (coded× coded_ℕ (coded× coded_tip (coded_list coded_stored)))
+    (λ s. (s.capacity, (s.root, s.blocks)))
+    (λ p. record { capacity = p.0; root = p.1.0; blocks = p.1.1 }) (λ _. refl)
 
 -- the block as it comes in
 abbrev pub unmarked : Block → Stored
@@ -33,9 +36,9 @@ unmarked b = record { block = b; invalid = false }
 abbrev pub marked : Stored → Stored
 marked s = record { block = s.block; invalid = true }
 
--- a store that no block came to
-abbrev pub empty_store : ℕ → Store
-empty_store capacity = record { capacity = capacity; blocks = [] }
+-- a store that no block came to, where ways begin behind this place
+abbrev pub empty_store : ℕ → Tip → Store
+empty_store capacity root = record { capacity = capacity; root = root; blocks = [] }
 
 -- the live blocks, without their marks
 abbrev pub blocks_of : Store → List Block

@@ -12,6 +12,7 @@
 
 mod insert_fault;
 mod keys;
+mod reach;
 mod shelf;
 mod store;
 mod stored_block;

@@ -1,6 +1,6 @@
 //! The live blocks, found by hash, by the block before them, and by number.
 
-ghost use Rattle.std.specs.Prelude.{◌≡◌, [], ◌∷◌, ◌++◌, ◌≤◌, length, false, map, filter, option_map, Contains};
+ghost use Rattle.std.specs.Prelude.{◌≡◌, [], ◌∷◌, ◌++◌, ◌≤◌, length, false, map, option_map, Contains};
 ghost use Rattle.std.specs.Prelude.{MatchOption, IfOk, OnOk, OnErr};
 ghost use Rattle.std.specs.Ordering.{is_gt};
 ghost use Rattle.std.specs.BTreeSet.{keys_between, IsOrdered};
@@ -8,14 +8,15 @@ ghost use Rattle.std.specs.declared.ops.Bound.TheVariants.{Included};
 ghost use Rattle.model.specs.Block.{block_hash_of};
 ghost use Rattle.model.specs.Chain.{HaveDistinctHashes};
 ghost use Rattle.block.specs.View.{bytes_of as hash_bytes};
-ghost use Rattle.blockstore.specs.Tests.{is_past, marked_at};
+ghost use Rattle.blockstore.specs.Tests.{marked_at};
 ghost use Rattle.blockstore.specs.Keys.{link_cmp};
-ghost use Rattle.blockstore.specs.Shelves.{IsSame, AreAfter, AreLinksAfter, HasNone, ArePast, IsThere, IsWithout};
+ghost use Rattle.blockstore.specs.Shelves.{IsSame, AreApart, AreAfter, AreLinksAfter, HasNone, ArePast, IsThere, IsWithout};
 
 use crate::keys::{Age, Bytes, Link, bytes_of};
 use crate::stored_block::StoredBlock;
 use ident::BlockHash;
 use std::alloc::{AllocError, Global};
+use std::collections::btree_set::Range;
 use std::collections::{BTreeMap, BTreeSet};
 use std::marker::Model;
 use witness_pool::SigScheme;
@@ -86,10 +87,37 @@ impl<S: SigScheme> Shelf<S> {
 
     /// The block with this hash, if there is one. A look-up.
     pub fn with_hash(&self, hash: BlockHash) -> Option<&StoredBlock<S>>
-        ensures { MatchOption result (HasNone self.now hash.bytes)
+        ensures found { MatchOption result (HasNone self.now hash.bytes)
             (λ found. Contains self.now found.now × (block_hash_of found.now.block ≡ hash.bytes)) }
+        ensures apart { AreApart self.now }
     {
-        self.blocks.get(hash.as_bytes())
+        self.at(hash.as_bytes())
+    }
+
+    /// The block with the hash of these bytes, if there is one. A look-up.
+    pub fn at(&self, hash: &Bytes) -> Option<&StoredBlock<S>>
+        ensures found { MatchOption result (HasNone self.now hash.now)
+            (λ found. Contains self.now found.now × (block_hash_of found.now.block ≡ hash.now)) }
+        ensures apart { AreApart self.now }
+    {
+        self.blocks.get(hash)
+    }
+
+    /// The links of the blocks that name the one with this hash as the block before them, one after the other. A
+    /// look-up; takes no memory.
+    pub fn links_of(&self, previous: Option<Bytes>) -> Range<'_, Link>
+        ensures all { AreLinksAfter self.now previous result }
+        ensures apart { AreApart self.now }
+    {
+        let first = Link {
+            previous,
+            hash: LEAST,
+        };
+        let last = Link {
+            previous,
+            hash: GREATEST,
+        };
+        self.links.range(first..=last)
     }
 
     /// The blocks that name this one as the block before them. A look-up, and one more for each.
@@ -158,7 +186,7 @@ impl<S: SigScheme> Shelf<S> {
     }
 
     /// The least age, if it is up to this number. A look-up.
-    fn oldest_up_to(&self, number: u64) -> Option<Age>
+    pub fn oldest_up_to(&self, number: u64) -> Option<Age>
         ensures oldest { MatchOption result (ArePast number self.now)
             (λ age. IsThere self.now age × (age.number ≤ number)) }
         // No two blocks have one hash.
@@ -174,7 +202,7 @@ impl<S: SigScheme> Shelf<S> {
     }
 
     /// Takes out the block at this age. A look-up; takes no memory.
-    fn remove(&mut self, age: Age)
+    pub fn remove(&mut self, age: Age)
         requires { IsThere self.old age }
         ensures { IsWithout self.old age self.new }
     {
@@ -183,16 +211,5 @@ impl<S: SigScheme> Shelf<S> {
         };
         self.links.remove(&Link::of(stored.block()));
         self.ages.remove(&age);
-    }
-
-    /// Takes out all blocks with a number up to this one. A look-up for each; takes no memory.
-    pub fn keep_past(&mut self, number: u64)
-        ensures { IsSame self.new (filter (is_past number) self.old) }
-    {
-        let mut oldest = self.oldest_up_to(number);
-        while let Some(age) = oldest {
-            self.remove(age);
-            oldest = self.oldest_up_to(number);
-        }
     }
 }

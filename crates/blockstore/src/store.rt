@@ -4,16 +4,19 @@ ghost use Rattle.std.specs.Prelude.{◌≡◌, ◌↔◌, [], length, map, optio
 ghost use Rattle.std.specs.List.{AllByRecursion};
 ghost use Rattle.model.specs.Block.{Block, block_text};
 ghost use Rattle.block.specs.Read.{IsRead};
-ghost use Rattle.block.specs.View.{bytes_of};
+ghost use Rattle.model.specs.Chain.{genesis_tip};
+ghost use Rattle.block.specs.View.{bytes_of, tip_of};
 ghost use Rattle.blockstore.specs.Stored.{empty_store, IsSet, HasBlock};
 ghost use Rattle.blockstore.specs.Insertion.{IsKnown, IsFull, IsAllowed, IsInsertFault, IsInserted};
 ghost use Rattle.blockstore.specs.Answers.{HasNoneAt, IsAt, AreSuccessors, IsMarkSet, IsCutTo};
+ghost use Rattle.blockstore.specs.Ways.{HasWay};
 ghost use Rattle.blockstore.specs.Live.{HoldsNothing, GainsLive, FollowsChain, KeepsLive};
 
 use crate::insert_fault::InsertFault;
+use crate::reach::Reach;
 use crate::shelf::Shelf;
 use crate::stored_block::StoredBlock;
-use block::CheckedBlock;
+use block::{CheckedBlock, Tip};
 use ident::BlockHash;
 use std::alloc::{AllocError, Global};
 use std::marker::Model;
@@ -26,7 +29,9 @@ use witness_pool::SigScheme;
 pub struct BlockStore<S: SigScheme> {
     alloc: Global,
     max_volatile: u64,
+    root: Tip,
     blocks: Shelf<S>,
+    reach: Reach,
 }
 
 impl<S: SigScheme> Model for BlockStore<S> {
@@ -44,15 +49,25 @@ impl<S: SigScheme> Model for BlockStore<S> {
 }
 
 impl<S: SigScheme> BlockStore<S> {
-    /// A store of at most so many live blocks, without one. Takes no memory.
+    /// A store of at most so many live blocks, without one, of chains from genesis. Takes no memory.
     pub fn new(alloc: Global, max_volatile: u64) -> BlockStore<S>
-        ensures empty { result ≡ empty_store max_volatile }
+        ensures empty { result ≡ empty_store max_volatile genesis_tip }
+        ensures live { HoldsNothing result }
+    {
+        BlockStore::behind(alloc, max_volatile, Tip::genesis())
+    }
+
+    /// A store of at most so many live blocks, without one, of chains through this place. Takes no memory.
+    pub fn behind(alloc: Global, max_volatile: u64, root: Tip) -> BlockStore<S>
+        ensures empty { result ≡ empty_store max_volatile (tip_of root) }
         ensures live { HoldsNothing result }
     {
         BlockStore {
             alloc,
             max_volatile,
+            root,
             blocks: Shelf::new(alloc),
+            reach: Reach::new(alloc),
         }
     }
 
@@ -105,6 +120,14 @@ impl<S: SigScheme> BlockStore<S> {
         self.blocks.after(self.alloc, previous)
     }
 
+    /// Whether a way leads to this block, which need not be live: live blocks without marks, each following the one before
+    /// it, the first of them the place that chains go through. Where none does, no chain through that place can have it.
+    pub fn connects(&self, block: &CheckedBlock<S>) -> bool
+        ensures { IsTrue result ↔ HasWay self.now.root self.now.blocks block.now }
+    {
+        self.reach.connects(&self.blocks, Some(self.root), block)
+    }
+
     /// Takes the block in, without a mark. Err where one of the reasons applies, and then nothing changes. A mark will
     /// take no more memory. Texts are compared where hashes agree, and then that of one block.
     pub fn insert(&mut self, block: CheckedBlock<S>) -> Result<(), InsertFault>
@@ -125,7 +148,11 @@ impl<S: SigScheme> BlockStore<S> {
         if self.is_full() {
             return Err(InsertFault::VolatileFull);
         }
-        if self.blocks.put(StoredBlock::new(block)).is_err() {
+        if self
+            .reach
+            .take_in(&mut self.blocks, Some(self.root), block)
+            .is_err()
+        {
             return Err(InsertFault::OutOfMemory);
         }
         Ok(())
@@ -139,14 +166,20 @@ impl<S: SigScheme> BlockStore<S> {
         ensures live { KeepsLive self.old self.new }
     {
         self.blocks.mark(hash);
+        self.reach
+            .look_from(&self.blocks, Some(self.root), hash, false);
     }
 
-    /// Takes out all blocks with a number up to this one: a look-up for each. Takes no memory.
-    pub fn drop_up_to(&mut self, number: u64)
-        ensures cut { IsCutTo self.old number self.new }
+    /// Takes out all blocks with a number up to that of this place, which all chains go through from then on: the immutable
+    /// tip of the selected one. Takes look-ups for each that goes, and for each that hangs on one of them. Where no way
+    /// led to the place, it takes look-ups for all. Takes no memory.
+    pub fn drop_up_to(&mut self, root: Tip)
+        ensures cut { IsCutTo self.old root.number self.new }
+        ensures root { self.new.root ≡ tip_of root }
         ensures set { IsSet self.new }
-        ensures live { FollowsChain self.old number self.new }
+        ensures live { FollowsChain self.old root.number self.new }
     {
-        self.blocks.keep_past(number);
+        self.reach.rise(&mut self.blocks, &self.root, root);
+        self.root = root;
     }
 }

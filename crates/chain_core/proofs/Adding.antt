@@ -1,29 +1,29 @@
 -- A block that is kept: the chain, the store and the states are settled again.
-use Rattle.std.proofs.Common.{◌≡◌, ℕ, ◌+◌, ◌-◌, ◌<◌, ◌≤◌, true, false, List, ◌∷◌, ◌++◌, length, take, Contains, refl, sym, ap, subst, ◌∙◌, arith, inl, inr}
+use Rattle.std.proofs.Common.{◌≡◌, ℕ, ◌+◌, ◌-◌, ◌<◌, ◌≤◌, true, false, List, ◌∷◌, ◌++◌, length, take, drop, Contains, refl, sym, ap, subst, ◌∙◌, arith, inl, inr}
 use Rattle.std.specs.Prelude.{min, max, Result, Ok, Err, IfOk, OnOk, OnErr}
 use Rattle.std.specs.declared.alloc.AllocError.{AllocError}
 use Rattle.std.specs.List.{AllByRecursion}
 use Rattle.std.proofs.lemmas.Bool.{cases_lt}
-use Rattle.std.proofs.lemmas.List.{length-append, length-take, take-take, take-append-le}
+use Rattle.std.proofs.lemmas.List.{length-append, length-take, take-take, take-append-le, take-append-drop}
 use Rattle.model.proofs.FollowerSteps.{begins_not_longer}
 use Rattle.std.proofs.lemmas.List.Elements.{Contains-append_right}
 use Rattle.model.specs.Block.{Block}
 use Rattle.model.specs.Ledger.{Network}
 use Rattle.std.specs.BTreeSet.{BTreeSet}
-use Rattle.model.specs.Chain.{HaveDistinctHashes, immutable_length, immutable_part}
+use Rattle.model.specs.Chain.{Tip, HaveDistinctHashes, IsLinked, genesis_tip, tip_after, immutable_length, immutable_part}
 use Rattle.model.specs.Rules.{Params}
 use Rattle.model.specs.Applying.{LedgerState, IsStateOf}
 use Rattle.model.specs.Mempool.{SubmitReply}
 use Rattle.model.specs.History.{IsChange}
 use Rattle.model.proofs.Lists.{all_of_member, all_from_members, all_take, contains_first, contains_later, contains_cases}
 use Rattle.model.proofs.MappedLists.{contains_map, contains_before}
-use Rattle.model.proofs.Chains.{one_with_hash}
+use Rattle.model.proofs.Chains.{one_with_hash, linked_front, length_immutable, tip_number}
 use Rattle.model.proofs.Selections.{selection_not_shorter}
 use Rattle.ident.specs.Kinds.{BlockHash}
 use Rattle.blockstore.specs.Stored.{Stored, Store, unmarked, HasBlock, blocks_of}
 use Rattle.ledgerdb.specs.Values.{Database, depth, count}
 use Rattle.ledgerdb.specs.Chains.{without_last, IsDatabaseOf, IsPreparedOf}
-use Rattle.ledgerdb.proofs.ForCallers.{prepared_count}
+use Rattle.ledgerdb.proofs.ForCallers.{prepared_count, database_valid}
 use Rattle.chainsel.specs.Dead.{IsDead}
 use Rattle.chainsel.specs.Ready.{IsSettled, IsReady}
 use Rattle.chainsel.specs.Choices.{IsSelected, IsFoundDead, IsSwitch}
@@ -40,6 +40,25 @@ use Rattle.chain_core.proofs.Mempools.{mempool_resynced, stay_resynced, submits,
 use Rattle.chain_core.specs.PastHashes.{IsNoted, IsBlockNoted}
 use Rattle.chain_core.proofs.PastHashes.{blocks_keep}
 use Rattle.chain_core.specs.ChainDbs.{IsWhole, IsAdded, IsTakenIn, IsCutBack, IsCommitted, IsTaken}
+
+-- where ways begin after a switch
+root_of_cut : (network : Network) (chain : List Block) (number : ℕ) (root : Tip) → IsLinked genesis_tip chain → number ≡ immutable_length network chain → root ≡ record (tip_after genesis_tip (take number chain)) { number = number }
+    → root ≡ tip_after genesis_tip (immutable_part network chain)
+root_of_cut network chain number root linked is at = at ∙ (same ∙ ap (λ (n : ℕ). tip_after genesis_tip (take n chain)) is)
+  where
+    part : List Block
+    part = take number chain
+
+    long : length part ≡ number
+    long = ap (λ (n : ℕ). length (take n chain)) is ∙ (length_immutable network chain ∙ sym is)
+
+    number_of : number ≡ (tip_after genesis_tip part).number
+    number_of =
+        let e = tip_number genesis_tip part (linked_front genesis_tip part (drop number chain) (subst (IsLinked genesis_tip) (sym (take-append-drop number chain)) linked)) in
+        omega (arith, e, long)
+
+    same : record (tip_after genesis_tip part) { number = number } ≡ tip_after genesis_tip part
+    same = λ i. record { number = number_of i; slot = (tip_after genesis_tip part).slot; hash = (tip_after genesis_tip part).hash }
 
 module _ (network : Network) (chain : List Block) (store : Store) (db : Database) (new : Block) (ready : IsReady network chain store db new) (invalid : List BlockHash)
     (found : AllByRecursion (IsFoundDead network chain (new ∷ blocks_of store)) invalid) (mid : Store) (taken : IsTakenIn store new invalid mid) where
@@ -87,6 +106,7 @@ module _ (network : Network) (chain : List Block) (store : Store) (db : Database
   -- the chain stays
   pub kept_store : IsNextStore network chain store db new ready chain mid
   kept_store = record {
+    root = taken.marked.root ∙ (taken.inserted.root ∙ ready.settled.root);
     was = was;
     still = λ b member past. still b member;
     past = all_from_members (λ b. immutable_length network chain < b.header.number) (blocks_of mid) (λ b member. all_of_member (λ c. immutable_length network chain < c.header.number) (new ∷ blocks_of store) b past_all (was b member));
@@ -95,8 +115,9 @@ module _ (network : Network) (chain : List Block) (store : Store) (db : Database
   }
 
   -- or changes
-  pub cut_store : (next_chain : List Block) (number : ℕ) (next : Store) → number ≡ immutable_length network next_chain → IsCutBack mid number next → IsNextStore network chain store db new ready next_chain next
-  cut_store next_chain number next is cut = record {
+  pub cut_store : (next_chain : List Block) (number : ℕ) (next : Store) → number ≡ immutable_length network next_chain → IsLinked genesis_tip next_chain → IsCutBack mid next_chain number next → IsNextStore network chain store db new ready next_chain next
+  cut_store next_chain number next is linked cut = record {
+    root = root_of_cut network next_chain number next.root linked is cut.root;
     was = λ b has.
         let x = contains_before (λ (s : Stored). s.block) next.blocks b has in
         was b (subst (HasBlock mid) x.2 (contains_map (λ (s : Stored). s.block) mid.blocks x.0 ((cut.cut.members x.0).0 x.1).0));
@@ -228,7 +249,7 @@ module _ {S : Type 0} (network : Network) (old : ChainDb S) (new : Block) (whole
 
   -- or changes
   pub added_switched : (switch : Switch S) (mid : Store) (next : ChainDb S) (told : Change) → IsSwitch network old.chain.items old.store old.db new switch → IsTakenIn old.store new invalid mid
-      → next.chain.items ≡ without_last switch.back old.chain.items ++ switch.blocks.items → IsCommitted old.db switch.prepared next.db → IsCutBack mid (length next.chain.items - depth next.db) next.store
+      → next.chain.items ≡ without_last switch.back old.chain.items ++ switch.blocks.items → IsCommitted old.db switch.prepared next.db → IsCutBack mid next.chain.items (length next.chain.items - depth next.db) next.store
       → (waiting : Waiting) → IsResynced network (without_last switch.back old.chain.items ++ switch.blocks.items) old.mempool.waiting.txs waiting → next.mempool ≡ record old.mempool { waiting = waiting }
       → AllByRecursion (IsBlockNoted next.past) (immutable_part network (without_last switch.back old.chain.items ++ switch.blocks.items)) → next.opened ≡ old.opened → told.back ≡ switch.back → told.added ≡ length switch.blocks.items → IsAdded network old new next told
   added_switched switch mid next told is taken chain_is committed cut waiting resynced mempool_is noted same_opened back_is added_is = record {
@@ -243,7 +264,7 @@ module _ {S : Type 0} (network : Network) (old : ChainDb S) (new : Block) (whole
       opened = same_opened ∙ whole.opened;
       settled = settled_again network old.chain.items old.store old.db new ready next.chain.items next.store next.db selected
           (subst (AllByRecursion (Contains (at_hand old.chain.items old.store new))) (sym chain_is) (switched_at_hand old.chain.items old.store new switch.back switch.blocks.items is.members))
-          (cut_store network old.chain.items old.store old.db new ready invalid found mid taken next.chain.items (length next.chain.items - depth next.db) next.store number cut)
+          (cut_store network old.chain.items old.store old.db new ready invalid found mid taken next.chain.items (length next.chain.items - depth next.db) next.store number (database_valid network next.chain.items next.db database).linked cut)
           database deep;
       k = committed.k ∙ whole.k;
       capacity = cut.cut.capacity ∙ (taken.marked.capacity ∙ (taken.inserted.capacity ∙ whole.capacity));
@@ -300,7 +321,7 @@ module _ {S : Type 0} (network : Network) (old : ChainDb S) (new : Block) (whole
 
   pub added_at_switch : (switch : Switch S) (mid next : ChainDb S) (result : Result Change AllocError) → IsSwitch network old.chain.items old.store old.db new switch → IsTakenIn old.store new invalid mid.store
       → mid.chain.items ≡ old.chain.items → mid.db ≡ old.db → OnOk result (next.chain.items ≡ without_last switch.back mid.chain.items ++ switch.blocks.items) → OnOk result (IsCommitted mid.db switch.prepared next.db)
-      → OnOk result (IsCutBack mid.store (length next.chain.items - depth next.db) next.store)
+      → OnOk result (IsCutBack mid.store next.chain.items (length next.chain.items - depth next.db) next.store)
       → (waiting : Waiting) → IsResynced network (without_last switch.prepared.back old.chain.items ++ switch.blocks.items) old.mempool.waiting.txs waiting → next.mempool ≡ record old.mempool { waiting = waiting }
       → AllByRecursion (IsBlockNoted next.past) (immutable_part network (without_last switch.back old.chain.items ++ switch.blocks.items)) → next.opened ≡ old.opened → IfOk result (λ told. (told.back ≡ switch.back) × (told.added ≡ length switch.blocks.items)) → IfOk result (IsAdded network old new next)
   added_at_switch switch mid next (Err e) is taken same_chain same_db chain_is committed cut waiting resynced mempool_is noted same_opened told_is = tt

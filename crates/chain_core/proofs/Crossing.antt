@@ -12,7 +12,7 @@ use Rattle.mempool.proofs.reply.SubmitReply.TheSendSync as submitted
 use Rattle.utxo_rules.proofs.params.Params.TheSendSync as params
 use Rattle.genesis.proofs.genesis.Genesis.TheSendSync as genesis
 use Rattle.followers.proofs.followers.Followers.TheSendSync as followers
-use Rattle.ledger.proofs.tip.Tip.TheSendSync as tip
+use Rattle.block.proofs.tip.Tip.TheSendSync as tip
 use Rattle.utxo_rules.specs.contracts.diff.Diff as Diff
 use Rattle.ledger.specs.contracts.ledger_state.LedgerState as LedgerState
 use Rattle.ledger.specs.contracts.block_diff.BlockDiff as BlockDiff
@@ -21,6 +21,7 @@ use Rattle.witness_pool.specs.declared.scheme.SigScheme.{Ghosts}
 use Rattle.block.proofs.ForCallers.{CheckedBlock-send}
 use Rattle.blockstore.specs.contracts.stored_block.StoredBlock as StoredBlock
 use Rattle.blockstore.specs.contracts.shelf.Shelf as Shelf
+use Rattle.blockstore.specs.contracts.reach.Reach as Reach
 use Rattle.blockstore.specs.contracts.store.BlockStore as BlockStore
 use Rattle.chain_core.specs.contracts.chain_db.ChainDb as ChainDb
 use Rattle.chain_core.specs.contracts.node_core.Core as Core
@@ -49,6 +50,9 @@ db_send =
     let d = block_diff_send in
     search (list.the_send, crosses, sendable) depth 20
 
+reach_send : IsSend (Reach.the_field).row
+reach_send = search (map.the_send, crosses, sendable) depth 20
+
 module _ (S : RattleType) (scheme : Ghosts S.Denot) where
   stored_send : IsSend (StoredBlock.the_field S scheme).row
   stored_send = let b = CheckedBlock-send S scheme in search (crosses, sendable) depth 20
@@ -57,7 +61,11 @@ module _ (S : RattleType) (scheme : Ghosts S.Denot) where
   shelf_send = let s = stored_send in search (map.the_send, set.the_send, crosses, sendable) depth 20
 
   store_send : IsSend (BlockStore.the_field S scheme).row
-  store_send = let s = shelf_send in search (crosses, sendable) depth 20
+  store_send =
+      let s = shelf_send in
+      let t = tip.the_field_send in
+      let r = reach_send in
+      search (crosses, sendable) depth 20
 
   chain_db_send : IsSend (ChainDb.the_field S scheme).row
   chain_db_send =

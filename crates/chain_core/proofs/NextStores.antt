@@ -17,6 +17,7 @@ use Rattle.chain_core.specs.ChainDbs.{AreMarked}
 pub none_marked : (store : Store) → AreMarked store [] store
 none_marked store = record {
   capacity = refl;
+  root = refl;
   blocks = λ b. ((λ has. has), (λ has. has));
   marks = λ s member marked. inl (s, member, refl, marked);
   live = λ genesis kept chain holds. holds;
@@ -34,6 +35,7 @@ left_by hash y = by (bytes_eq (block_hash_of y.block) hash) refl
 pub one_marked : (old now next : Store) (hashes : List BlockHash) (hash : BlockHash) → AreMarked old hashes now → IsMarkSet now hash.bytes next → KeepsLive now next → AreMarked old (hashes ++ hash ∷ []) next
 one_marked old now next hashes hash are set keeps = record {
   capacity = set.capacity ∙ are.capacity;
+  root = set.root ∙ are.root;
   blocks = λ b. (
     (λ has.
         let x = contains_before (λ (s : Stored). s.block) next.blocks b has in

@@ -5,7 +5,7 @@ use Rattle.model.specs.Block.{Block, block_hash_of}
 use Rattle.model.specs.Genesis.{Genesis}
 use Rattle.model.specs.Signature.{Verifies}
 use Rattle.model.specs.Ledger.{Network, network_on}
-use Rattle.model.specs.Chain.{immutable_part}
+use Rattle.model.specs.Chain.{genesis_tip, tip_after, immutable_part}
 use Rattle.model.specs.Mempool.{SubmitReply, revalidated, Submits}
 use Rattle.model.specs.History.{State, IsChange}
 use Rattle.ident.specs.Kinds.{BlockHash}
@@ -55,6 +55,7 @@ pub record IsAdded {S : Type 0} (network : Network) (old : ChainDb S) (block : B
 -- the same blocks, of which those have a mark that had one, and those of these hashes
 pub record AreMarked (old : Store) (hashes : List BlockHash) (new : Store) : Type 0 where
   pub capacity : new.capacity ≡ old.capacity
+  pub root : new.root ≡ old.root
   pub blocks : (b : Block) → HasBlock new b ↔ HasBlock old b
   pub marks : (s : Stored) → Contains new.blocks s → s.invalid ≡ true
       → ((t : Stored) × Contains old.blocks t × (t.block ≡ s.block) × (t.invalid ≡ true))
@@ -69,8 +70,9 @@ pub record IsTakenIn (old : Store) (block : Block) (hashes : List BlockHash) (ne
   pub marked : AreMarked between hashes new
   pub set : IsSet new
 
--- the blocks past this number are left
-pub record IsCutBack (old : Store) (number : ℕ) (new : Store) : Type 0 where
+-- the blocks past this number are left, and ways to them begin behind so many blocks of this chain
+pub record IsCutBack (old : Store) (chain : List Block) (number : ℕ) (new : Store) : Type 0 where
+  pub root : new.root ≡ record (tip_after genesis_tip (take number chain)) { number = number }
   pub cut : IsCutTo old number new
   pub set : IsSet new
   pub live : FollowsChain old number new

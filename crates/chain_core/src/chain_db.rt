@@ -24,9 +24,9 @@ ghost use Rattle.chain_core.specs.Mempools.{IsResynced, IsWantOf};
 
 use crate::past::{Bytes, note_all};
 use crate::reopening::OpenedChain;
-use block::CheckedBlock;
+use block::{CheckedBlock, Tip};
 use blockstore::{BlockStore, InsertFault};
-use chainsel::{Choice, Selection, Switch, select};
+use chainsel::{Choice, Selection, Switch, chain_tip, select};
 use genesis::Genesis;
 use ident::BlockHash;
 use ledger::LedgerState;
@@ -87,7 +87,7 @@ impl<S: SigScheme> ChainDb<S> {
         let mempool = Mempool::new(alloc, genesis.max_mempool(), state.utxo())?;
         let mut past = BTreeSet::new(alloc);
         note_all(&mut past, &chain)?;
-        let store = BlockStore::new(alloc, genesis.max_volatile());
+        let store = BlockStore::behind(alloc, genesis.max_volatile(), chain_tip(&chain));
         let db = LedgerDb::new(alloc, state, genesis.k());
         let opened = chain.len();
         Ok(ChainDb {
@@ -251,7 +251,7 @@ impl<S: SigScheme> ChainDb<S> {
         ensures chain { OnOk result
             (self.new.chain.items ≡ without_last switch.back self.old.chain.items ++ switch.blocks.items) }
         ensures db { OnOk result (IsCommitted self.old.db switch.prepared self.new.db) }
-        ensures store { OnOk result (IsCutBack self.old.store
+        ensures store { OnOk result (IsCutBack self.old.store self.new.chain.items
             (length self.new.chain.items - depth self.new.db) self.new.store) }
         ensures change { IfOk result (λ change.
             (change.back ≡ switch.back) × (change.added ≡ length switch.blocks.items)) }
@@ -271,7 +271,11 @@ impl<S: SigScheme> ChainDb<S> {
         self.chain.append(&mut blocks)?;
         self.db.commit(switch.prepared);
         let immutable = self.immutable();
-        self.store.drop_up_to(immutable as u64);
+        let root = Tip {
+            number: immutable as u64,
+            ..chain_tip(&self.chain[..immutable])
+        };
+        self.store.drop_up_to(root);
         Ok(change)
     }
 

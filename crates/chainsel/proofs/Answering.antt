@@ -1,15 +1,22 @@
 -- From what a search found at a turn to the whole answer, said of every network at once.
-use Rattle.std.proofs.Common.{◌≡◌, ℕ, ◌-◌, ◌<◌, ◌≤◌, List, [], ◌∷◌, ◌++◌, length, get_or, Contains, refl, sym, subst, arith}
+use Rattle.std.proofs.Common.{◌≡◌, ◌≢◌, ℕ, ◌-◌, ◌<◌, ◌≤◌, List, [], ◌∷◌, ◌++◌, length, get_or, Contains, refl, sym, ap, subst, ◌∙◌, arith, inl, inr, append_assoc}
+use Rattle.std.specs.Ordering.{nat_cmp}
+use Rattle.std.specs.declared.cmp.Ordering.TheVariants.{Equal, Greater}
+use Rattle.std.specs.Cmp.Lexicographic.{slice_cmp}
+use Rattle.std.specs.Cmp.{tied_itself}
+use Rattle.std.proofs.lemmas.Cmp.{nat_list_cmp_total}
 use Rattle.std.specs.List.{AllByRecursion}
 use Rattle.std.specs.Global.{Vec}
 use Rattle.model.specs.Genesis.{Genesis}
 use Rattle.model.specs.Signature.{Verifies}
 use Rattle.model.specs.Block.{Block, block_hash_of}
-use Rattle.model.specs.Ledger.{network_on}
-use Rattle.model.specs.Chain.{genesis_tip, IsLinked, HaveDistinctHashes}
-use Rattle.model.proofs.Lists.{all_append}
+use Rattle.model.specs.Ledger.{Network, network_on}
+use Rattle.model.specs.Chain.{Tip, genesis_tip, tip_at, tip_after, IsLinked, HaveDistinctHashes, immutable_length, immutable_part}
+use Rattle.model.proofs.Chains.{linked_front}
+use Rattle.model.proofs.Lists.{all_append, all_weaker}
 use Rattle.ident.specs.Kinds.{BlockHash}
-use Rattle.blockstore.specs.Stored.{Store, blocks_of}
+use Rattle.blockstore.specs.Stored.{Store, blocks_of, unmarked}
+use Rattle.blockstore.specs.Ways.{HasWay}
 use Rattle.ledger.specs.declared.block_fault.BlockFault.{BlockFault}
 use Rattle.ledgerdb.specs.Values.{Database, depth, count}
 use Rattle.ledgerdb.specs.Chains.{without_last, IsDatabaseOf, IsPreparedOf}
@@ -17,13 +24,59 @@ use Rattle.ledgerdb.specs.Faults.{IsFaultOnChain}
 use Rattle.ledgerdb.specs.declared.fork_fault.ForkFault.TheVariants.{Refused}
 use Rattle.chainsel.specs.Ready.{IsReady}
 use Rattle.chainsel.specs.Choices.{IsSelected, IsChoice, IsFoundDead, IsPossible, IsExplained, IsSelectionAnswer}
-use Rattle.chainsel.specs.Paths.{Descends, IsBest, IsWay, HasNoWay}
+use Rattle.chainsel.specs.Paths.{Descends, IsBest, IsFitLive, IsLast, IsWay, HasNoWay, last_block}
 use Rattle.chainsel.specs.declared.selection.Choice.TheVariants as choice
 use Rattle.chainsel.specs.declared.selection.Selection.{Selection}
 use Rattle.chainsel.specs.declared.selection.Switch.{Switch}
 use Rattle.chainsel.proofs.AtHand.{chain_valid}
+use Rattle.chainsel.proofs.Through.{first_new}
 use Rattle.chainsel.proofs.Turns.{immutable_is, stays_by_number, stays_by_way, stays_by_death, switches, dies}
 use Rattle.chainsel.proofs.Explaining.{AreShort, when_kept, short_by_number, short_by_way, short_by_death, none_better}
+
+-- ---- by the store alone
+
+unmarked_live : (store : Store) (told : List BlockHash) (b : Block) → IsFitLive store told b → Contains store.blocks (unmarked b)
+unmarked_live store told b fit =
+    let is : fit.stored ≡ unmarked b = λ i. record { block = fit.block i; invalid = fit.fit.unmarked i } in
+    subst (Contains store.blocks) is fit.member
+
+-- no blocks lead to one that no way leads to
+leads_nowhere : (network : Network) (chain : List Block) (store : Store) (new : Block) (told : List BlockHash) → store.root ≡ tip_after genesis_tip (immutable_part network chain) → (HasWay store.root store.blocks new → ⊥)
+    → HasNoWay store told chain (immutable_length network chain) new new
+leads_nowhere network chain store new told root nowhere before all linked =
+    elim (first_new store told new before all) [
+      | inr fit ↦ nowhere (way before fit linked)
+      | inl has ↦
+          let whole : before ++ new ∷ [] ≡ (has.before ++ new ∷ []) ++ (has.after ++ new ∷ []) =
+          ap (λ (bs : List Block). bs ++ new ∷ []) has.parts ∙ (append_assoc has.before (new ∷ has.after) (new ∷ []) ∙ sym (append_assoc has.before (new ∷ []) (has.after ++ new ∷ []))) in
+          nowhere (way has.before has.fit (linked_front tip (has.before ++ new ∷ []) (has.after ++ new ∷ []) (subst (IsLinked tip) whole linked)))
+    ]
+  where
+    tip : Tip
+    tip = tip_after genesis_tip (immutable_part network chain)
+
+    way : (bs : List Block) → AllByRecursion (IsFitLive store told) bs → IsLinked tip (bs ++ new ∷ []) → HasWay store.root store.blocks new
+    way bs fit on = record {
+      before = bs;
+      members = all_weaker (IsFitLive store told) (λ c. Contains store.blocks (unmarked c)) bs (unmarked_live store told) fit;
+      linked = subst (λ (t : Tip). IsLinked t (bs ++ new ∷ [])) (sym root) on;
+    }
+
+-- a block that nothing goes on from is the best of what goes on from it
+last_is_best : (store : Store) (told : List BlockHash) (new : Block) → IsLast store new → IsBest store told new new
+last_is_best store told new last = record {
+  descends = record { path = []; linked = tt; members = tt; last = refl };
+  furthest = λ b is. let same = itself b is in omega (arith, ap (λ (c : Block). c.header.number) same);
+  least = λ b is level. let same = itself b is in
+      subst (λ (c : Block). slice_cmp nat_cmp (block_hash_of new) (block_hash_of c) ≢ Greater) same (λ greater. let e : Equal ≡ Greater = sym (tied_itself nat_list_cmp_total (block_hash_of new)) ∙ greater in cc);
+}
+  where
+    none_after : (path : List Block) → IsLinked (tip_at new) path → AllByRecursion (IsFitLive store told) path → path ≡ []
+    none_after [] linked fit = refl
+    none_after (c ∷ cs) linked fit = absurd (last fit.0.stored fit.0.member (ap (λ (d : Block). d.header.previous) fit.0.block ∙ linked.0.previous))
+
+    itself : (b : Block) → Descends store told new b → new ≡ b
+    itself b is = ap (λ (path : List Block). last_block new path) (sym (none_after is.path is.linked is.members)) ∙ is.last
 
 -- no way leads to the block, where the blocks at hand are as they are to be
 abbrev pub LeadsNowhere : Store → List BlockHash → (chain : List Block) → (immutable : ℕ) → (new end : Block) → Type 0
@@ -78,6 +131,21 @@ module _ (verifies : Verifies) (chain : List Block) (store : Store) (db : Databa
           stays_by_way network chain store db new ready told found immutable b same goes no_way,
           short_by_way network chain store db new ready told found immutable b same goes no_way,
         ))
+
+    -- since no way leads to the block
+    pub kept_apart : (HasWay store.root store.blocks new → ⊥) → IsSelectionAnswer verifies chain store db new selection
+    kept_apart nowhere = kept (λ genesis opened ready.
+        let network = network_on genesis verifies opened in
+        let found = dead genesis opened ready in
+        let goes : Descends store told new new = record { path = []; linked = tt; members = tt; last = refl } in
+        let no_way = leads_nowhere network chain store new told ready.settled.root nowhere in (
+          stays_by_way network chain store db new ready told found (immutable_length network chain) new refl goes no_way,
+          short_by_way network chain store db new ready told found (immutable_length network chain) new refl goes no_way,
+        ))
+
+    -- since the block is the last one of its way, and no further than the chain
+    pub kept_short : IsLast store new → new.header.number ≤ length chain → IsSelectionAnswer verifies chain store db new selection
+    kept_short last within = kept_by_number new (λ positive_number. last_is_best store told new last) within
 
     -- since the block is dead itself
     pub kept_by_death : (hash : BlockHash) → Contains told hash → hash.bytes ≡ block_hash_of new → IsSelectionAnswer verifies chain store db new selection

@@ -3,11 +3,11 @@ use Rattle.std.proofs.Common.{◌≡◌, ℕ, ◌+◌, ◌-◌, ◌<◌, ◌≤�
 use Rattle.std.specs.Prelude.{nat_lt, min, max}
 use Rattle.std.specs.List.{AllByRecursion, filter}
 use Rattle.std.proofs.lemmas.Bool.{cases_lt, lt-ltb, ltb-true}
-use Rattle.std.proofs.lemmas.List.{length-map, take-append-drop}
+use Rattle.std.proofs.lemmas.List.{length-map, take-append-drop, take_all}
 use Rattle.std.proofs.lemmas.List.Elements.{Contains-append_left, Contains-append_right, Contains-append_cases, filter-append}
 use Rattle.model.specs.Block.{Block}
 use Rattle.model.specs.Ledger.{Network}
-use Rattle.model.specs.Chain.{genesis_tip, IsLinked, IsOpening, IsSelection, BeginsWith, NoneLonger, HaveDistinctHashes, immutable_length, immutable_part, live_blocks}
+use Rattle.model.specs.Chain.{genesis_tip, tip_after, IsLinked, IsOpening, IsSelection, BeginsWith, NoneLonger, HaveDistinctHashes, immutable_length, immutable_part, live_blocks}
 use Rattle.model.proofs.Lists.{all_of_member, all_from_members, all_weaker, all_both, all_append, all_take, contains_first, contains_later, contains_cases}
 use Rattle.model.proofs.Chains.{linked_front, length_immutable, begins_with_whole}
 use Rattle.model.proofs.FollowerSteps.{begins_fewer, begins_not_longer}
@@ -152,6 +152,7 @@ module _ (network : Network) (chain : List Block) (store : Store) (db : Database
 
   -- what a store keeps of the blocks that it had and of the one that came, where the selected chain becomes this one
   pub record IsNextStore (next_chain : List Block) (next : Store) : Type 0 where
+    pub root : next.root ≡ tip_after genesis_tip (immutable_part network next_chain)
     pub was : (b : Block) → HasBlock next b → Contains (new ∷ blocks_of store) b
     pub still : (b : Block) → Contains (new ∷ blocks_of store) b → immutable_length network next_chain < b.header.number → HasBlock next b
     pub past : AllByRecursion (λ b. immutable_length network next_chain < b.header.number) (blocks_of next)
@@ -166,6 +167,7 @@ module _ (network : Network) (chain : List Block) (store : Store) (db : Database
     depth = deep;
     opened = subst (BeginsWith next_chain) ready.settled.opened (begins_fewer chain next_chain (length network.opened) (immutable_length network chain) (let within = begins_not_longer chain network.opened ready.settled.opened in omega arith)
         (selection_begins network (at_hand chain store new) chain next_chain (selection_at_hand next_chain selected)));
+    root = is.root;
     live = all_from_members (λ b. immutable_length network next_chain < b.header.number → HasBlock next b) next_chain (λ b member past. is.still b (at_hand_past b (all_of_member (Contains (at_hand chain store new)) next_chain b made member) past) past);
     past = is.past;
     distinct = is.distinct;
@@ -197,13 +199,14 @@ module _ (network : Network) (chain : List Block) (store : Store) (db : Database
 -- ---- how it begins, and how a switch goes on
 
 -- before the first arrival
-pub settled_at_start : (network : Network) (store : Store) (db : Database) → IsOpening network → store.blocks ≡ [] → IsDatabaseOf network network.opened db → depth db ≡ 0 → IsSettled network network.opened store db
-settled_at_start network store db opens empty database deep =
+pub settled_at_start : (network : Network) (store : Store) (db : Database) → IsOpening network → store.blocks ≡ [] → store.root ≡ tip_after genesis_tip network.opened → IsDatabaseOf network network.opened db → depth db ≡ 0 → IsSettled network network.opened store db
+settled_at_start network store db opens empty root database deep =
     let none : [] ≡ blocks_of store = sym (ap (map (λ (s : Stored). s.block)) empty) in
     record {
       database = database;
       depth = omega (arith, deep);
       opened = begins_with_whole network.opened;
+      root = root ∙ ap (tip_after genesis_tip) (sym (take_all (immutable_length network network.opened) network.opened (omega arith)));
       live = all_weaker (λ b. b.header.number ≤ 0 + length network.opened) (λ b. immutable_length network network.opened < b.header.number → HasBlock store b) network.opened (λ b within past. absurd (omega arith)) (numbers_within genesis_tip network.opened opens.valid.linked);
       past = subst (AllByRecursion (λ b. immutable_length network network.opened < b.header.number)) none tt;
       distinct = subst HaveDistinctHashes none tt;

@@ -27,7 +27,7 @@ pub record HasNew (store : Store) (invalid : List BlockHash) (new : Block) (step
   pub fit : AllByRecursion (IsFitLive store invalid) before
   pub rest : AllByRecursion (IsOnPath store invalid new) after
 
-first_new : (store : Store) (invalid : List BlockHash) (new : Block) (steps : List Block) → AllByRecursion (IsOnPath store invalid new) steps → HasNew store invalid new steps ⊎ AllByRecursion (IsFitLive store invalid) steps
+pub first_new : (store : Store) (invalid : List BlockHash) (new : Block) (steps : List Block) → AllByRecursion (IsOnPath store invalid new) steps → HasNew store invalid new steps ⊎ AllByRecursion (IsFitLive store invalid) steps
 first_new store invalid new [] all = inr tt
 first_new store invalid new (x ∷ xs) all =
     elim all.0 [

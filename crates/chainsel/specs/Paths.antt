@@ -63,3 +63,7 @@ abbrev pub HasNoWay : Store → List BlockHash → (chain : List Block) → (imm
 HasNoWay store invalid chain immutable new end =
     (before : List Block) → AllByRecursion (IsOnPath store invalid new) before
     → IsLinked (tip_after genesis_tip (take immutable chain)) (before ++ end ∷ []) → ⊥
+
+-- no live block names this one as the block before it
+abbrev pub IsLast : Store → Block → Type 0
+IsLast store b = (x : Stored) → Contains store.blocks x → x.block.header.previous ≢ Some (block_hash_of b)

@@ -20,5 +20,6 @@ mod selecting;
 mod selection;
 mod way;
 
+pub use links::chain_tip;
 pub use selecting::{immutable, select};
 pub use selection::{Choice, Selection, Switch};

@@ -3,9 +3,10 @@
 ghost use Rattle.std.specs.Prelude.{◌≡◌, ◌≢◌, ◌↔◌, ◌+◌, ◌≤◌, ◌<◌, ◌^◌, IsTrue, Some, length, take};
 ghost use Rattle.std.specs.List.{AllByRecursion};
 ghost use Rattle.model.specs.Chain.{genesis_tip, tip_at, tip_after, Follows};
+ghost use Rattle.block.specs.View.{tip_of};
 ghost use Rattle.chainsel.specs.Paths.{IsFit};
 
-use block::CheckedBlock;
+use block::{CheckedBlock, Tip};
 use blockstore::StoredBlock;
 use ident::BlockHash;
 use witness_pool::SigScheme;
@@ -35,6 +36,16 @@ pub fn follows<S: SigScheme>(before: &CheckedBlock<S>, block: &CheckedBlock<S>) 
         && before.slot() < block.slot()
 }
 
+/// Where the chain ends. Takes no memory.
+pub fn chain_tip<S: SigScheme>(chain: &[CheckedBlock<S>]) -> Tip
+    ensures { tip_of result ≡ tip_after genesis_tip chain.now }
+{
+    match chain.last() {
+        Some(last) => Tip::at(last),
+        None => Tip::genesis(),
+    }
+}
+
 /// Whether the block may come next after the first `keep` blocks of the chain.
 pub fn follows_chain<S: SigScheme>(
     chain: &[CheckedBlock<S>],
@@ -44,10 +55,7 @@ pub fn follows_chain<S: SigScheme>(
     requires { keep ≤ length chain.now }
     ensures { IsTrue result ↔ Follows (tip_after genesis_tip (take keep chain.now)) block.now }
 {
-    match chain[..keep].last() {
-        Some(last) => follows(last, block),
-        None => block.number() == 1 && block.previous().is_none() && 0 < block.slot(),
-    }
+    chain_tip(&chain[..keep]).precedes(block)
 }
 
 /// Whether the block with this hash isn't among those that were found dead by now.

@@ -1,19 +1,13 @@
 -- What the values of the code stand for.
-use Rattle.std.specs.Prelude.{option_map}
 use Rattle.model.specs.Transaction.{Output}
 use Rattle.model.specs.Genesis.{output_of_grant}
-use Rattle.model.specs.Chain as chain
 use Rattle.model.specs.Applying as model
-use Rattle.block.specs.View.{bytes_of}
+pub use Rattle.block.specs.View.{tip_of}
 use Rattle.utxo_rules.specs.View.{reason_of}
 use Rattle.genesis.specs.View.{grant_view}
 use Rattle.genesis.specs.declared.grants.Grant.{Grant}
-use Rattle.ledger.specs.declared.tip.Tip.{Tip}
 use Rattle.ledger.specs.declared.block_fault.BlockFault.{BlockFault}
 use Rattle.ledger.specs.declared.block_fault.BlockFault.TheVariants.{WrongNumber, WrongPrev, SlotNotRising, BodyTooBig, TxFault}
-
-abbrev pub tip_of : Tip → chain.Tip
-tip_of tip = record { number = tip.number; slot = tip.slot; hash = option_map bytes_of tip.hash }
 
 abbrev pub fault_of : BlockFault → model.BlockFault
 fault_of WrongNumber = model.WrongNumber

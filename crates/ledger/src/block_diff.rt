@@ -5,8 +5,7 @@ ghost use Rattle.model.specs.Limits.{number_limit};
 ghost use Rattle.ledger.specs.BlockDiffs.{all_undone, undone_block};
 
 use crate::ledger_state::LedgerState;
-use crate::tip::Tip;
-use block::NUMBER_LIMIT;
+use block::{NUMBER_LIMIT, Tip};
 use std::alloc::AllocError;
 use std::marker::Model;
 use utxo_rules::{Diff, Utxo, undone};

@@ -12,7 +12,7 @@ ghost use Rattle.model.specs.Applying.{opening_state, IsStateOf};
 ghost use Rattle.utxo_rules.specs.View.{params_of};
 
 use crate::opening::{open_params, open_utxo};
-use crate::tip::Tip;
+use block::Tip;
 use genesis::Genesis;
 use ident::Point;
 use std::alloc::{AllocError, Global};

@@ -14,7 +14,6 @@ mod block_diff;
 mod block_fault;
 mod ledger_state;
 mod opening;
-mod tip;
 mod transactions;
 
 pub use applying::{apply_block, apply_block_diff, misfit_before};

@@ -6,7 +6,7 @@ use super::ledgerdb_tests::{new_db, switch};
 use super::payments::{block_of, hash_of, names_of};
 use block::CheckedBlock;
 use blockstore::BlockStore;
-use chainsel::{Choice, Selection, Switch, select};
+use chainsel::{Choice, Selection, Switch, chain_tip, select};
 use ident::BlockHash;
 use ledgerdb::LedgerDb;
 use script::Names;
@@ -67,7 +67,9 @@ fn keep(rt: &impl Abort, chains: &mut Chains, block: CheckedBlock<TestScheme>, d
         chains.store.mark_invalid(*hash);
     }
     let immutable = chains.chain.len().saturating_sub(chains.db.depth());
-    chains.store.drop_up_to(immutable as u64);
+    chains
+        .store
+        .drop_up_to(chain_tip(&chains.chain[..immutable]));
 }
 
 /// The block of this name comes; then the chain has so many blocks, and so many are found dead.

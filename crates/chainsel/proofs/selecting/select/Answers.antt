@@ -1,18 +1,19 @@
-use Rattle.std.proofs.Common.{◌≡◌, [], refl, sym, subst, ◌∙◌}
-use Rattle.chainsel.specs.Paths.{Descends}
-use Rattle.chainsel.proofs.Turns.{match_empty}
-use Rattle.chainsel.proofs.Answering.{AreDead, kept_by_way}
+use Rattle.std.proofs.Common.{◌≡◌, [], ◌∙◌, true, false}
+use Rattle.chainsel.proofs.Answering.{AreDead, kept_apart, kept_short}
 use Rattle.chainsel.proofs.selecting.select.Goals as goal
+use Rattle.chainsel.proofs.selecting.select.Goals.{then-not-connects-via-then-not-connects, then-not-connects-via-else-not-connects+in_ok-goes_no_further+then-branch}
 
-pub returns-then-is_none : goal.returns-then-is_none
-returns-then-is_none g c =
+pub returns-then-not-connects : goal.returns-then-not-connects
+returns-then-not-connects g c =
+    let verifies = g.S.SigScheme.verifies in
     let chain = c.args.chain.now in
     let store = c.args.store.now in
     let db = c.args.db.now in
     let new = c.args.new.now in
-    let invalid = c.deref.result.now in
-    let empty : invalid ≡ [] = c.deref.ensures.value ∙ c.new-invalid.ensures.items in
-    let descends : Descends store invalid new new = record { path = []; linked = tt; members = tt; last = refl } in
-    kept_by_way g.S.SigScheme.verifies chain store db new c.keep.result invalid c.keep.ensures.choice (c.keep.ensures.invalid ∙ sym c.deref.ensures.value)
-    (subst (AreDead g.S.SigScheme.verifies chain store db new) (sym empty) (λ genesis opened ready. tt)) c.immutable-immutable.result new c.immutable-immutable.ensures.count descends
-    (match_empty _ _ c.in_ok-way_to.field-0 c.in_ok-way_to.ensures c.if-is_none.ensures)
+    let dead : AreDead verifies chain store db new [] = λ genesis opened ready. tt in
+    let tells = c.keep.ensures.invalid ∙ c.new.ensures.items in
+    elim c.then-not-connects.branch [
+      | then-not-connects-via-then-not-connects w ↦ kept_apart verifies chain store db new c.keep.result [] c.keep.ensures.choice tells dead (λ way. let e : false ≡ true = w.if-not-connects.ensures.1 way in cc)
+      | then-not-connects-via-else-not-connects+in_ok-goes_no_further+then-branch w ↦
+          kept_short verifies chain store db new c.keep.result [] c.keep.ensures.choice tells dead (w.in_ok-goes_no_further.ensures w.if-branch.true).1 (w.in_ok-goes_no_further.ensures w.if-branch.true).0
+    ]

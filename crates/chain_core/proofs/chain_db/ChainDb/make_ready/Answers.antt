@@ -1,4 +1,4 @@
-use Rattle.std.proofs.Common.{◌≡◌, ◌+◌, ◌-◌, ◌++◌, List, length, take, subst}
+use Rattle.std.proofs.Common.{◌+◌, ◌-◌, ◌++◌, List, length, take, subst}
 use Rattle.std.specs.List.{AllByRecursion}
 use Rattle.model.specs.Block.{Block}
 use Rattle.ledgerdb.specs.Values.{depth}

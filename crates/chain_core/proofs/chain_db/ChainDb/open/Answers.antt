@@ -2,7 +2,7 @@ use Rattle.std.proofs.Common.{◌≡◌, ◌^◌, ◌-◌, ap, subst, ◌∙◌,
 use Rattle.std.specs.Prelude.{min}
 use Rattle.std.specs.List.{AllByRecursion}
 use Rattle.model.specs.Ledger.{network_on}
-use Rattle.model.specs.Chain.{IsOpening, immutable_length}
+use Rattle.model.specs.Chain.{IsOpening, genesis_tip, tip_after, immutable_length}
 use Rattle.model.proofs.Lists.{all_take}
 use Rattle.model.proofs.Candidates.{valid_of_state}
 use Rattle.chainsel.proofs.ForCallers.{settled_at_start}
@@ -20,9 +20,9 @@ returns-clause-whole g c =
     let least : min c.k.result (2 ^ 63 - 1) ≡ c.k.result = omega arith in
     record {
       opened = omega (arith, c.len-opened.ensures);
-      settled = settled_at_start network c.new-store.result c.new-db.result opens (ap (λ s. s.blocks) c.new-store.ensures.empty) (c.new-db.ensures.chain network chain is) c.new-db.ensures.depth;
+      settled = settled_at_start network c.behind-store.result c.new-db.result opens (ap (λ s. s.blocks) c.behind-store.ensures.empty) (ap (λ s. s.root) c.behind-store.ensures.empty ∙ (c.chain_tip.ensures ∙ ap (tip_after genesis_tip) c.deref-2.ensures.value)) (c.new-db.ensures.chain network chain is) c.new-db.ensures.depth;
       k = c.new-db.ensures.k ∙ (least ∙ c.k.ensures.k);
-      capacity = ap (λ s. s.capacity) c.new-store.ensures.empty ∙ c.max_volatile.ensures;
+      capacity = ap (λ s. s.capacity) c.behind-store.ensures.empty ∙ c.max_volatile.ensures;
       mempool = mempool_at_start network chain c.args.on.state is c.in_ok-mempool.mempool _ _ c.max_mempool.ensures c.utxo.ensures c.in_ok-mempool.ensures;
       past = all_take (IsBlockNoted c.note_all.new.past) (immutable_length network chain) chain (subst (AllByRecursion (IsBlockNoted c.note_all.new.past)) c.deref.ensures.value c.in_ok-note_all.ensures.noted);
     }
