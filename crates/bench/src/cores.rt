@@ -23,6 +23,8 @@ pub enum Act {
 /// A measurement.
 #[derive(Drop)]
 pub struct Plan {
+    /// How many blocks may be rolled back, in a line of the genesis.
+    pub back: &'static str,
     pub act: Act,
     /// At how many new cores it is done.
     pub rounds: u64,
@@ -48,6 +50,7 @@ impl Plan {
     /// So many calls at one core, to which nothing comes before.
     pub fn new(alloc: Global, act: Act, calls: u64) -> Plan {
         Plan {
+            back: FAR_BACK,
             act,
             rounds: 1,
             calls,
@@ -63,8 +66,8 @@ impl Plan {
 }
 
 /// A core that nothing has come to. In a box it is dropped by a call, which keeps the proofs of what owns it short.
-pub fn open(alloc: Global) -> Option<Box<Core<TestScheme>>> {
-    let core = Core::new(alloc, genesis(alloc, FAR_BACK)?).ok()?;
+pub fn open(alloc: Global, back: &str) -> Option<Box<Core<TestScheme>>> {
+    let core = Core::new(alloc, genesis(alloc, back)?).ok()?;
     Box::new(alloc, core).ok()
 }
 
@@ -155,7 +158,7 @@ fn time_at(rt: &HostRuntime, core: &mut Core<TestScheme>, plan: &Plan) -> Option
 
 /// How long it takes at a new core.
 fn time_once(rt: &HostRuntime, plan: &Plan) -> Option<u128> {
-    let mut core = open(rt.alloc())?;
+    let mut core = open(rt.alloc(), plan.back)?;
     time_at(rt, &mut core, plan)
 }
 

@@ -6,6 +6,7 @@ mod arrivals;
 mod blocks;
 mod cores;
 mod following;
+mod hostile;
 mod keys;
 mod ledger_states;
 mod load;
@@ -33,6 +34,7 @@ enum Asked {
     Logs,
     Scripts,
     Arrivals,
+    Hostile,
     Followers,
     Mempool,
     Memory,
@@ -55,6 +57,7 @@ fn asked_by(word: &str) -> Option<Asked> {
         "log" => Some(Asked::Logs),
         "scripts" => Some(Asked::Scripts),
         "arrivals" => Some(Asked::Arrivals),
+        "hostile" => Some(Asked::Hostile),
         "followers" => Some(Asked::Followers),
         "mempool" => Some(Asked::Mempool),
         "memory" => Some(Asked::Memory),
@@ -91,6 +94,7 @@ fn main(rt: HostRuntime) -> io::Result<()> {
         Asked::Logs => logs::measure(&rt),
         Asked::Scripts => scripts::measure(&rt),
         Asked::Arrivals => arrivals::measure(&rt),
+        Asked::Hostile => hostile::measure(&rt),
         Asked::Followers => following::measure(&rt),
         Asked::Mempool => waiting::measure(&rt),
         Asked::Memory => memory::measure(&rt),
@@ -105,7 +109,8 @@ fn main(rt: HostRuntime) -> io::Result<()> {
             peers::measure(&rt, rt.alloc(), Telling::Names)?;
             println!(rt;
                 "to measure: bench persistent_map, bench blocks, bench ledger, bench scripts, bench pools, \
-bench peers, bench arrivals, bench followers, bench mempool, bench reopen, bench log, bench load, bench memory"
+bench peers, bench arrivals, bench hostile, bench followers, bench mempool, bench reopen, bench log, bench load, \
+bench memory"
             )
         }
     }

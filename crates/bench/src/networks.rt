@@ -20,6 +20,9 @@ pub const SPENT_COUNT: u16 = 100;
 /// How many blocks may be rolled back, in a line of the genesis.
 pub const FAR_BACK: &str = "k = 2160\n";
 
+/// As many as may be.
+pub const FURTHEST_BACK: &str = "k = 10000\n";
+
 /// Few blocks.
 pub const NEAR: &str = "k = 10\n";
 

@@ -148,6 +148,23 @@ impl End {
         let _ = texts.push(self.next_text(alloc, late, b"\x80"));
     }
 
+    /// Puts the text of the next block behind the others. Its one transaction spends an output that there isn't, so
+    /// that no valid chain has it.
+    pub fn put_bad(&mut self, alloc: Global, texts: &mut Vec<Vec<u8>>, late: u64) {
+        let payment = Payment {
+            source: genesis_id(),
+            index: u16::MAX,
+            coin: 1,
+            ones: 0,
+        };
+        let mut body = Vec::new(alloc);
+        put_array(&mut body, 1);
+        let mut tx = Vec::new(alloc);
+        put_payment(&mut tx, payment);
+        put(&mut body, &tx);
+        let _ = texts.push(self.next_text(alloc, late, &body));
+    }
+
     /// Puts the texts of the next so many blocks behind the others.
     pub fn put_chain(&mut self, alloc: Global, texts: &mut Vec<Vec<u8>>, blocks: u64) {
         for _ in 0..blocks {

@@ -10,8 +10,8 @@ pub record Stored : Type 0 where
   pub block : Block
   pub invalid : Bool
 
--- how many live blocks there may be, the place that ways to them begin behind, and those that there are, in no order that
--- is spoken of
+-- how many live blocks there may be, the place that ways to them begin behind, and those that there are, in no order
+-- that is spoken of
 pub record Store : Type 0 where
   pub capacity : ℕ
   pub root : Tip

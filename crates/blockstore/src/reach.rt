@@ -108,8 +108,8 @@ impl Reach {
         turns
     }
 
-    /// Looks at a live block: where `reached` is what is to be noted of it and wasn't, it is, and those behind the block
-    /// wait. Two look-ups; takes no memory.
+    /// Looks at a live block: where `reached` is what is to be noted of it and wasn't, it is, and those behind the
+    /// block wait. Two look-ups; takes no memory.
     fn look_at<S: SigScheme>(
         &mut self,
         blocks: &Shelf<S>,
@@ -119,7 +119,8 @@ impl Reach {
     )
         requires live { Contains blocks.now stored.now }
         requires kept { IsSome (get hash_cmp self.old.notes (block_hash_of stored.now.block)) }
-        requires room { vec_len self.old.waiting + may_turn blocks.now reached self.old.notes ≤ vec_capacity self.old.waiting }
+        requires room { vec_len self.old.waiting + may_turn blocks.now reached self.old.notes
+            ≤ vec_capacity self.old.waiting }
         ensures looked { IsLookedAt (option_map tip_of root) blocks.now reached stored.now self.old.notes self.new.notes
             self.old.waiting.items self.new.waiting.items }
         ensures fewer { vec_len self.new.waiting + may_turn blocks.now reached self.new.notes
@@ -152,7 +153,8 @@ impl Reach {
         previous: Option<Bytes>,
         reached: bool,
     )
-        requires room { vec_len self.old.waiting + may_turn blocks.now reached self.old.notes ≤ vec_capacity self.old.waiting }
+        requires room { vec_len self.old.waiting + may_turn blocks.now reached self.old.notes
+            ≤ vec_capacity self.old.waiting }
         requires turning { AreTurning (option_map tip_of root) blocks.now reached
             (NamesOne (previous ∷ self.old.waiting.items)) self.old.notes }
         ensures turning { AreTurning (option_map tip_of root) blocks.now reached
@@ -168,10 +170,11 @@ impl Reach {
         }
     }
 
-    /// Looks behind all that wait, and those that come to wait, until none does. Each block waits once at most. Takes no
-    /// memory.
+    /// Looks behind all that wait, and those that come to wait, until none does. Each block waits once at most. Takes
+    /// no memory.
     fn settle<S: SigScheme>(&mut self, blocks: &Shelf<S>, root: Option<Tip>, reached: bool)
-        requires room { vec_len self.old.waiting + may_turn blocks.now reached self.old.notes ≤ vec_capacity self.old.waiting }
+        requires room { vec_len self.old.waiting + may_turn blocks.now reached self.old.notes
+            ≤ vec_capacity self.old.waiting }
         requires turning { AreTurning (option_map tip_of root) blocks.now reached
             (NamesOne self.old.waiting.items) self.old.notes }
         ensures notes { AreNotes (option_map tip_of root) blocks.now self.new.notes }
@@ -205,8 +208,8 @@ impl Reach {
         self.settle(blocks, root, reached);
     }
 
-    /// Puts a block there, without a mark, whose hash none of the live ones has, and brings up to date which ones a way leads
-    /// to. Err where memory runs out: no block changes.
+    /// Puts a block there, without a mark, whose hash none of the live ones has, and brings up to date which ones a way
+    /// leads to. Err where memory runs out: no block changes.
     pub fn take_in<S: SigScheme>(
         &mut self,
         blocks: &mut Shelf<S>,
@@ -234,11 +237,12 @@ impl Reach {
         Ok(())
     }
 
-    /// Makes room for one more live block, of this hash, where there are so many with it: it is noted that no way leads to
-    /// it. Err where memory runs out.
+    /// Makes room for one more live block, of this hash, where there are so many with it: it is noted that no way leads
+    /// to it. Err where memory runs out.
     fn make_room(&mut self, hash: BlockHash, count: usize) -> Result<(), AllocError>
         requires none { self.old.waiting.items ≡ [] }
-        ensures ok { OnOk result (count ≤ vec_capacity self.new.waiting × IsSome (get hash_cmp self.new.notes hash.bytes)) }
+        ensures ok { OnOk result (count ≤ vec_capacity self.new.waiting
+            × IsSome (get hash_cmp self.new.notes hash.bytes)) }
         ensures same { is_noted self.old.notes hash.bytes ≡ false → AreSameNotes self.old.notes self.new.notes }
         ensures waiting { self.new.waiting.items ≡ [] }
         ensures room { vec_capacity self.old.waiting ≤ vec_capacity self.new.waiting }
@@ -252,15 +256,16 @@ impl Reach {
 
     /// Takes out the note of this hash, which said that no way leads to it.
     fn leave_out(&mut self, hash: BlockHash)
-        ensures left { (other : List ℕ) → other ≢ hash.bytes → get hash_cmp self.new.notes other ≡ get hash_cmp self.old.notes other }
+        ensures left { (other : List ℕ) → other ≢ hash.bytes
+            → get hash_cmp self.new.notes other ≡ get hash_cmp self.old.notes other }
         ensures out { is_noted self.new.notes hash.bytes ≡ false }
         ensures waiting { self.new.waiting ≡ self.old.waiting }
     {
         self.notes.remove(hash.as_bytes());
     }
 
-    /// Takes out all blocks with a number up to that of this place, which ways begin behind from then on, and brings up to
-    /// date which of the others a way leads to. Takes no memory.
+    /// Takes out all blocks with a number up to that of this place, which ways begin behind from then on, and brings up
+    /// to date which of the others a way leads to. Takes no memory.
     pub fn rise<S: SigScheme>(&mut self, blocks: &mut Shelf<S>, old_root: &Tip, root: Tip)
         requires notes { AreNotes (Some (tip_of old_root.now)) blocks.old self.old.notes }
         requires none { self.old.waiting.items ≡ [] }
@@ -279,8 +284,8 @@ impl Reach {
         }
     }
 
-    /// Takes out all blocks with a number up to this one, with their notes: what names them waits. Takes look-ups for each
-    /// of them, and no memory.
+    /// Takes out all blocks with a number up to this one, with their notes: what names them waits. Takes look-ups for
+    /// each of them, and no memory.
     fn drop_up_to<S: SigScheme>(&mut self, blocks: &mut Shelf<S>, number: u64)
         requires room { length blocks.old ≤ vec_capacity self.old.waiting }
         requires none { self.old.waiting.items ≡ [] }
@@ -297,8 +302,8 @@ impl Reach {
         }
     }
 
-    /// Begins behind another place than before, to which no way led, where those behind what was taken out wait. Looks at
-    /// all live blocks that a way leads to from either; takes no memory.
+    /// Begins behind another place than before, to which no way led, where those behind what was taken out wait. Looks
+    /// at all live blocks that a way leads to from either; takes no memory.
     fn begin_anew<S: SigScheme>(
         &mut self,
         blocks: &Shelf<S>,

@@ -10,7 +10,8 @@ ghost use Rattle.model.specs.Chain.{HaveDistinctHashes};
 ghost use Rattle.block.specs.View.{bytes_of as hash_bytes};
 ghost use Rattle.blockstore.specs.Tests.{marked_at};
 ghost use Rattle.blockstore.specs.Keys.{link_cmp};
-ghost use Rattle.blockstore.specs.Shelves.{IsSame, AreApart, AreAfter, AreLinksAfter, HasNone, ArePast, IsThere, IsWithout};
+ghost use Rattle.blockstore.specs.Shelves.{IsSame, AreApart, AreAfter, AreLinksAfter};
+ghost use Rattle.blockstore.specs.Shelves.{HasNone, ArePast, IsThere, IsWithout};
 
 use crate::keys::{Age, Bytes, Link, bytes_of};
 use crate::stored_block::StoredBlock;

@@ -120,8 +120,9 @@ impl<S: SigScheme> BlockStore<S> {
         self.blocks.after(self.alloc, previous)
     }
 
-    /// Whether a way leads to this block, which need not be live: live blocks without marks, each following the one before
-    /// it, the first of them the place that chains go through. Where none does, no chain through that place can have it.
+    /// Whether a way leads to this block, which need not be live: live blocks without marks, each following the one
+    /// before it, the first of them the place that chains go through. Where none does, no chain through that place can
+    /// have it.
     pub fn connects(&self, block: &CheckedBlock<S>) -> bool
         ensures { IsTrue result ↔ HasWay self.now.root self.now.blocks block.now }
     {
@@ -170,9 +171,9 @@ impl<S: SigScheme> BlockStore<S> {
             .look_from(&self.blocks, Some(self.root), hash, false);
     }
 
-    /// Takes out all blocks with a number up to that of this place, which all chains go through from then on: the immutable
-    /// tip of the selected one. Takes look-ups for each that goes, and for each that hangs on one of them. Where no way
-    /// led to the place, it takes look-ups for all. Takes no memory.
+    /// Takes out all blocks with a number up to that of this place, which all chains go through from then on: the
+    /// immutable tip of the selected one. Takes look-ups for each that goes, and for each that hangs on one of them.
+    /// Where no way led to the place, it takes look-ups for all. Takes no memory.
     pub fn drop_up_to(&mut self, root: Tip)
         ensures cut { IsCutTo self.old root.number self.new }
         ensures root { self.new.root ≡ tip_of root }

@@ -30,7 +30,8 @@ use Rattle.chainsel.specs.declared.selection.Selection.{Selection}
 use Rattle.chainsel.specs.declared.selection.Switch.{Switch}
 use Rattle.chainsel.proofs.AtHand.{chain_valid}
 use Rattle.chainsel.proofs.Through.{first_new}
-use Rattle.chainsel.proofs.Turns.{immutable_is, stays_by_number, stays_by_way, stays_by_death, switches, dies}
+use Rattle.chainsel.proofs.Switching.{blocks_there}
+use Rattle.chainsel.proofs.Turns.{true_way, immutable_is, stays_by_number, stays_by_way, stays_by_death, switches, dies}
 use Rattle.chainsel.proofs.Explaining.{AreShort, when_kept, short_by_number, short_by_way, short_by_death, none_better}
 
 -- ---- by the store alone
@@ -92,8 +93,8 @@ pub record IsLed (chain : List Block) (store : Store) (db : Database) (new : Blo
 
 module _ (verifies : Verifies) (chain : List Block) (store : Store) (db : Database) (new : Block) where
   -- what was found dead is so in every network
-  abbrev pub AreDead : List BlockHash → Type 0
-  AreDead told = (genesis : Genesis) (opened : List Block) → IsReady (network_on genesis verifies opened) chain store db new
+  abbrev pub AreDeadInAll : List BlockHash → Type 0
+  AreDeadInAll told = (genesis : Genesis) (opened : List Block) → IsReady (network_on genesis verifies opened) chain store db new
       → AllByRecursion (IsFoundDead (network_on genesis verifies opened) chain (new ∷ blocks_of store)) told
 
   -- a block that comes isn't the genesis
@@ -101,7 +102,7 @@ module _ (verifies : Verifies) (chain : List Block) (store : Store) (db : Databa
   positive genesis opened ready = let past = ready.past in omega arith
 
   -- ---- where the chain stays
-  module _ {S : Type 0} (selection : Selection S) (told : List BlockHash) (keeps : selection.choice ≡ choice.Keep) (tells : selection.invalid.items ≡ told) (dead : AreDead told) where
+  module _ {S : Type 0} (selection : Selection S) (told : List BlockHash) (keeps : selection.choice ≡ choice.Keep) (tells : selection.invalid.items ≡ told) (dead : AreDeadInAll told) where
     kept : ((genesis : Genesis) (opened : List Block) → IsReady (network_on genesis verifies opened) chain store db new
         → IsSelected (network_on genesis verifies opened) store chain new chain × AreShort (network_on genesis verifies opened) chain store new told) → IsSelectionAnswer verifies chain store db new selection
     kept each = record {
@@ -156,7 +157,7 @@ module _ (verifies : Verifies) (chain : List Block) (store : Store) (db : Databa
         ))
 
   -- ---- where a way leads past it
-  module _ (told : List BlockHash) (dead : AreDead told) (end : Block) (immutable keep : ℕ) (blocks : List Block) (led : IsLed chain store db new told end immutable keep blocks) where
+  module _ (told : List BlockHash) (dead : AreDeadInAll told) (end : Block) (immutable keep : ℕ) (blocks : List Block) (led : IsLed chain store db new told end immutable keep blocks) where
     -- the chain changes
     pub switched : {S : Type 0} (invalid : Vec BlockHash) (switch : Switch S) → invalid.items ≡ told → switch.back ≡ length chain - keep → switch.blocks.items ≡ blocks → switch.prepared.back ≡ switch.back
         → count switch.prepared ≡ length switch.blocks.items
@@ -188,7 +189,7 @@ module _ (verifies : Verifies) (chain : List Block) (store : Store) (db : Databa
     -- the first of its blocks that isn't applied is dead, beside those that were
     pub one_dead : (index : ℕ) (fault : BlockFault) (b : Block) (hash : BlockHash)
         → ((genesis : Genesis) (opened : List Block) → IsDatabaseOf (network_on genesis verifies opened) chain db → IsFaultOnChain (network_on genesis verifies opened) (without_last (length chain - keep) chain) blocks (Refused index fault))
-        → get_or blocks index b ≡ b → hash.bytes ≡ block_hash_of b → AreDead (told ++ hash ∷ [])
+        → get_or blocks index b ≡ b → hash.bytes ≡ block_hash_of b → AreDeadInAll (told ++ hash ∷ [])
     one_dead index fault b hash stops here named genesis opened ready =
         let network = network_on genesis verifies opened in
         let found = dead genesis opened ready in
@@ -197,3 +198,11 @@ module _ (verifies : Verifies) (chain : List Block) (store : Store) (db : Databa
           dies network chain store db new ready told found end (led.best (positive genesis opened ready)) led.longer immutable keep same blocks led.way index fault b hash (stops genesis opened ready.settled.database) here named,
           tt,
         )
+
+    -- the blocks of the way are live, or the one that came
+    pub way_there : (genesis : Genesis) (opened : List Block) → IsReady (network_on genesis verifies opened) chain store db new → AllByRecursion (Contains (new ∷ blocks_of store)) blocks
+    way_there genesis opened ready =
+        let network = network_on genesis verifies opened in
+        let same = immutable_is network chain store db new ready immutable (depth db) led.immutable_at refl in
+        blocks_there network chain store db new ready told (dead genesis opened ready) end (led.best (positive genesis opened ready)) led.longer keep blocks
+        (true_way network chain store db new ready told (dead genesis opened ready) end (led.best (positive genesis opened ready)) led.longer immutable keep same blocks led.way)

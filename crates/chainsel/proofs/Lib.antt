@@ -5,6 +5,7 @@ pub mod Through
 pub mod Keeping
 pub mod Switching
 pub mod Founds
+pub mod Sifted
 pub mod Lists
 pub mod Tips
 pub mod Parents

@@ -55,6 +55,10 @@ pub record IsFoundDead (network : Network) (chain live : List Block) (hash : Blo
   pub same : block_hash_of block ≡ hash.bytes
   pub dead : IsDead network chain live block
 
+-- each of these hashes is that of a dead block
+abbrev pub AreDead : Network → (chain : List Block) → Store → (new : Block) → List BlockHash → Type 0
+AreDead network chain store new found = AllByRecursion (IsFoundDead network chain (new ∷ blocks_of store)) found
+
 -- The switch can be made: no more blocks are rolled back than the chain has and the database can roll back, and what is
 -- prepared rolls back just as many and puts on just as many as the switch does.
 pub record CanSwitch {S : Type 0} (chain : List Block) (db : Database) (switch : Switch S) : Type 0 where

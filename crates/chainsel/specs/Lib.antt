@@ -3,3 +3,5 @@ pub mod Ready
 pub mod Choices
 pub mod Paths
 pub mod Ends
+pub mod Founds
+pub mod Judged

@@ -12,8 +12,8 @@ use Rattle.chainsel.specs.Dead.{IsDead}
 
 -- How things stand between two selections. The database is that of the selected chain, with as many states as may be
 -- rolled back, and the chain begins with the one that was opened on. The store has the live blocks, so those of the
--- chain past its immutable part, and no two of one hash, and ways to them begin behind the immutable tip. No valid chain
--- of theirs through the immutable tip is longer than the selected one, and marked blocks are dead.
+-- chain past its immutable part, and no two of one hash, and ways to them begin behind the immutable tip. No valid
+-- chain of theirs through the immutable tip is longer than the selected one, and marked blocks are dead.
 pub record IsSettled (network : Network) (chain : List Block) (store : Store) (db : Database) : Type 0 where
   pub database : IsDatabaseOf network chain db
   pub depth : depth db ≡ length chain - immutable_length network chain

@@ -9,6 +9,7 @@ ghost use Rattle.model.specs.Block.{Block, block_hash_of};
 ghost use Rattle.chainsel.specs.Paths.{Descends, IsBest};
 ghost use Rattle.chainsel.specs.Ends.{AreEnds, AreNext, AreFurthest, HasLeastHash};
 
+use crate::found::Found;
 use crate::links::{follows, is_fit};
 use block::CheckedBlock;
 use blockstore::BlockStore;
@@ -19,18 +20,18 @@ use witness_pool::SigScheme;
 /// Puts the live blocks against which nothing is known and that follow this one to the end of the others.
 fn push_next<'a, S: SigScheme>(
     store: &'a BlockStore<S>,
-    invalid: &[BlockHash],
+    found: &Found,
     end: &CheckedBlock<S>,
     next: &mut Vec<&'a CheckedBlock<S>>,
 ) -> Result<(), AllocError>
     ensures { OnOk result ((more : List Block)
         × (map (λ x. x.now) next.new.items ≡ map (λ x. x.now) next.old.items ++ more)
-        × AreNext store.now invalid.now (end.now ∷ []) more
+        × AreNext store.now found.now.hashes.items (end.now ∷ []) more
         × AllByRecursion (λ b. b.header.number < 2 ^ 64) more) }
 {
     let successors = store.successors(Some(end.hash()))?;
     for stored in &successors {
-        if is_fit(invalid, stored) && follows(end, stored.block()) {
+        if is_fit(found, stored) && follows(end, stored.block()) {
             next.push(stored.block())?;
         }
     }
@@ -41,17 +42,17 @@ fn push_next<'a, S: SigScheme>(
 fn next_ends<'a, S: SigScheme>(
     alloc: Global,
     store: &'a BlockStore<S>,
-    invalid: &[BlockHash],
+    found: &Found,
     ends: &[&'a CheckedBlock<S>],
 ) -> Result<Vec<&'a CheckedBlock<S>>, AllocError>
     ensures all { IfOk result (λ next.
-        AreNext store.now invalid.now (map (λ x. x.now) ends.now) (map (λ x. x.now) next.items)) }
+        AreNext store.now found.now.hashes.items (map (λ x. x.now) ends.now) (map (λ x. x.now) next.items)) }
     ensures range { IfOk result (λ next.
         AllByRecursion (λ b. b.header.number < 2 ^ 64) (map (λ x. x.now) next.items)) }
 {
     let mut next = Vec::new(alloc);
     for end in ends {
-        push_next(store, invalid, end, &mut next)?;
+        push_next(store, found, end, &mut next)?;
     }
     Ok(next)
 }
@@ -60,18 +61,18 @@ fn next_ends<'a, S: SigScheme>(
 fn furthest_ends<'a, S: SigScheme>(
     alloc: Global,
     store: &'a BlockStore<S>,
-    invalid: &[BlockHash],
+    found: &Found,
     new: &'a CheckedBlock<S>,
 ) -> Result<Vec<&'a CheckedBlock<S>>, AllocError>
     ensures all { IfOk result (λ ends.
-        (n : ℕ) × AreEnds store.now invalid.now new.now n (map (λ x. x.now) ends.items)) }
+        (n : ℕ) × AreEnds store.now found.now.hashes.items new.now n (map (λ x. x.now) ends.items)) }
     ensures some { IfOk result (λ ends. map (λ x. x.now) ends.items ≢ []) }
     ensures furthest { IfOk result (λ ends. 0 < new.now.header.number →
-        AreFurthest store.now invalid.now new.now (map (λ x. x.now) ends.items)) }
+        AreFurthest store.now found.now.hashes.items new.now (map (λ x. x.now) ends.items)) }
 {
     let mut ends = vec![in alloc; new]?;
     for _ in 0..u64::MAX {
-        let next = next_ends(alloc, store, invalid, &ends)?;
+        let next = next_ends(alloc, store, found, &ends)?;
         if next.is_empty() {
             return Ok(ends);
         }
@@ -109,13 +110,13 @@ fn least<'a, S: SigScheme>(
 pub fn furthest<'a, S: SigScheme>(
     alloc: Global,
     store: &'a BlockStore<S>,
-    invalid: &[BlockHash],
+    found: &Found,
     new: &'a CheckedBlock<S>,
 ) -> Result<&'a CheckedBlock<S>, AllocError>
-    ensures descends { IfOk result (λ best. Descends store.now invalid.now new.now best.now) }
+    ensures descends { IfOk result (λ best. Descends store.now found.now.hashes.items new.now best.now) }
     ensures best { IfOk result (λ best.
-        0 < new.now.header.number → IsBest store.now invalid.now new.now best.now) }
+        0 < new.now.header.number → IsBest store.now found.now.hashes.items new.now best.now) }
 {
-    let ends = furthest_ends(alloc, store, invalid, new)?;
+    let ends = furthest_ends(alloc, store, found, new)?;
     Ok(least(new, &ends))
 }

@@ -13,11 +13,13 @@
 //! ```
 #![tactic(auto)]
 
+mod found;
 mod furthest;
 mod links;
 mod search;
 mod selecting;
 mod selection;
+mod sifting;
 mod way;
 
 pub use links::chain_tip;

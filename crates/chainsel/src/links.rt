@@ -6,6 +6,7 @@ ghost use Rattle.model.specs.Chain.{genesis_tip, tip_at, tip_after, Follows};
 ghost use Rattle.block.specs.View.{tip_of};
 ghost use Rattle.chainsel.specs.Paths.{IsFit};
 
+use crate::found::Found;
 use block::{CheckedBlock, Tip};
 use blockstore::StoredBlock;
 use ident::BlockHash;
@@ -58,16 +59,10 @@ pub fn follows_chain<S: SigScheme>(
     chain_tip(&chain[..keep]).precedes(block)
 }
 
-/// Whether the block with this hash isn't among those that were found dead by now.
-fn is_unfound(invalid: &[BlockHash], hash: BlockHash) -> bool
-    ensures { IsTrue result ↔ AllByRecursion (λ other. other.bytes ≢ hash.bytes) invalid.now }
-{
-    !invalid.contains(&hash)
-}
-
 /// Whether nothing is known against a live block: it has no mark, and isn't among those that were found dead by now.
-pub fn is_fit<S: SigScheme>(invalid: &[BlockHash], stored: &StoredBlock<S>) -> bool
-    ensures { IsTrue result ↔ IsFit invalid.now stored.now }
+/// Takes a look-up.
+pub fn is_fit<S: SigScheme>(found: &Found, stored: &StoredBlock<S>) -> bool
+    ensures { IsTrue result ↔ IsFit found.now.hashes.items stored.now }
 {
-    !stored.is_invalid() && is_unfound(invalid, stored.block().hash())
+    !stored.is_invalid() && found.lacks(stored.block().hash())
 }

@@ -9,6 +9,7 @@ ghost use Rattle.chainsel.specs.Ready.{IsSettled};
 ghost use Rattle.chainsel.specs.Paths.{IsLast};
 ghost use Rattle.chainsel.specs.Choices.{IsSelectionAnswer};
 
+use crate::found::Found;
 use crate::search::{keep, search};
 use crate::selection::Selection;
 use block::CheckedBlock;
@@ -46,10 +47,10 @@ fn goes_no_further<S: SigScheme>(
 ///
 /// Links are looked at first and the ledger last: where no way leads to the block from the immutable tip, or nothing
 /// goes on from it and it is no longer than the chain, a few look-ups in the store are all that it takes. Where nothing
-/// that goes on from it is longer, no block is judged, and one that extends the tip is judged once. A block that is found
-/// dead is told, so that it is never judged again. Else it takes a look-up of successors for each block that goes on from
-/// it, a look-up for each block on the way to it, and the time to judge the longest path; all of that once more for each
-/// block found dead.
+/// that goes on from it is longer, no block is judged, and one that extends the tip is judged once. A block that is
+/// found dead is told, so that it is never judged again. Else it takes a look-up of successors for each block that goes
+/// on from it, a look-up for each block on the way to it, and the time to judge the longest path. Where a block of that
+/// is dead, all that goes on from the new one is judged as well, each block once, and then all is done once more.
 ///
 /// Where the answer is Err, memory ran out.
 pub fn select<S: SigScheme>(
@@ -62,7 +63,7 @@ pub fn select<S: SigScheme>(
     ensures { IfOk result (IsSelectionAnswer S.verifies chain.now store.now db.now new.now) }
 {
     if !store.connects(new) || goes_no_further(store, chain, new)? {
-        return Ok(keep(Vec::new(alloc)));
+        return Ok(keep(Found::new(alloc)));
     }
     let immutable = immutable(chain, db);
     search(alloc, store, db, chain, immutable, new)

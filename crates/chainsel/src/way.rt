@@ -6,10 +6,10 @@ ghost use Rattle.model.specs.Chain.{genesis_tip, tip_at, Follows, IsLinked, Have
 ghost use Rattle.blockstore.specs.Stored.{blocks_of};
 ghost use Rattle.chainsel.specs.Paths.{IsFitLive, IsOnPath, IsWay, HasNoWay};
 
+use crate::found::Found;
 use crate::links::{follows, follows_chain, is_fit};
 use block::CheckedBlock;
 use blockstore::BlockStore;
-use ident::BlockHash;
 use std::alloc::{AllocError, Global};
 use witness_pool::SigScheme;
 
@@ -23,16 +23,16 @@ pub struct Way<S: SigScheme> {
 /// The live block before this one, if nothing is known against it.
 fn live_parent<'a, S: SigScheme>(
     store: &'a BlockStore<S>,
-    invalid: &[BlockHash],
+    found: &Found,
     block: &CheckedBlock<S>,
 ) -> Option<&'a CheckedBlock<S>>
     ensures { MatchOption result
-        (HaveDistinctHashes (blocks_of store.now) → (b : Block) → IsFitLive store.now invalid.now b
+        (HaveDistinctHashes (blocks_of store.now) → (b : Block) → IsFitLive store.now found.now.hashes.items b
         → Follows (tip_at b) block.now → ⊥)
-        (λ found. IsFitLive store.now invalid.now found.now × Follows (tip_at found.now) block.now) }
+        (λ before. IsFitLive store.now found.now.hashes.items before.now × Follows (tip_at before.now) block.now) }
 {
     let stored = store.get(block.previous()?)?;
-    if is_fit(invalid, stored) && follows(stored.block(), block) {
+    if is_fit(found, stored) && follows(stored.block(), block) {
         Some(stored.block())
     } else {
         None
@@ -42,19 +42,20 @@ fn live_parent<'a, S: SigScheme>(
 /// The block before this one: the new one, or a live one against which nothing is known.
 fn parent<'a, S: SigScheme>(
     store: &'a BlockStore<S>,
-    invalid: &[BlockHash],
+    found: &Found,
     new: &'a CheckedBlock<S>,
     block: &CheckedBlock<S>,
 ) -> Option<&'a CheckedBlock<S>>
     ensures { MatchOption result
-        (HaveDistinctHashes (blocks_of store.now) → (b : Block) → IsOnPath store.now invalid.now new.now b
+        (HaveDistinctHashes (blocks_of store.now) → (b : Block) → IsOnPath store.now found.now.hashes.items new.now b
         → Follows (tip_at b) block.now → ⊥)
-        (λ found. IsOnPath store.now invalid.now new.now found.now × Follows (tip_at found.now) block.now) }
+        (λ before. IsOnPath store.now found.now.hashes.items new.now before.now
+        × Follows (tip_at before.now) block.now) }
 {
     if follows(new, block) {
         Some(new)
     } else {
-        live_parent(store, invalid, block)
+        live_parent(store, found, block)
     }
 }
 
@@ -63,16 +64,16 @@ fn parent<'a, S: SigScheme>(
 pub fn way_to<S: SigScheme>(
     alloc: Global,
     store: &BlockStore<S>,
-    invalid: &[BlockHash],
+    found: &Found,
     chain: &[CheckedBlock<S>],
     immutable: usize,
     new: &CheckedBlock<S>,
     end: &CheckedBlock<S>,
 ) -> Result<Option<Way<S>>, AllocError>
-    ensures { IfOk result (λ found. MatchOption found
+    ensures { IfOk result (λ way. MatchOption way
         (HaveDistinctHashes (new.now ∷ blocks_of store.now) → IsLinked genesis_tip chain.now →
-        immutable ≤ length chain.now → HasNoWay store.now invalid.now chain.now immutable new.now end.now)
-        (λ way. IsWay store.now invalid.now chain.now immutable new.now end.now way.keep way.blocks.items)) }
+        immutable ≤ length chain.now → HasNoWay store.now found.now.hashes.items chain.now immutable new.now end.now)
+        (λ way. IsWay store.now found.now.hashes.items chain.now immutable new.now end.now way.keep way.blocks.items)) }
 {
     let mut way = Vec::new(alloc); // the newest first
     let mut first = end;
@@ -82,7 +83,7 @@ pub fn way_to<S: SigScheme>(
             way.reverse();
             return Ok(Some(Way { keep, blocks: way }));
         }
-        let Some(before) = parent(store, invalid, new, first) else {
+        let Some(before) = parent(store, found, new, first) else {
             return Ok(None);
         };
         first = before;

@@ -1,8 +1,9 @@
 //! The program `fuzz`: changes good texts at random, and looks whether what is answered to them agrees: what is read
-//! and written again is the same bytes, three cores that get the same blocks in other ways have the same chain, and a
-//! comment before a genesis file or a script changes nothing.
+//! and written again is the same bytes, three cores that get the same blocks in other ways have the same chain, three
+//! that get random trees of good and bad blocks select a longest chain of good ones, and a comment before a genesis
+//! file or a script changes nothing.
 //!
-//! `fuzz SEED ROUNDS` does so many rounds of each kind, the same ones for the same seed.
+//! `fuzz SEED ROUNDS` does so many rounds of each kind, and a hundredth as many trees, the same ones for the same seed.
 #![tactic(auto)]
 
 mod arrivals;
@@ -13,6 +14,7 @@ mod random;
 mod scripts;
 mod tally;
 mod texts;
+mod trees;
 
 use crate::arrivals::Answers;
 use crate::random::Random;
@@ -98,6 +100,19 @@ fn run_arrivals(
     answers.tell(out);
 }
 
+/// The same of trees of blocks, some of which have the first of the payments.
+fn run_trees(
+    alloc: Global,
+    payments: &[Vec<u8>],
+    trees: u64,
+    random: &mut Random,
+    out: &mut String,
+) {
+    if let Some(payment) = payments.first() {
+        trees::run(alloc, payment, trees, random, out);
+    }
+}
+
 /// So many rounds of each kind, with the numbers of this seed.
 fn run_all(alloc: Global, good: &Good, seed: u64, rounds: u64, out: &mut String) {
     let mut random = Random::new(seed);
@@ -124,6 +139,7 @@ fn run_all(alloc: Global, good: &Good, seed: u64, rounds: u64, out: &mut String)
     );
     run_texts(alloc, "blocks", Kind::Block, &good.blocks, rounds, r, out);
     run_arrivals(alloc, &good.blocks, rounds, r, out);
+    run_trees(alloc, &good.payments, rounds / 100, r, out);
     run_documents(alloc, &good.documents, rounds, r, out);
     run_scripts(alloc, rounds, r, out);
 }

@@ -21,4 +21,4 @@ returns-clause-best g c = λ positive.
     subst (λ (es : List _). es ≢ [] → Contains (map (λ x. x.now) es) best) c.deref.ensures.value c.least.ensures.member (λ none. furthest.some (ap (map (λ x. x.now)) none)) in
     let least : HasLeastHash (map (λ x. x.now) ends) best =
     subst (λ (es : List _). HasLeastHash (map (λ x. x.now) es) best) c.deref.ensures.value c.least.ensures.least in
-    least_is_best c.args.store.now c.args.invalid.now c.args.new.now (map (λ x. x.now) ends) best furthest member least
+    least_is_best c.args.store.now c.args.found.now.hashes.items c.args.new.now (map (λ x. x.now) ends) best furthest member least

@@ -11,7 +11,7 @@ use Rattle.chainsel.proofs.furthest.next_ends.Goals as goal
 pub loop-end-preserved : goal.loop-end-preserved
 loop-end-preserved g c =
     let store = c.args.store.now in
-    let invalid = c.args.invalid.now in
+    let invalid = c.args.found.now.hashes.items in
     let ends = c.args.ends.now in
     let i = c.loop-end.end-index in
     let end = c.end-item.result in
@@ -28,5 +28,5 @@ loop-end-preserved g c =
 
 pub returns-clause-all : goal.returns-clause-all
 returns-clause-all g c =
-    subst (λ (es : List _). AreNext c.args.store.now c.args.invalid.now (map (λ x. x.now) es) (map (λ x. x.now) c.loop-end.next.items))
+    subst (λ (es : List _). AreNext c.args.store.now c.args.found.now.hashes.items (map (λ x. x.now) es) (map (λ x. x.now) c.loop-end.next.items))
     (take_all c.loop-end.end-index c.args.ends.now c.loop-end-test.false) c.loop-end.invariant.all

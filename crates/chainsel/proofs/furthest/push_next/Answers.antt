@@ -17,7 +17,7 @@ pushed f new xs x y old more behind is before = ap (map f) behind ∙ (map_push 
 
 pub loop-stored-preserved : goal.loop-stored-preserved
 loop-stored-preserved g c =
-    let invalid = c.args.invalid.now in
+    let invalid = c.args.found.now.hashes.items in
     let end = c.args.end.now in
     let items = c.deref-stored-items.result.now in
     let i = c.loop-stored.stored-index in
@@ -55,11 +55,11 @@ pub returns : goal.returns
 returns g c =
     let items = c.deref-stored-items.result.now in
     let before = c.loop-stored.invariant in
-    let all : AreTaken c.args.invalid.now c.args.end.now (map (λ x. x.now) c.in_ok-successors.successors.items) before.0 =
-    subst (λ (ss : List _). AreTaken c.args.invalid.now c.args.end.now (map (λ x. x.now) ss) before.0)
+    let all : AreTaken c.args.found.now.hashes.items c.args.end.now (map (λ x. x.now) c.in_ok-successors.successors.items) before.0 =
+    subst (λ (ss : List _). AreTaken c.args.found.now.hashes.items c.args.end.now (map (λ x. x.now) ss) before.0)
     (take_all c.loop-stored.stored-index items c.loop-stored-test.false ∙ c.deref-stored-items.ensures.value) before.2 in (
       before.0,
       before.1,
-      taken_all c.args.store.now c.args.invalid.now c.args.end.now c.hash.result.bytes (map (λ x. x.now) c.in_ok-successors.successors.items) before.0 c.in_ok-successors.ensures c.hash.ensures all,
+      taken_all c.args.store.now c.args.found.now.hashes.items c.args.end.now c.hash.result.bytes (map (λ x. x.now) c.in_ok-successors.successors.items) before.0 c.in_ok-successors.ensures c.hash.ensures all,
       before.3,
     )

@@ -1,5 +1,5 @@
 use Rattle.std.proofs.Common.{◌≡◌, [], ◌∙◌, true, false}
-use Rattle.chainsel.proofs.Answering.{AreDead, kept_apart, kept_short}
+use Rattle.chainsel.proofs.Answering.{AreDeadInAll, kept_apart, kept_short}
 use Rattle.chainsel.proofs.selecting.select.Goals as goal
 use Rattle.chainsel.proofs.selecting.select.Goals.{then-not-connects-via-then-not-connects, then-not-connects-via-else-not-connects+in_ok-goes_no_further+then-branch}
 
@@ -10,8 +10,8 @@ returns-then-not-connects g c =
     let store = c.args.store.now in
     let db = c.args.db.now in
     let new = c.args.new.now in
-    let dead : AreDead verifies chain store db new [] = λ genesis opened ready. tt in
-    let tells = c.keep.ensures.invalid ∙ c.new.ensures.items in
+    let dead : AreDeadInAll verifies chain store db new [] = λ genesis opened ready. tt in
+    let tells = c.keep.ensures.invalid ∙ c.new.ensures in
     elim c.then-not-connects.branch [
       | then-not-connects-via-then-not-connects w ↦ kept_apart verifies chain store db new c.keep.result [] c.keep.ensures.choice tells dead (λ way. let e : false ≡ true = w.if-not-connects.ensures.1 way in cc)
       | then-not-connects-via-else-not-connects+in_ok-goes_no_further+then-branch w ↦

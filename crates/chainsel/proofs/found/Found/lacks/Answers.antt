@@ -1,15 +1,16 @@
 use Rattle.std.proofs.Common.{◌≡◌, ◌≢◌, ◌↔◌, ℕ, Bool, true, false, List, [], ◌∷◌, refl, sym, ap, ◌∙◌}
 use Rattle.std.specs.Prelude.{IsTrue, not, bytes_eq, ◌||◌}
-use Rattle.std.specs.List.{AllByRecursion, list_any}
+use Rattle.std.specs.List.{AllByRecursion}
+use Rattle.std.specs.Ordering.{nat_cmp}
+use Rattle.std.specs.Cmp.Lexicographic.{slice_cmp}
+use Rattle.std.specs.BTreeSet.{contains}
 use Rattle.std.proofs.lemmas.Slice.Eq.{bytes_eq-Decides}
 use Rattle.ident.specs.Kinds.{BlockHash}
-use Rattle.chainsel.proofs.links.is_unfound.Goals as goal
+use Rattle.chainsel.specs.Founds.{is_among}
+use Rattle.chainsel.proofs.found.Found.lacks.Goals as goal
 
 abbrev IsOther : List ℕ → BlockHash → Type 0
 IsOther hash other = other.bytes ≢ hash
-
-abbrev is_among : List ℕ → List BlockHash → Bool
-is_among hash hs = list_any (λ y. bytes_eq y.bytes hash) hs
 
 -- a hash that is among others doesn't differ from each of them
 unfound : (hash : List ℕ) (hs : List BlockHash) (found : Bool) → found ≡ is_among hash hs → IsTrue (not found) ↔ AllByRecursion (IsOther hash) hs
@@ -27,4 +28,6 @@ unfound hash (h ∷ hs) found is = by (bytes_eq h.bytes hash) refl is (unfound h
     )
 
 pub returns : goal.returns
-returns c = unfound c.args.hash.bytes c.args.invalid.now c.contains.result c.contains.ensures.value
+returns c =
+    unfound c.args.hash.bytes c.args.self.now.hashes.items c.contains.result
+    (c.contains.ensures ∙ (ap (contains (slice_cmp nat_cmp) c.args.self.now.known) c.as_bytes.ensures ∙ c.args.self.now.same c.args.hash.bytes))

@@ -1,0 +1,137 @@
+//! How long a core takes for blocks that a peer sends to keep it busy: none of them ever comes into a selected chain,
+//! or all come in the order that asks most.
+
+use crate::cores::{self, Act, Plan};
+use crate::networks::FURTHEST_BACK;
+use crate::texts::End;
+use std::alloc::Global;
+use std::io;
+
+/// How long the selected chain is beside which forks come, and each of them at most.
+const LENGTH: u64 = 8_000;
+
+/// So many arrivals at one core, of whose chain as many blocks as may be can be rolled back.
+fn arrivals(alloc: Global, blocks: u64) -> Plan {
+    let mut plan = Plan::new(alloc, Act::Arrive, blocks);
+    plan.back = FURTHEST_BACK;
+    plan
+}
+
+/// Those of so many bad blocks that all follow one, which comes last.
+fn siblings(alloc: Global, blocks: u64) -> Plan {
+    let mut plan = arrivals(alloc, blocks);
+    let mut first = Vec::new(alloc);
+    let mut end = End::genesis();
+    end.put_next(alloc, &mut first, 0);
+    for late in 0..blocks {
+        let mut sibling = end;
+        sibling.put_bad(alloc, &mut plan.measured, late);
+    }
+    let _ = plan.measured.append(&mut first);
+    plan.height = 1;
+    plan
+}
+
+/// Those of a chain of so many whose first block comes last, with as many bad blocks that all follow its last one.
+fn leaves(alloc: Global, blocks: u64) -> Plan {
+    let mut plan = arrivals(alloc, blocks);
+    let mut first = Vec::new(alloc);
+    let mut end = End::genesis();
+    end.put_next(alloc, &mut first, 0);
+    end.put_chain(alloc, &mut plan.measured, blocks.saturating_sub(1));
+    for late in 0..blocks {
+        let mut leaf = end;
+        leaf.put_bad(alloc, &mut plan.measured, late);
+    }
+    let _ = plan.measured.append(&mut first);
+    plan.height = blocks;
+    plan
+}
+
+/// Those of a chain of so many whose first block never comes.
+fn without_first(alloc: Global, blocks: u64) -> Plan {
+    let mut plan = arrivals(alloc, blocks);
+    let mut none = Vec::new(alloc);
+    let mut end = End::genesis();
+    end.put_next(alloc, &mut none, 0);
+    end.put_chain(alloc, &mut plan.measured, blocks);
+    plan
+}
+
+/// Those that go on from a bad block.
+fn behind_bad(alloc: Global, blocks: u64) -> Plan {
+    let mut plan = arrivals(alloc, blocks);
+    let mut end = End::genesis();
+    end.put_bad(alloc, &mut plan.blocks, 0);
+    end.put_chain(alloc, &mut plan.measured, blocks);
+    plan
+}
+
+/// Those of forks that never become longer than the chain, one after the other, each from its first block on.
+fn forks(alloc: Global, blocks: u64) -> Plan {
+    let mut plan = arrivals(alloc, blocks);
+    End::genesis().put_chain(alloc, &mut plan.blocks, LENGTH);
+    for fork in 0..blocks.div_ceil(LENGTH) {
+        let mut end = End::genesis();
+        end.put_next(alloc, &mut plan.measured, fork.saturating_add(1));
+        let rest = blocks
+            .saturating_sub(fork.saturating_mul(LENGTH))
+            .min(LENGTH);
+        for _ in 1..rest {
+            end.put_next(alloc, &mut plan.measured, fork.saturating_add(1));
+        }
+    }
+    plan.height = LENGTH;
+    plan
+}
+
+/// Those of bad blocks that follow the last one of a fork as long as the chain, which has so many blocks.
+fn tips(alloc: Global, length: u64, blocks: u64) -> Plan {
+    let mut plan = arrivals(alloc, blocks);
+    End::genesis().put_chain(alloc, &mut plan.blocks, length);
+    let mut end = End::genesis();
+    for _ in 0..length {
+        end.put_next(alloc, &mut plan.blocks, 1);
+    }
+    for late in 0..blocks {
+        let mut tip = end;
+        tip.put_bad(alloc, &mut plan.measured, late.saturating_add(2));
+    }
+    plan.height = length;
+    plan
+}
+
+/// Runs each measurement, and prints what it took.
+pub fn measure(rt: &HostRuntime) -> io::Result<()> {
+    for blocks in [1_000, 4_000, 16_000, 64_000] {
+        cores::measure(rt, "bad siblings", blocks, siblings(rt.alloc(), blocks))?;
+    }
+    for blocks in [1_000, 4_000, 16_000, 48_000] {
+        cores::measure(rt, "bad leaves", blocks, leaves(rt.alloc(), blocks))?;
+    }
+    for blocks in [1_000, 4_000, 16_000, 64_000] {
+        let plan = without_first(rt.alloc(), blocks);
+        cores::measure(rt, "without its first block", blocks, plan)?;
+    }
+    for blocks in [1_000, 4_000, 16_000, 64_000] {
+        cores::measure(
+            rt,
+            "behind a bad block",
+            blocks,
+            behind_bad(rt.alloc(), blocks),
+        )?;
+    }
+    for blocks in [1_000, 4_000, 16_000, 64_000] {
+        cores::measure(
+            rt,
+            "forks that aren't longer",
+            blocks,
+            forks(rt.alloc(), blocks),
+        )?;
+    }
+    for length in [100, 1_000] {
+        let plan = tips(rt.alloc(), length, 1_000);
+        cores::measure(rt, "bad tips of a fork", length, plan)?;
+    }
+    Ok(())
+}
