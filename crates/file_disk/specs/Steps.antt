@@ -1,20 +1,23 @@
 -- What a file holds, and what a crash may leave of it, by what was done to it, the newest first.
-use Rattle.std.specs.Prelude.{◌≡◌, ◌+◌, ℕ, Vec, List, [], ◌∷◌, ◌++◌, length, take, drop}
-use Rattle.std.specs.declared.alloc.Global.{Global}
+use Rattle.std.specs.Prelude.{◌+◌, ℕ, Bool, true, false, List, [], ◌∷◌, ◌++◌, length, take, drop, map, reverse}
 use Rattle.model.specs.Disk.{Moment, settled, touched}
 use Rattle.file_disk.specs.declared.step.Step.{Step}
 use Rattle.file_disk.specs.declared.step.Step.TheVariants.{Written, Cut, Synced}
 
+-- what was noted, the oldest first
+abbrev pub noted : {A U : Type 0} → List (A × U) → List A
+noted items = map (λ item. item.0) items
+
 abbrev pub bytes_after : List Step → List ℕ
 bytes_after [] = []
 bytes_after (Written place bytes ∷ steps) =
-    take place (bytes_after steps) ++ bytes.items ++ drop (place + length bytes.items) (bytes_after steps)
+    take place (bytes_after steps) ++ noted bytes.items ++ drop (place + length (noted bytes.items)) (bytes_after steps)
 bytes_after (Cut len ∷ steps) = take len (bytes_after steps)
 bytes_after (Synced ∷ steps) = bytes_after steps
 
 abbrev pub moment_of : List Step → Moment
 moment_of [] = settled []
-moment_of (Written place bytes ∷ steps) = touched place (place + length bytes.items) (moment_of steps)
+moment_of (Written place bytes ∷ steps) = touched place (place + length (noted bytes.items)) (moment_of steps)
 moment_of (Cut len ∷ steps) = touched len (length (bytes_after steps)) (moment_of steps)
 moment_of (Synced ∷ steps) = settled (bytes_after steps)
 
@@ -22,8 +25,14 @@ abbrev pub past_of : List Step → List Moment
 past_of [] = []
 past_of (step ∷ steps) = moment_of steps ∷ past_of steps
 
--- one step more: from this place on these bytes were written
-pub record IsNoted (old : List Step) (place : ℕ) (bytes : List ℕ) (new : List Step) : Type 0 where
-  pub copy : Vec ℕ Global
-  pub same : copy.items ≡ bytes
-  pub behind : new ≡ old ++ Written place copy ∷ []
+-- since the file was opened, which is noted as what it gave, nothing was written and nothing was cut
+abbrev pub is_as_opened : List Step → Bool
+is_as_opened [] = false
+is_as_opened (Written place bytes ∷ []) = true
+is_as_opened (Written place bytes ∷ step ∷ steps) = false
+is_as_opened (Cut len ∷ steps) = false
+is_as_opened (Synced ∷ steps) = is_as_opened steps
+
+-- what was done, the newest first, by what was noted
+abbrev pub steps_of : {U : Type 0} → List (Step × U) → List Step
+steps_of items = reverse (noted items)

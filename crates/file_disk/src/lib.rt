@@ -7,7 +7,7 @@
 #![tactic(auto)]
 
 mod file_disk;
-mod overwriting;
+mod giving;
 mod step;
 
 pub use file_disk::FileDisk;

@@ -13,7 +13,7 @@ pub struct DiskFailed;
 /// A disk of fewer than 2^63 bytes. Where everything stops at a moment, what stands on it afterwards may be any bytes
 /// in each range that was written or cut since the last sync that succeeded, and past the end as it was then; all other
 /// bytes are as that sync left them. A write or a cut that failed may have been made, in part or not at all. Nothing is
-/// said of time.
+/// said of time. No call takes memory: what fails is the disk.
 pub trait Disk {
     /// What a read gives now, from the first byte to the last.
     ghost reads: { Self → List ℕ };
@@ -28,7 +28,8 @@ pub trait Disk {
     ghost failures: { Self → ℕ };
 
     /// Reads from a place on, and answers how many bytes it gave: fewer than there is room for only at the end. Err
-    /// where the disk failed; what stands in the room for the bytes is then not said.
+    /// where the disk failed, or can't tell any more what it holds, as one that was changed since it was opened; what
+    /// stands in the room for the bytes is then not said.
     fn read(&mut self, place: usize, into: &mut [u8]) -> Result<usize, DiskFailed>
         ensures given { IfOk result (IsGiven (reads self.old) place into.old into.new) }
         ensures same { reads self.new ≡ reads self.old }

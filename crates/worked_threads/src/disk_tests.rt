@@ -5,7 +5,7 @@ ghost use Rattle.immlog.specs.Views.{lists_of};
 
 use super::fake_file::FakeFile;
 use file_disk::FileDisk;
-use immlog::Log;
+use immlog::{Disk, DiskFailed, Log};
 use std::alloc::{AllocError, Global};
 use std::test::Fail;
 use std::thread::Threads;
@@ -67,6 +67,24 @@ fn each_device_call_fails_once(rt: HostRuntime) -> Result<(), Fail> {
             assert!(rt; durable <= opened, "after {calls} calls");
         }
     }
+    Ok(())
+}
+
+// A file's disk tells what the file gave when it was opened, until it is changed; then it is opened anew to be read.
+#[test]
+fn reads_end_with_the_first_change(rt: HostRuntime) -> Result<(), Fail> {
+    let file = FakeFile::new(rt.alloc(), u64::MAX);
+    let mut disk = FileDisk::open(rt.alloc(), file)?;
+    let mut room = [0; 8];
+    assert_eq!(rt; disk.read(0, &mut room), Ok(0));
+    assert_eq!(rt; disk.sync(), Ok(()));
+    assert_eq!(rt; disk.read(0, &mut room), Ok(0));
+    assert_eq!(rt; disk.write_at(0, b"one"), Ok(()));
+    assert_eq!(rt; disk.read(0, &mut room), Err(DiskFailed));
+    assert_eq!(rt; disk.sync(), Ok(()));
+    let mut disk = FileDisk::open(rt.alloc(), disk.into_file())?;
+    assert_eq!(rt; disk.read(1, &mut room), Ok(2));
+    assert_eq!(rt; room, *b"ne\0\0\0\0\0\0");
     Ok(())
 }
 

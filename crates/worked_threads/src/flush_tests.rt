@@ -49,8 +49,10 @@ fn log_after(rt: &(impl Abort + AllocGlobal), blocks: u64) -> Box<Log<FileDisk<F
     Box::new(rt.alloc(), log).expect(rt, MEMORY)
 }
 
-/// How many bytes are on the disk.
-fn size_of(rt: &impl Abort, disk: &mut FileDisk<FakeFile>) -> usize {
+/// How many bytes the file of the log has.
+fn size_of(rt: &(impl Abort + AllocGlobal), log: Log<FileDisk<FakeFile>>) -> usize {
+    let file = log.into_disk().into_file();
+    let mut disk = FileDisk::open(rt.alloc(), file).expect(rt, MEMORY);
     let mut room = [0u8; 512];
     disk.read(0, &mut room).expect(rt, "a read")
 }
@@ -63,7 +65,6 @@ fn log_after_a_run(rt: HostRuntime) {
         let again = Core::<TestScheme>::reopen(rt.alloc(), genesis_of(&rt), log.blocks());
         let again = Box::new(rt.alloc(), again.expect(&rt, "a chain")).expect(&rt, MEMORY);
         assert!(rt; again.height() == height);
-        let mut disk = log.into_disk();
-        assert!(rt; size_of(&rt, &mut disk) == size);
+        assert!(rt; size_of(&rt, log) == size);
     }
 }
