@@ -1,6 +1,6 @@
 //! What is measured at a core: what comes to it before, what is measured, and what is to be so in the end.
 
-use crate::networks::{FAR_BACK, genesis};
+use crate::networks::{FAR_BACK, FURTHEST_BACK, genesis};
 use crate::timing::{Telling, nanos_if, now, print};
 use chain_core::{ArriveReply, Core, FollowerId};
 use std::alloc::Global;
@@ -20,11 +20,28 @@ pub enum Act {
     Tell,
 }
 
+/// How many blocks may be rolled back.
+#[derive(Clone, Copy)]
+pub enum Depth {
+    Usual,
+    /// As many as may be.
+    Greatest,
+}
+
+impl Depth {
+    /// The line of the genesis that says so.
+    fn line(self) -> &'static str {
+        match self {
+            Depth::Usual => FAR_BACK,
+            Depth::Greatest => FURTHEST_BACK,
+        }
+    }
+}
+
 /// A measurement.
 #[derive(Drop)]
 pub struct Plan {
-    /// How many blocks may be rolled back, in a line of the genesis.
-    pub back: &'static str,
+    pub depth: Depth,
     pub act: Act,
     /// At how many new cores it is done.
     pub rounds: u64,
@@ -50,7 +67,7 @@ impl Plan {
     /// So many calls at one core, to which nothing comes before.
     pub fn new(alloc: Global, act: Act, calls: u64) -> Plan {
         Plan {
-            back: FAR_BACK,
+            depth: Depth::Usual,
             act,
             rounds: 1,
             calls,
@@ -66,8 +83,8 @@ impl Plan {
 }
 
 /// A core that nothing has come to. In a box it is dropped by a call, which keeps the proofs of what owns it short.
-pub fn open(alloc: Global, back: &str) -> Option<Box<Core<TestScheme>>> {
-    let core = Core::new(alloc, genesis(alloc, back)?).ok()?;
+pub fn open(alloc: Global, depth: Depth) -> Option<Box<Core<TestScheme>>> {
+    let core = Core::new(alloc, genesis(alloc, depth.line())?).ok()?;
     Box::new(alloc, core).ok()
 }
 
@@ -158,7 +175,7 @@ fn time_at(rt: &HostRuntime, core: &mut Core<TestScheme>, plan: &Plan) -> Option
 
 /// How long it takes at a new core.
 fn time_once(rt: &HostRuntime, plan: &Plan) -> Option<u128> {
-    let mut core = open(rt.alloc(), plan.back)?;
+    let mut core = open(rt.alloc(), plan.depth)?;
     time_at(rt, &mut core, plan)
 }
 

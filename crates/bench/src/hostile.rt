@@ -1,8 +1,7 @@
 //! How long a core takes for blocks that a peer sends to keep it busy: none of them ever comes into a selected chain,
 //! or all come in the order that asks most.
 
-use crate::cores::{self, Act, Plan};
-use crate::networks::FURTHEST_BACK;
+use crate::cores::{self, Act, Depth, Plan};
 use crate::texts::End;
 use std::alloc::Global;
 use std::io;
@@ -13,7 +12,7 @@ const LENGTH: u64 = 8_000;
 /// So many arrivals at one core, of whose chain as many blocks as may be can be rolled back.
 fn arrivals(alloc: Global, blocks: u64) -> Plan {
     let mut plan = Plan::new(alloc, Act::Arrive, blocks);
-    plan.back = FURTHEST_BACK;
+    plan.depth = Depth::Greatest;
     plan
 }
 

@@ -1,9 +1,8 @@
 //! How much memory a block of a chain takes, and an unspent output; and what is kept of the last 2,160 blocks so that
 //! they can be rolled back: what each changed, beside their states, which share what they have in common.
 
-use crate::cores::{is_kept, open};
+use crate::cores::{Depth, is_kept, open};
 use crate::ledger_states::{after, block_of, grow, opening};
-use crate::networks::FAR_BACK;
 use crate::reopening::PAYMENTS;
 use crate::texts::{End, Growing, MADE, put_payments};
 use crate::timing::{Telling, nanos_if, now, print};
@@ -209,7 +208,7 @@ fn measure_states(rt: &HostRuntime) -> io::Result<()> {
 /// Runs each measurement, and prints what it took.
 pub fn measure(rt: &HostRuntime) -> io::Result<()> {
     // It stays to the end: what is dropped before is counted wrong, as memory that is given again.
-    let Some(mut core) = open(rt.alloc(), FAR_BACK) else {
+    let Some(mut core) = open(rt.alloc(), Depth::Usual) else {
         return Err(io::ErrorKind::Other.into());
     };
     measure_chain(rt, &mut core)?;

@@ -37,7 +37,8 @@ abbrev pub point_of : ℕ → Option ℕ → Option Point
 point_of y None = None
 point_of y (Some x) = Some (point_at x y)
 
--- the point of 32 bytes: their highest bit is the lowest bit of its x, the other bits are its y, which is below p
+-- the point of 32 bytes: their highest bit is the lowest bit of its x, the other bits are its y, which is below p (step
+-- 1)
 unfoldable pub decoded : List ℕ → Option Point
 decoded bytes =
     let y = little_endian bytes % 2 ^ 255 in

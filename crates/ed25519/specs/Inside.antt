@@ -5,7 +5,7 @@ use Rattle.std.specs.Prelude.{ℕ, ◌+◌, ◌*◌, ◌^◌, ◌<◌}
 unfoldable pub limbs : ℕ → ℕ → ℕ → ℕ → ℕ → ℕ
 limbs a0 a1 a2 a3 a4 = a0 + 2 ^ 51 * a1 + 2 ^ 102 * a2 + 2 ^ 153 * a3 + 2 ^ 204 * a4
 
--- each digit is little more than the base
+-- each digit is at most a little more than the base
 abbrev pub IsLoose : ℕ → ℕ → ℕ → ℕ → ℕ → Type 0
 IsLoose a0 a1 a2 a3 a4 = (a0 < 2 ^ 51 + 2 ^ 13) × (a1 < 2 ^ 51 + 2 ^ 13) × (a2 < 2 ^ 51 + 2 ^ 13)
     × (a3 < 2 ^ 51 + 2 ^ 13) × (a4 < 2 ^ 51 + 2 ^ 13)

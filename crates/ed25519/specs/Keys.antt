@@ -6,7 +6,7 @@ use Rattle.ed25519.specs.Encoding.{little_endian, encoded}
 
 -- of 256 bits the lowest three and the highest cleared, and the second highest set (step 2)
 unfoldable pub pruned : ℕ → ℕ
-pruned n = n % 2 ^ 254 / 8 * 8 + 2 ^ 254
+pruned n = ((n % 2 ^ 254) / 8) * 8 + 2 ^ 254
 
 -- s: the first half of the seed's digest, pruned, as a number (steps 1 to 3)
 unfoldable pub secret_scalar : List ℕ → ℕ

@@ -17,7 +17,7 @@ point_at x y = record { x = x; y = y; z = 1; t = times x y }
 abbrev pub neutral : Point
 neutral = record { x = 0; y = 1; z = 1; t = 0 }
 
--- B, of which all keys are multiples (5.1)
+-- B, of which each key is a multiple that is made as in 5.1.5 (5.1)
 unfoldable pub base_point : Point
 base_point = point_at 15112221349535400772501151409588531511454012693041857206046113283949847762202
     46316835694926478169428394003475163141307993866256225615783033603165251855960
@@ -55,14 +55,14 @@ doubled p =
     let f = plus c g in
     of_factors e f g h
 
--- [n]P, which is P added to itself n times (2), for n < 2 ^ k: twice [n / 2]P, plus P where n is odd
+-- [n]P (2) for n < 2 ^ k, by doubling and adding: twice [n / 2]P, plus P where n is odd
 unfoldable pub multiple : ℕ → ℕ → Point → Point
 multiple zero n p = neutral
 multiple (suc k) n p =
     let twice = doubled (multiple k (n / 2) p) in
     cond (n % 2 == 1) (added twice p) twice
 
--- whether two points are the same: x1 / z1 = x2 / z2 and y1 / z1 = y2 / z2 (as in 6)
+-- whether two points, neither of which has 0 for its z, are the same: x1 / z1 = x2 / z2 and y1 / z1 = y2 / z2 (as in 6)
 unfoldable pub same_point : Point → Point → Bool
 same_point p q = (times p.x q.z == times q.x p.z) && (times p.y q.z == times q.y p.z)
 

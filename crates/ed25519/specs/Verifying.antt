@@ -6,8 +6,8 @@ use Rattle.ed25519.specs.Decoding.{decoded}
 use Rattle.ed25519.specs.Signing.{challenge}
 use Rattle.ed25519.specs.declared.point.Point.{Point}
 
--- S is below L (step 1). That neither A nor R is of small order is more than the standard asks: under such a key one
--- signature would be good for many messages.
+-- S is below L (step 1). That neither A nor R is of small order is more than the standard asks, as libsodium has it:
+-- under such a key one signature would be good for many messages.
 unfoldable pub is_admissible : Point → Point → ℕ → Bool
 is_admissible a r s = nat_lt s order && not (has_small_order a) && not (has_small_order r)
 
@@ -21,8 +21,9 @@ judged None r s k = false
 judged (Some a) None s k = false
 judged (Some a) (Some r) s k = is_admissible a r s && equation_holds a r s k
 
--- whether a signature, which is the bytes of R and then those of S, of a message is good for a key, which is the bytes
--- of A; k is their challenge (step 2)
+-- Whether a signature of a message is good for a key. The key is the 32 bytes of A, and the signature the 32 of R and
+-- then the 32 of S; of other lengths nothing is meant. k is their challenge (step 2), taken modulo L, which the
+-- standard leaves open: it shows only where A has a part of small order.
 unfoldable pub verifies : List ℕ → List ℕ → List ℕ → Bool
 verifies key message signature =
     judged (decoded key) (decoded (take 32 signature)) (little_endian (drop 32 signature))

@@ -176,7 +176,7 @@ impl Point {
         Factors::of_products(&a, &b, &c, &d)
     }
 
-    /// The same, by one product less.
+    /// The same, by two products less.
     fn plus_addend(&self, other: &Addend) -> Factors
         ensures { result ≡ added self.now other.now }
     {

@@ -51,9 +51,9 @@ fn equation_holds(a: &Point, r: &Point, s: &Scalar, k: &Scalar) -> bool
     left.equals(&right)
 }
 
-/// Whether the signature, which is R and then S, of the message is good for the key: both decode, S is below L, neither
-/// the key nor R is of small order, and [S]B = R + [k]A (RFC 8032, 5.1.7). It takes no memory; its cost grows with the
-/// message alone, which is hashed once.
+/// Whether the signature, which is R and then S, of the message is good for the key: the key and R decode, S is below
+/// L, neither the key nor R is of small order, and [S]B = R + [k]A (RFC 8032, 5.1.7). It takes no memory; its cost
+/// grows with the message alone, which is hashed once.
 pub fn verify(key: &[u8; 32], message: &[u8], signature: &[u8; 64]) -> bool
     ensures { result ≡ verifies key.now message.now signature.now }
 {
