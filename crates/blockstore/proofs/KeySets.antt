@@ -1,14 +1,13 @@
 -- The keys of the blocks of a map, beside the map: after a block came, after one went, and after a mark.
-use Rattle.std.proofs.Common.{◌≡◌, ◌≢◌, ◌⊎◌, ℕ, Bool, true, false, cond, List, Contains, Option, Some, None, refl, sym, ap, subst, ◌∙◌, rules, inl, inr}
+use Rattle.std.proofs.Common.{◌≡◌, ◌≢◌, ◌⊎◌, ℕ, Bool, true, false, cond, List, Contains, Option, Some, None, refl, sym, ap, subst, ◌∙◌, inl, inr}
 use Rattle.std.specs.Ordering.{is_eq, nat_cmp, ordering_then}
 use Rattle.std.specs.Option.{option_cmp}
 use Rattle.std.specs.Cmp.Lexicographic.{slice_cmp}
 use Rattle.std.specs.declared.cmp.Ordering.{Ordering}
 use Rattle.std.specs.declared.cmp.Ordering.TheVariants.{Less, Equal, Greater}
-use Rattle.std.specs.Prelude.{Result, Ok, Err, IfOk, OnOk, OnErr}
+use Rattle.std.specs.Prelude.{Result, Ok, Err, IfOk, OnOk, OnErr, option_map}
 use Rattle.std.specs.Result.{is_err}
-use Rattle.std.specs.Map.{lookup}
-use Rattle.std.specs.BTreeMap.{BTreeMap, get, is_at}
+use Rattle.std.specs.BTreeMap.{BTreeMap, get}
 use Rattle.std.specs.BTreeMap as tree
 use Rattle.std.specs.BTreeSet.{BTreeSet, contains}
 use Rattle.std.specs.BTreeSet as sorted
@@ -19,6 +18,7 @@ use Rattle.std.proofs.lemmas.Map.Views.{Contains-from_any}
 use Rattle.std.proofs.lemmas.Option.{same_Some}
 use Rattle.model.specs.Block.{Block, block_hash_of}
 use Rattle.blockstore.specs.Stored.{Stored}
+use Rattle.blockstore.specs.Placed.{Placed, stored_at}
 use Rattle.blockstore.specs.Keys.{hash_cmp, link_cmp, age_cmp, IsLinkOf, IsAgeOf, AreKeysOf}
 use Rattle.blockstore.specs.declared.keys.Link.{Link}
 use Rattle.blockstore.specs.declared.keys.Age.{Age}
@@ -58,18 +58,9 @@ exact_age a b h =
     let both = both_equal (nat_cmp a.number b.number) (slice_cmp nat_cmp a.hash b.hash) h in
     λ i. record { number = exact_unsigned a.number b.number both.0 i; hash = exact_bytes a.hash b.hash both.1 i }
 
-tied_number : (n : ℕ) → nat_cmp n n ≡ Equal
-tied_number n = search rules
-
-pub tied_age : (a : Age) → age_cmp a a ≡ Equal
-tied_age a = rw (tied_number a.number) (tied_itself nat_list_cmp_total a.hash)
-
 -- ---- what a map has at a hash
 
--- after a change at a hash a map has this there, and what it had elsewhere
-pub at_hash : {X : Type 0} (m n : BTreeMap (List ℕ) X) (hash : List ℕ) (w : Option X) → tree.UpdatesBy hash_cmp (hash_cmp hash) m n w → get hash_cmp n hash ≡ w
-at_hash m n hash w updates = updates.1
-
+-- after a change at a hash a map has elsewhere what it had
 pub at_others : {X : Type 0} (m n : BTreeMap (List ℕ) X) (hash : List ℕ) (w : Option X) → tree.UpdatesBy hash_cmp (hash_cmp hash) m n w
     → (q : List ℕ) → q ≢ hash → get hash_cmp n q ≡ get hash_cmp m q
 at_others m n hash w updates q other = updates.2 q (one (is_eq (hash_cmp hash q)) refl)
@@ -89,13 +80,23 @@ is_hash hash q = one (is_eq (hash_cmp hash q)) refl
 pub none_some : {X : Type 0} (x : X) → None ≡ Some x → ⊥
 none_some x same = cc
 
--- a map with the same entries
-pub keys_same : {K : Type 0} (IsKey : Block → K → Type 0) (has : K → Bool) (m p : BTreeMap (List ℕ) Stored) → p.entries ≡ m.entries → AreKeysOf IsKey has m → AreKeysOf IsKey has p
+-- After a change at a hash this stands there, and elsewhere what stood there.
+pub record BecomesAt (old new : List ℕ → Option Stored) (hash : List ℕ) (w : Option Stored) : Type 0 where
+  pub here : new hash ≡ w
+  pub others : (q : List ℕ) → q ≢ hash → new q ≡ old q
+
+pub becomes : (m n : BTreeMap (List ℕ) Placed) (hash : List ℕ) (w : Option Placed) → tree.UpdatesBy hash_cmp (hash_cmp hash) m n w
+    → BecomesAt (stored_at m) (stored_at n) hash (option_map (λ p. p.stored) w)
+becomes m n hash w updates = record {
+  here = ap (option_map (λ (p : Placed). p.stored)) updates.1;
+  others = λ q other. ap (option_map (λ (p : Placed). p.stored)) (at_others m n hash w updates q other);
+}
+
+-- what stands at a hash is what stood there
+pub keys_same : {K : Type 0} (IsKey : Block → K → Type 0) (has : K → Bool) (m p : List ℕ → Option Stored) → ((q : List ℕ) → p q ≡ m q) → AreKeysOf IsKey has m → AreKeysOf IsKey has p
 keys_same IsKey has m p same keys = record {
-  kept = λ q x there. keys.kept q x (ap (λ (es : List (List ℕ × Stored)). lookup (is_at (hash_cmp q)) es) (sym same) ∙ there);
-  named = λ k h.
-      let was = keys.named k h in
-      (was.0, was.1, ap (λ (es : List (List ℕ × Stored)). lookup (is_at (hash_cmp was.0)) es) same ∙ was.2, was.3);
+  kept = λ q x there. keys.kept q x (sym (same q) ∙ there);
+  named = λ k h. let was = keys.named k h in (was.0, was.1, same was.0 ∙ was.2, was.3);
 }
 
 -- ---- what an insertion came to
@@ -126,45 +127,45 @@ module _ {K : Type 0} (R : K → K → Ordering) (exact : (a b : K) → R a b �
   module _ (IsKey : Block → K → Type 0) (hash_in : K → List ℕ) (names : (b : Block) (k : K) → IsKey b k → hash_in k ≡ block_hash_of b)
       (one : (b : Block) (k j : K) → IsKey b k → IsKey b j → k ≡ j) where
     -- a block came, and its key
-    pub keys_put : (s n : BTreeSet K) (m p : BTreeMap (List ℕ) Stored) (k : K) (hash : List ℕ) (x : Stored) → AreKeysOf IsKey (contains R s) m → sorted.Updates R s n k true
-        → tree.UpdatesBy hash_cmp (hash_cmp hash) m p (Some x) → get hash_cmp m hash ≡ None → IsKey x.block k → AreKeysOf IsKey (contains R n) p
+    pub keys_put : (s n : BTreeSet K) (m p : List ℕ → Option Stored) (k : K) (hash : List ℕ) (x : Stored) → AreKeysOf IsKey (contains R s) m → sorted.Updates R s n k true
+        → BecomesAt m p hash (Some x) → m hash ≡ None → IsKey x.block k → AreKeysOf IsKey (contains R n) p
     keys_put s n m p k hash x keys came put free is = record { kept = kept; named = named }
       where
         stays : (q : K) (t : Bool) → contains R s q ≡ true → cond t true (contains R s q) ≡ true
         stays q true has = refl
         stays q false has = has
 
-        kept : (q : List ℕ) (y : Stored) → get hash_cmp p q ≡ Some y → (j : K) × (contains R n j ≡ true) × IsKey y.block j
+        kept : (q : List ℕ) (y : Stored) → p q ≡ Some y → (j : K) × (contains R n j ≡ true) × IsKey y.block j
         kept q y there = elim (is_hash hash q) [
-          | inl same ↦ (k, came.1, subst (λ (z : Stored). IsKey z.block k) (same_Some x y (sym put.1 ∙ (ap (get hash_cmp p) (sym same) ∙ there))) is)
+          | inl same ↦ (k, came.1, subst (λ (z : Stored). IsKey z.block k) (same_Some x y (sym put.here ∙ (ap p (sym same) ∙ there))) is)
           | inr other ↦
-              let was = keys.kept q y (sym (at_others m p hash (Some x) put q other) ∙ there) in
+              let was = keys.kept q y (sym (put.others q other) ∙ there) in
               (was.0, came.0 was.0 ∙ stays was.0 (is_eq (R k was.0)) was.1, was.2)
         ]
 
-        named : (j : K) → contains R n j ≡ true → (q : List ℕ) × (y : Stored) × (get hash_cmp p q ≡ Some y) × IsKey y.block j
+        named : (j : K) → contains R n j ≡ true → (q : List ℕ) × (y : Stored) × (p q ≡ Some y) × IsKey y.block j
         named j has = elim (one_key k j (is_eq (R k j)) refl) [
-          | inl same ↦ (hash, x, put.1, subst (IsKey x.block) (sym same) is)
+          | inl same ↦ (hash, x, put.here, subst (IsKey x.block) (sym same) is)
           | inr other ↦
               let was = keys.named j (sym (came.2 j other) ∙ has) in
-              let apart : was.0 ≢ hash = λ same. none_some was.1 (sym free ∙ (ap (get hash_cmp m) (sym same) ∙ was.2)) in
-              (was.0, was.1, at_others m p hash (Some x) put was.0 apart ∙ was.2, was.3)
+              let apart : was.0 ≢ hash = λ same. none_some was.1 (sym free ∙ (ap m (sym same) ∙ was.2)) in
+              (was.0, was.1, put.others was.0 apart ∙ was.2, was.3)
         ]
 
     -- a block went, and its key
-    pub keys_take : (s n : BTreeSet K) (m p : BTreeMap (List ℕ) Stored) (k : K) (hash : List ℕ) (x : Stored) → AreKeysOf IsKey (contains R s) m → sorted.Updates R s n k false
-        → tree.UpdatesBy hash_cmp (hash_cmp hash) m p None → get hash_cmp m hash ≡ Some x → IsKey x.block k → hash_in k ≡ hash
-        → ((q : List ℕ) (y : Stored) → get hash_cmp m q ≡ Some y → block_hash_of y.block ≡ q) → AreKeysOf IsKey (contains R n) p
+    pub keys_take : (s n : BTreeSet K) (m p : List ℕ → Option Stored) (k : K) (hash : List ℕ) (x : Stored) → AreKeysOf IsKey (contains R s) m → sorted.Updates R s n k false
+        → BecomesAt m p hash None → m hash ≡ Some x → IsKey x.block k → hash_in k ≡ hash
+        → ((q : List ℕ) (y : Stored) → m q ≡ Some y → block_hash_of y.block ≡ q) → AreKeysOf IsKey (contains R n) p
     keys_take s n m p k hash x keys went took there is at keyed = record { kept = kept; named = named }
       where
-        gone : (y : Stored) → get hash_cmp p hash ≡ Some y → ⊥
-        gone y h = none_some y (sym took.1 ∙ h)
+        gone : (y : Stored) → p hash ≡ Some y → ⊥
+        gone y h = none_some y (sym took.here ∙ h)
 
-        kept : (q : List ℕ) (y : Stored) → get hash_cmp p q ≡ Some y → (j : K) × (contains R n j ≡ true) × IsKey y.block j
+        kept : (q : List ℕ) (y : Stored) → p q ≡ Some y → (j : K) × (contains R n j ≡ true) × IsKey y.block j
         kept q y here = elim (is_hash hash q) [
-          | inl same ↦ absurd (gone y (ap (get hash_cmp p) (sym same) ∙ here))
+          | inl same ↦ absurd (gone y (ap p (sym same) ∙ here))
           | inr other ↦
-              let before : get hash_cmp m q ≡ Some y = sym (at_others m p hash None took q other) ∙ here in
+              let before : m q ≡ Some y = sym (took.others q other) ∙ here in
               let was = keys.kept q y before in
               elim (one_key k was.0 (is_eq (R k was.0)) refl) [
                 | inl same ↦ absurd (other (sym (keyed q y before) ∙ (sym (names y.block was.0 was.2) ∙ (ap hash_in same ∙ at))))
@@ -172,20 +173,20 @@ module _ {K : Type 0} (R : K → K → Ordering) (exact : (a b : K) → R a b �
               ]
         ]
 
-        named : (j : K) → contains R n j ≡ true → (q : List ℕ) × (y : Stored) × (get hash_cmp p q ≡ Some y) × IsKey y.block j
+        named : (j : K) → contains R n j ≡ true → (q : List ℕ) × (y : Stored) × (p q ≡ Some y) × IsKey y.block j
         named j has = elim (one_key k j (is_eq (R k j)) refl) [
           | inl same ↦ absurd (let e : false ≡ true = sym went.1 ∙ (ap (contains R n) (sym same) ∙ has) in cc)
           | inr apart ↦
               let was = keys.named j (sym (went.2 j apart) ∙ has) in
               let other : was.0 ≢ hash =
-              λ same. let y : x ≡ was.1 = same_Some x was.1 (sym there ∙ (ap (get hash_cmp m) (sym same) ∙ was.2)) in
+              λ same. let y : x ≡ was.1 = same_Some x was.1 (sym there ∙ (ap m (sym same) ∙ was.2)) in
               let key : j ≡ k = one x.block j k (subst (λ (z : Stored). IsKey z.block j) (sym y) was.3) is in
               let e : false ≡ true = sym went.1 ∙ (ap (contains R n) (sym key) ∙ has) in cc in
-              (was.0, was.1, at_others m p hash None took was.0 other ∙ was.2, was.3)
+              (was.0, was.1, took.others was.0 other ∙ was.2, was.3)
         ]
 
     -- a key came and went again
-    pub keys_undone : (s n e : BTreeSet K) (m : BTreeMap (List ℕ) Stored) (k : K) → AreKeysOf IsKey (contains R s) m → sorted.Updates R s n k true → sorted.Updates R n e k false
+    pub keys_undone : (s n e : BTreeSet K) (m : List ℕ → Option Stored) (k : K) → AreKeysOf IsKey (contains R s) m → sorted.Updates R s n k true → sorted.Updates R n e k false
         → (contains R s k ≡ true → ⊥) → AreKeysOf IsKey (contains R e) m
     keys_undone s n e m k keys came went free = record {
       kept = λ q y there.
@@ -201,31 +202,31 @@ module _ {K : Type 0} (R : K → K → Ordering) (exact : (a b : K) → R a b �
     }
 
     -- a key of a block that isn't there is free
-    pub key_is_free : (s : BTreeSet K) (m : BTreeMap (List ℕ) Stored) (k : K) (b : Block) → AreKeysOf IsKey (contains R s) m → IsKey b k → get hash_cmp m (block_hash_of b) ≡ None
-        → ((q : List ℕ) (y : Stored) → get hash_cmp m q ≡ Some y → block_hash_of y.block ≡ q) → contains R s k ≡ true → ⊥
+    pub key_is_free : (s : BTreeSet K) (m : List ℕ → Option Stored) (k : K) (b : Block) → AreKeysOf IsKey (contains R s) m → IsKey b k → m (block_hash_of b) ≡ None
+        → ((q : List ℕ) (y : Stored) → m q ≡ Some y → block_hash_of y.block ≡ q) → contains R s k ≡ true → ⊥
     key_is_free s m k b keys is none keyed has =
         let was = keys.named k has in
         let same : was.0 ≡ block_hash_of b = sym (keyed was.0 was.1 was.2) ∙ (sym (names was.1.block k was.3) ∙ names b k is) in
-        none_some was.1 (sym none ∙ (ap (get hash_cmp m) (sym same) ∙ was.2))
+        none_some was.1 (sym none ∙ (ap m (sym same) ∙ was.2))
 
     -- a mark changes no key
-    pub keys_marked : (s : BTreeSet K) (m p : BTreeMap (List ℕ) Stored) (hash : List ℕ) (x y : Stored) → AreKeysOf IsKey (contains R s) m
-        → tree.UpdatesBy hash_cmp (hash_cmp hash) m p (Some y) → get hash_cmp m hash ≡ Some x → y.block ≡ x.block → AreKeysOf IsKey (contains R s) p
+    pub keys_marked : (s : BTreeSet K) (m p : List ℕ → Option Stored) (hash : List ℕ) (x y : Stored) → AreKeysOf IsKey (contains R s) m
+        → BecomesAt m p hash (Some y) → m hash ≡ Some x → y.block ≡ x.block → AreKeysOf IsKey (contains R s) p
     keys_marked s m p hash x y keys wrote there same = record {
       kept = λ q z here. elim (is_hash hash q) [
         | inl at ↦
             let was = keys.kept hash x there in
-            let is : y ≡ z = same_Some y z (sym wrote.1 ∙ (ap (get hash_cmp p) (sym at) ∙ here)) in
+            let is : y ≡ z = same_Some y z (sym wrote.here ∙ (ap p (sym at) ∙ here)) in
             (was.0, was.1, subst (λ (b : Block). IsKey b was.0) (sym same ∙ ap (λ (v : Stored). v.block) is) was.2)
-        | inr other ↦ keys.kept q z (sym (at_others m p hash (Some y) wrote q other) ∙ here)
+        | inr other ↦ keys.kept q z (sym (wrote.others q other) ∙ here)
       ];
       named = λ j has.
           let was = keys.named j has in
           elim (is_hash hash was.0) [
             | inl at ↦
-                let is : x ≡ was.1 = same_Some x was.1 (sym there ∙ (ap (get hash_cmp m) (sym at) ∙ was.2)) in
-                (hash, y, wrote.1, subst (λ (b : Block). IsKey b j) (sym (same ∙ ap (λ (v : Stored). v.block) is)) was.3)
-            | inr other ↦ (was.0, was.1, at_others m p hash (Some y) wrote was.0 other ∙ was.2, was.3)
+                let is : x ≡ was.1 = same_Some x was.1 (sym there ∙ (ap m (sym at) ∙ was.2)) in
+                (hash, y, wrote.here, subst (λ (b : Block). IsKey b j) (sym (same ∙ ap (λ (v : Stored). v.block) is)) was.3)
+            | inr other ↦ (was.0, was.1, wrote.others was.0 other ∙ was.2, was.3)
           ];
     }
 

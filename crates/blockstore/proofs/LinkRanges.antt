@@ -1,7 +1,6 @@
 -- The links that lie between the least and the greatest hash behind a block, and the blocks that they name.
-use Rattle.std.proofs.Common.{◌≡◌, ◌≢◌, ℕ, zero, suc, ◌+◌, ◌<◌, Bool, true, false, List, [], ◌∷◌, ◌++◌, length, map, take, Contains, Option, Some, None, refl, sym, ap, subst, ◌∙◌, arith, inl, inr, Bor}
-use Rattle.std.specs.Global.{Vec}
-use Rattle.std.specs.Prelude.{option_copied, get_or, Result, Ok, Err, IfOk, ◌&&◌, ◌||◌, not, replicate, slice_index}
+use Rattle.std.proofs.Common.{◌≡◌, ◌≢◌, ℕ, zero, suc, ◌<◌, Bool, true, false, List, [], ◌∷◌, ◌++◌, length, map, Contains, Option, Some, None, refl, sym, ap, subst, ◌∙◌, arith, inl, inr, Bor}
+use Rattle.std.specs.Prelude.{option_copied, option_map, ◌&&◌, ◌||◌, not, replicate, slice_index}
 use Rattle.std.specs.List.{filter, list_any, IsDistinct}
 use Rattle.std.specs.Option.{option_cmp}
 use Rattle.std.specs.Ordering.{is_eq, is_gt, is_lt, is_le, nat_cmp, eq_by_cmp, ordering_then}
@@ -10,12 +9,11 @@ use Rattle.std.specs.Cmp.Lexicographic.{slice_cmp}
 use Rattle.std.specs.declared.cmp.Ordering.{Ordering}
 use Rattle.std.specs.declared.cmp.Ordering.TheVariants.{Less, Equal, Greater}
 use Rattle.std.specs.declared.ops.Bound.TheVariants.{Included}
-use Rattle.std.specs.BTreeMap.{BTreeMap, get, values, IsOrdered}
+use Rattle.std.specs.BTreeMap.{BTreeMap, get, IsOrdered}
 use Rattle.std.specs.BTreeMap.Range.{range_contains}
 use Rattle.std.specs.BTreeSet.{BTreeSet, contains}
 use Rattle.std.specs.BTreeSet as sorted
 use Rattle.std.proofs.lemmas.Bool.{cases_lt}
-use Rattle.std.proofs.lemmas.List.{take_more, get_or_default}
 use Rattle.std.proofs.lemmas.List.Elements.{Contains-push_cases}
 use Rattle.blockstore.proofs.Lists.{map_push}
 use Rattle.std.proofs.lemmas.Map.Keys.{IsDistinct-from_sorted}
@@ -24,11 +22,12 @@ use Rattle.model.specs.Block.{block_hash_of}
 use Rattle.model.proofs.Lists.{all_from_members, contains_filter, contains_cases}
 use Rattle.model.proofs.MappedLists.{contains_map, contains_before, filter_member}
 use Rattle.blockstore.specs.Stored.{Stored}
-use Rattle.blockstore.specs.Keys.{hash_cmp, link_cmp, IsLinkOf, AreKeysOf}
+use Rattle.blockstore.specs.Placed.{Placed, stored_at, blocks_in, IsKeyed}
+use Rattle.blockstore.specs.Keys.{hash_cmp, link_cmp, IsLinkOf, AreKeysOf, first_link, last_link}
 use Rattle.blockstore.specs.Shelves.{AreAfter, AreLinksAfter}
 use Rattle.blockstore.specs.declared.keys.Link.{Link}
 use Rattle.blockstore.proofs.KeySets.{exact_link, tied_link, exact_hashes, tied_hashes, has_member, none_some}
-use Rattle.blockstore.proofs.Shelves.{IsKeyed, value_at, holds_at, apart_on, distinct_by_keys}
+use Rattle.blockstore.proofs.Shelves.{stands_at, value_at, holds_at, apart_on, distinct_by_keys}
 
 -- ---- the least and the greatest hash
 
@@ -52,12 +51,6 @@ greatest_hash zero [] long fits = refl
 greatest_hash zero (x ∷ xs) long fits = absurd (omega (arith, long))
 greatest_hash (suc n) [] long fits = absurd (omega (arith, long))
 greatest_hash (suc n) (x ∷ xs) long fits = one_byte n x xs (fits 0) (greatest_hash n xs (omega (arith, long)) (λ i. fits (suc i)))
-
-abbrev pub first_link : Option (List ℕ) → Link
-first_link previous = record { previous = previous; hash = replicate 32 0 }
-
-abbrev pub last_link : Option (List ℕ) → Link
-last_link previous = record { previous = previous; hash = replicate 32 255 }
 
 pub forward : (previous : Option (List ℕ)) → is_gt (link_cmp (first_link previous) (last_link previous)) ≡ false
 forward previous = rw (tied_hashes previous) (least_hash 32 (replicate 32 255) refl)
@@ -102,8 +95,8 @@ member_has q (k ∷ ks) member = elim (contains_cases k ks q member) [
   | inr later ↦ rw (member_has q ks later) (either (is_eq (link_cmp q k)))
 ]
 
-pub are_links : (m : BTreeMap (List ℕ) Stored) (links : BTreeSet Link) (previous : Option (List ℕ)) (found : List Link) → IsOrdered hash_cmp m → IsKeyed m
-    → AreKeysOf IsLinkOf (contains link_cmp links) m → sorted.IsOrdered link_cmp links → found ≡ sorted.keys_between link_cmp (Included (first_link previous)) (Included (last_link previous)) links → AreLinksAfter (values m) previous found
+pub are_links : (m : BTreeMap (List ℕ) Placed) (links : BTreeSet Link) (previous : Option (List ℕ)) (found : List Link) → IsOrdered hash_cmp m → IsKeyed m
+    → AreKeysOf IsLinkOf (contains link_cmp links) (stored_at m) → sorted.IsOrdered link_cmp links → found ≡ sorted.keys_between link_cmp (Included (first_link previous)) (Included (last_link previous)) links → AreLinksAfter (blocks_in m) previous found
 are_links m links previous found ordered keyed keys rise is = record {
   named = λ l member.
       let at = keys.named l (member_has l links.keys (filter_member inside links.keys l (subst (λ (ls : List Link). Contains ls l) is member)).0) in (at.1, value_at m at.0 at.1 at.2, at.3);
@@ -129,8 +122,8 @@ apart_links previous k j here there apart same =
     let e : true ≡ false = sym (ap is_eq (tied_link k)) ∙ (ap (eq_by_cmp link_cmp k) one ∙ apart) in cc
 
 -- what the links name is what comes after
-pub are_after : (m : BTreeMap (List ℕ) Stored) (previous : Option (List ℕ)) (links : List Link) (found : List Stored) → IsOrdered hash_cmp m → IsKeyed m → AreLinksAfter (values m) previous links
-    → map (λ (x : Stored). block_hash_of x.block) found ≡ map (λ (l : Link). l.hash) links → ((x : Stored) → Contains found x → Contains (values m) x) → AreAfter (values m) previous found
+pub are_after : (m : BTreeMap (List ℕ) Placed) (previous : Option (List ℕ)) (links : List Link) (found : List Stored) → IsOrdered hash_cmp m → IsKeyed m → AreLinksAfter (blocks_in m) previous links
+    → map (λ (x : Stored). block_hash_of x.block) found ≡ map (λ (l : Link). l.hash) links → ((x : Stored) → Contains found x → Contains (blocks_in m) x) → AreAfter (blocks_in m) previous found
 are_after m previous links found ordered keyed are same within = record {
   members = λ x. (out x, back x);
   once = distinct_by_keys (eq_by_cmp link_cmp) (λ (l : Link). l.hash) (λ (l : Link). l.previous ≡ previous) (apart_links previous) links (map (λ (s : Stored). s.block) found) are.once
@@ -141,7 +134,7 @@ are_after m previous links found ordered keyed are same within = record {
     mapped [] = refl
     mapped (x ∷ xs) = ap (λ (hs : List (List ℕ)). block_hash_of x.block ∷ hs) (mapped xs)
 
-    out : (x : Stored) → Contains found x → Contains (values m) x × (x.block.header.previous ≡ previous)
+    out : (x : Stored) → Contains found x → Contains (blocks_in m) x × (x.block.header.previous ≡ previous)
     out x member =
         let here = within x member in
         let l = contains_before (λ (l : Link). l.hash) links (block_hash_of x.block)
@@ -150,66 +143,64 @@ are_after m previous links found ordered keyed are same within = record {
         let is : x ≡ y.0 = apart_on m ordered keyed x y.0 here y.1 (sym l.2 ∙ y.2.1) in
         (here, ap (λ (z : Stored). z.block.header.previous) is ∙ (sym y.2.0 ∙ are.same l.0 l.1))
 
-    back : (x : Stored) → Contains (values m) x × (x.block.header.previous ≡ previous) → Contains found x
+    back : (x : Stored) → Contains (blocks_in m) x × (x.block.header.previous ≡ previous) → Contains found x
     back x was =
         let l = are.kept x was.0 was.1 in
         let y = contains_before (λ (y : Stored). block_hash_of y.block) found l.0.hash
         (subst (λ (hs : List (List ℕ)). Contains hs l.0.hash) (sym same) (contains_map (λ (k : Link). k.hash) links l.0 l.1)) in
         subst (Contains found) (apart_on m ordered keyed y.0 x (within y.0 y.1) was.0 (y.2 ∙ l.2.1)) y.1
 
-pub links_answer : {E : Type 0} (m : BTreeMap (List ℕ) Stored) (links : BTreeSet Link) (previous : Option (List ℕ)) (r : Result (Vec (Bor Link)) E) → IsOrdered hash_cmp m → IsKeyed m
-    → AreKeysOf IsLinkOf (contains link_cmp links) m → sorted.IsOrdered link_cmp links
-    → IfOk r (λ found. map (λ l. l.now) found.items ≡ sorted.keys_between link_cmp (Included (first_link previous)) (Included (last_link previous)) links)
-    → IfOk r (λ found. AreLinksAfter (values m) previous (map (λ l. l.now) found.items))
-links_answer m links previous (Ok found) ordered keyed keys rise is = are_links m links previous (map (λ (l : Bor Link). l.now) found.items) ordered keyed keys rise is
-links_answer m links previous (Err e) ordered keyed keys rise is = tt
-
 -- ---- one link after the other
 
 abbrev pub hashes_found : List (Bor Stored) → List (List ℕ)
 hashes_found found = map (λ (x : Stored). block_hash_of x.block) (map (λ (x : Bor Stored). x.now) found)
 
-abbrev pub hashes_linked : List (Bor Link) → List (List ℕ)
-hashes_linked links = map (λ (k : Link). k.hash) (map (λ (k : Bor Link). k.now) links)
+abbrev pub hashes_of : List Link → List (List ℕ)
+hashes_of links = map (λ (k : Link). k.hash) links
 
-pub one_found : (links : List (Bor Link)) (i : ℕ) (d : Bor Link) (found more : List (Bor Stored)) (stored : Bor Stored) → i < length links → more ≡ found ++ stored ∷ []
-    → block_hash_of stored.now.block ≡ (get_or links i d).now.hash → hashes_found found ≡ hashes_linked (take i links) → hashes_found more ≡ hashes_linked (take (i + 1) links)
-one_found links i d found more stored below is at so_far =
-    ap hashes_found is
-    ∙ (ap (map (λ (x : Stored). block_hash_of x.block)) (map_push (λ (x : Bor Stored). x.now) found stored)
-    ∙ (map_push (λ (x : Stored). block_hash_of x.block) (map (λ (x : Bor Stored). x.now) found) stored.now
-    ∙ (both
-    ∙ (sym (map_push (λ (k : Link). k.hash) (map (λ (k : Bor Link). k.now) (take i links)) (get_or links i d).now)
-    ∙ (ap (map (λ (k : Link). k.hash)) (sym (map_push (λ (k : Bor Link). k.now) (take i links) (get_or links i d))) ∙ ap hashes_linked (sym (take_more links i d below)))))))
+-- the links of a set that name this one as the block before them
+abbrev pub links_behind : BTreeSet Link → Option (List ℕ) → List Link
+links_behind links previous = sorted.keys_between link_cmp (Included (first_link previous)) (Included (last_link previous)) links
+
+push_on : {X : Type 0} (xs : List X) (x : X) (ys : List X) → (xs ++ x ∷ []) ++ ys ≡ xs ++ x ∷ ys
+push_on [] x ys = refl
+push_on (z ∷ zs) x ys = ap (λ ws. z ∷ ws) (push_on zs x ys)
+
+pub ends_here : {X : Type 0} (xs : List X) → xs ++ [] ≡ xs
+ends_here [] = refl
+ends_here (x ∷ xs) = ap (λ ys. x ∷ ys) (ends_here xs)
+
+pub one_found : (k : Link) (rest : List Link) (all : List (List ℕ)) (found more : List (Bor Stored)) (stored : Bor Stored) → more ≡ found ++ stored ∷ [] → block_hash_of stored.now.block ≡ k.hash
+    → hashes_found found ++ hashes_of (k ∷ rest) ≡ all → hashes_found more ++ hashes_of rest ≡ all
+one_found k rest all found more stored is at so_far =
+    ap (λ (hs : List (List ℕ)). hs ++ hashes_of rest) pushed ∙ (push_on (hashes_found found) (block_hash_of stored.now.block) (hashes_of rest) ∙ (ap (λ (h : List ℕ). hashes_found found ++ h ∷ hashes_of rest) at ∙ so_far))
   where
-    both : hashes_found found ++ block_hash_of stored.now.block ∷ [] ≡ hashes_linked (take i links) ++ (get_or links i d).now.hash ∷ []
-    both = λ j. so_far j ++ at j ∷ []
+    pushed : hashes_found more ≡ hashes_found found ++ block_hash_of stored.now.block ∷ []
+    pushed = ap hashes_found is
+        ∙ (ap (map (λ (x : Stored). block_hash_of x.block)) (map_push (λ (x : Bor Stored). x.now) found stored)
+        ∙ map_push (λ (x : Stored). block_hash_of x.block) (map (λ (x : Bor Stored). x.now) found) stored.now)
 
-pub still_within : (m : BTreeMap (List ℕ) Stored) (found more : List (Bor Stored)) (stored : Bor Stored) → more ≡ found ++ stored ∷ [] → Contains (values m) stored.now
-    → ((x : Stored) → Contains (map (λ (y : Bor Stored). y.now) found) x → Contains (values m) x) → (x : Stored) → Contains (map (λ (y : Bor Stored). y.now) more) x → Contains (values m) x
+pub still_within : (m : BTreeMap (List ℕ) Placed) (found more : List (Bor Stored)) (stored : Bor Stored) → more ≡ found ++ stored ∷ [] → Contains (blocks_in m) stored.now
+    → ((x : Stored) → Contains (map (λ (y : Bor Stored). y.now) found) x → Contains (blocks_in m) x) → (x : Stored) → Contains (map (λ (y : Bor Stored). y.now) more) x → Contains (blocks_in m) x
 still_within m found more stored is here within x member =
     elim (Contains-push_cases (map (λ (y : Bor Stored). y.now) found) stored.now x
     (subst (λ (xs : List Stored). Contains xs x) (ap (map (λ (y : Bor Stored). y.now)) is ∙ map_push (λ (y : Bor Stored). y.now) found stored) member)) [
       | inl was ↦ within x was
-      | inr is_it ↦ subst (Contains (values m)) is_it here
+      | inr is_it ↦ subst (Contains (blocks_in m)) is_it here
     ]
 
 -- the block of a link is found
-pub is_found : (m : BTreeMap (List ℕ) Stored) (previous : Option (List ℕ)) (links : List (Bor Link)) (i : ℕ) (d : Bor Link) (r : Option (Bor Stored)) → IsOrdered hash_cmp m → IsKeyed m
-    → AreLinksAfter (values m) previous (map (λ (k : Bor Link). k.now) links) → i < length links → option_copied r ≡ get hash_cmp m (get_or links i d).now.hash → ((x : Bor Stored) → r ≡ Some x → ⊥) → ⊥
-is_found m previous links i d r ordered keyed are below is none =
-    let link = get_or links i d in
-    let x = are.named link.now (contains_map (λ (k : Bor Link). k.now) links link (i, below, get_or-same links i d link below)) in
-    let there : get hash_cmp m link.now.hash ≡ Some x.0 =
-    subst (λ (q : List ℕ). get hash_cmp m q ≡ Some x.0) (sym x.2.1) (holds_at m ordered keyed x.0 x.1) in
-    not_none r x.0 (is ∙ there) none
+pub is_found : (m : BTreeMap (List ℕ) Placed) (previous : Option (List ℕ)) (links : List Link) (k : Link) (r : Option (Bor Placed)) → IsOrdered hash_cmp m → IsKeyed m
+    → AreLinksAfter (blocks_in m) previous links → Contains links k → option_copied r ≡ get hash_cmp m k.hash → ((x : Bor Placed) → r ≡ Some x → ⊥) → ⊥
+is_found m previous links k r ordered keyed are member is none =
+    let x = are.named k member in
+    let there : stored_at m k.hash ≡ Some x.0 =
+    subst (λ (q : List ℕ). stored_at m q ≡ Some x.0) (sym x.2.1) (holds_at m ordered keyed x.0 x.1) in
+    not_none r x.0 (ap (option_map (λ (p : Placed). p.stored)) is ∙ there) none
   where
-    get_or-same : {X : Type 0} (xs : List X) (j : ℕ) (a b : X) → j < length xs → get_or xs j b ≡ get_or xs j a
-    get_or-same xs j a b under = grind (arith, get_or_default)
-
-    not_none : (o : Option (Bor Stored)) (y : Stored) → option_copied o ≡ Some y → ((z : Bor Stored) → o ≡ Some z → ⊥) → ⊥
+    not_none : (o : Option (Bor Placed)) (y : Stored) → option_map (λ (p : Placed). p.stored) (option_copied o) ≡ Some y → ((z : Bor Placed) → o ≡ Some z → ⊥) → ⊥
     not_none None y some out = none_some y some
     not_none (Some z) y some out = out z refl
 
-pub found_there : (m : BTreeMap (List ℕ) Stored) (q : List ℕ) (r : Option (Bor Stored)) (stored : Bor Stored) → option_copied r ≡ get hash_cmp m q → r ≡ Some stored → get hash_cmp m q ≡ Some stored.now
-found_there m q r stored is some = sym is ∙ ap option_copied some
+pub found_there : (m : BTreeMap (List ℕ) Placed) (q : List ℕ) (r : Option (Bor Placed)) (placed : Bor Placed) → option_copied r ≡ get hash_cmp m q → r ≡ Some placed → stored_at m q ≡ Some placed.now.stored
+found_there m q r placed is some = stands_at m q placed.now (sym is ∙ ap option_copied some)

@@ -1,125 +1,116 @@
 -- How the notes of ways turn where a block comes, gets its mark, or goes; and that they are right about whole ways.
-use Rattle.std.proofs.Common.{◌≡◌, ◌≢◌, ◌⊎◌, ℕ, zero, suc, ◌+◌, ◌<◌, ◌≤◌, Bool, true, false, List, [], ◌∷◌, ◌++◌, length, map, Contains, Option, Some, None, refl, sym, ap, subst, ◌∙◌, arith, inl, inr}
+use Rattle.std.proofs.Common.{◌≡◌, ◌≢◌, ◌⊎◌, ◌↔◌, ℕ, zero, suc, ◌+◌, ◌<◌, ◌≤◌, Bool, true, false, List, [], ◌∷◌, ◌++◌, length, map, Contains, Option, Some, None, refl, sym, ap, subst, ◌∙◌, arith, inl, inr}
 use Rattle.std.specs.List.{AllByRecursion}
-use Rattle.std.specs.Prelude.{IsSome, is_some, unwrap_or}
-use Rattle.std.specs.BTreeMap.{get}
-use Rattle.std.specs.BTreeMap as tree
+use Rattle.std.specs.Prelude.{IsTrue}
+use Rattle.std.proofs.lemmas.Option.{same_Some}
 use Rattle.std.proofs.lemmas.List.Elements.{Contains-append_left, Contains-push, Contains-push_cases}
 use Rattle.model.specs.Block.{Block, block_hash_of}
 use Rattle.model.specs.Chain.{Tip, tip_at, Follows, IsLinked}
-use Rattle.model.proofs.Lists.{all_push, contains_first, contains_later, nothing_contained}
+use Rattle.model.proofs.Lists.{all_push, contains_first, contains_later, contains_cases, nothing_contained}
 use Rattle.model.proofs.MappedLists.{contains_map, contains_before}
+use Rattle.block.specs.declared.tip.Tip.{Tip as Place}
+use Rattle.block.specs.View.{tip_of}
 use Rattle.blockstore.specs.Stored.{Stored, unmarked}
+use Rattle.blockstore.specs.Placed.{Notes, is_noted, Held}
 use Rattle.blockstore.specs.Tests.{marked_at}
 use Rattle.blockstore.specs.Answers.{IsMarkedAt}
-use Rattle.blockstore.specs.Keys.{hash_cmp}
-use Rattle.blockstore.specs.Shelves.{IsSame, HasNone}
-use Rattle.blockstore.specs.Ways.{HasWay, Notes, is_noted, FollowsRoot, HasStep, IsReached, Agrees, AreNotes, AreTurning, NamesOne, AreSameNotes, AreDropped, LeadsTo, may_turn, differs}
-use Rattle.blockstore.proofs.KeySets.{is_hash, at_others}
+use Rattle.blockstore.specs.Shelves.{IsSame, AreApart, HasNone}
+use Rattle.blockstore.specs.Ways.{HasWay, FollowsRoot, HasStep, IsReached, AreNotes, AreTurning, FollowsOne, Stands, AllStand, may_turn, differs, IsNotedAt, IsTurned, IsPlaceOf, IsLetGo, AreDropped}
+use Rattle.blockstore.proofs.KeySets.{is_hash}
 use Rattle.blockstore.proofs.Lists.{no_longer}
 use Rattle.blockstore.proofs.Tests.{is_marked}
-use Rattle.blockstore.proofs.Noting.{step_with, names_or_not}
+use Rattle.blockstore.proofs.Noting.{step_with, follows_or_not, turned, others_wait, same_turning, stands_here, settled, one_fewer, WaitsToo}
 
--- ---- no block
-
-pub none_noted : (root : Option Tip) (notes : Notes) → ((hash : List ℕ) → is_noted notes hash ≡ false) → AreNotes root [] notes
-none_noted root notes none = record {
-  kept = λ x member. absurd (nothing_contained x member);
-  named = λ hash noted. absurd (let e : true ≡ false = sym noted ∙ none hash in cc);
-  right = λ t x member. absurd (nothing_contained x member);
-}
+-- ---- what is noted
 
 pub few_turn : (live : List Stored) (turns : Bool) (notes : Notes) → may_turn live turns notes ≤ length live
 few_turn live turns notes = no_longer (λ x. differs turns (is_noted notes (block_hash_of x.block))) live
 
--- ---- notes that say the same of all live blocks
-
-pub notes_again : (root : Option Tip) (live : List Stored) (old new : Notes) → ((hash : List ℕ) → is_noted new hash ≡ is_noted old hash) → ((x : Stored) → Contains live x → IsSome (get hash_cmp new (block_hash_of x.block)))
-    → AreNotes root live old → AreNotes root live new
-notes_again root live old new same kept was = record {
-  kept = kept;
-  named = λ hash noted. was.named hash (sym (same hash) ∙ noted);
-  right = λ t x member noted. agrees t x (was.right t x member (sym (same (block_hash_of x.block)) ∙ noted));
-}
-  where
-    agrees : (t : Bool) (x : Stored) → Agrees t (IsReached root live old x) → Agrees t (IsReached root live new x)
-    agrees true x is = record {
-      unmarked = is.unmarked;
-      step = step_with root live live old new x.block (λ p member noted follows. (p, member, refl, same (block_hash_of p.block) ∙ noted)) is.step;
-    }
-    agrees false x isnt = λ is. isnt (record {
-      unmarked = is.unmarked;
-      step = step_with root live live new old x.block (λ p member noted follows. (p, member, refl, sym (same (block_hash_of p.block)) ∙ noted)) is.step;
-    })
-
 -- a hash that no live block has isn't noted
-pub unnoted : (root : Option Tip) (live : List Stored) (notes : Notes) (hash : List ℕ) → AreNotes root live notes → HasNone live hash → is_noted notes hash ≡ false
+unnoted : (root : Option Tip) (live : List Stored) (notes : Notes) (hash : List ℕ) → AreNotes root live notes → HasNone live hash → is_noted notes hash ≡ false
 unnoted root live notes hash was none = one (is_noted notes hash) refl
   where
     one : (t : Bool) → is_noted notes hash ≡ t → is_noted notes hash ≡ false
     one true is = let x = was.named hash is in absurd (none x.0 x.1 x.2)
     one false is = is
 
--- a note that said no was taken out again
-pub notes_undone : (root : Option Tip) (live : List Stored) (old between new : Notes) (hash : List ℕ) → AreNotes root live old → HasNone live hash → AreSameNotes old between
-    → ((other : List ℕ) → other ≢ hash → get hash_cmp new other ≡ get hash_cmp between other) → is_noted new hash ≡ false → AreNotes root live new
-notes_undone root live old between new hash was none same left out = notes_again root live old new says kept was
-  where
-    says : (q : List ℕ) → is_noted new q ≡ is_noted old q
-    says q = elim (is_hash hash q) [
-      | inl is ↦ ap (is_noted new) is ∙ (out ∙ (sym (unnoted root live old hash was none) ∙ sym (ap (is_noted old) is)))
-      | inr other ↦ ap (λ (o : Option Bool). unwrap_or o false) (left q other) ∙ same.same q
-    ]
-
-    kept : (x : Stored) → Contains live x → IsSome (get hash_cmp new (block_hash_of x.block))
-    kept x member = ap is_some (left (block_hash_of x.block) (none x member)) ∙ same.kept (block_hash_of x.block) (was.kept x member)
-
 -- ---- a block comes
 
-module _ (root : Option Tip) (live now : List Stored) (b : Block) (old new : Notes) (was : AreNotes root live old) (none : HasNone live (block_hash_of b)) (is : IsSame now (live ++ unmarked b ∷ [])) (same : AreSameNotes old new)
-    (kept : IsSome (get hash_cmp new (block_hash_of b))) where
-  not_noted : is_noted old (block_hash_of b) ≡ false
-  not_noted = unnoted root live old (block_hash_of b) was none
-
+module _ (root : Option Tip) (live now : List Stored) (b : Block) (old new : Notes) (reached : Bool) (was : AreNotes root live old) (none : HasNone live (block_hash_of b)) (is : IsSame now (live ++ unmarked b ∷ []))
+    (asked : IsTrue reached ↔ HasStep root live old b) (noted : IsNotedAt (block_hash_of b) reached old new) where
   before : (y : Stored) → Contains now y → Contains live y ⊎ (unmarked b ≡ y)
   before y member = Contains-push_cases live (unmarked b) y ((is.members y).0 member)
 
   still : (y : Stored) → Contains live y → Contains now y
   still y member = (is.members y).1 (Contains-append_left live (unmarked b ∷ []) y member)
 
+  it_is_there : Contains now (unmarked b)
+  it_is_there = (is.members (unmarked b)).1 (Contains-push live (unmarked b))
+
+  as_it_was : (y : Stored) → Contains live y → is_noted new (block_hash_of y.block) ≡ is_noted old (block_hash_of y.block)
+  as_it_was y member = noted.others (block_hash_of y.block) (none y member)
+
   grown : (y : Block) → HasStep root live old y → HasStep root now new y
-  grown y step = step_with root live now old new y (λ p member noted follows. (p, still p member, refl, same.same (block_hash_of p.block) ∙ noted)) step
+  grown y step = step_with root live now old new y (λ p member had follows. (p, still p member, refl, as_it_was p member ∙ had)) step
 
-  shrunk : (y : Block) → HasStep root now new y → HasStep root live old y
-  shrunk y step = step_with root now live new old y
-      (λ p member noted follows.
-      let had : is_noted old (block_hash_of p.block) ≡ true = sym (same.same (block_hash_of p.block)) ∙ noted in
-      elim (before p member) [
-        | inl there ↦ (p, there, refl, had)
-        | inr it ↦ absurd (let e : false ≡ true = sym not_noted ∙ (ap (λ (x : Stored). is_noted old (block_hash_of x.block)) it ∙ had) in cc)
-      ])
-      step
+  shrunk : (y : Block) → HasStep root now new y → HasStep root live old y ⊎ ((reached ≡ true) × Follows (tip_at b) y)
+  shrunk y (inl first) = inl (inl first)
+  shrunk y (inr after) = elim (before after.parent after.member) [
+    | inl there ↦ inl (inr (record { parent = after.parent; member = there; noted = sym (as_it_was after.parent there) ∙ after.noted; follows = after.follows }))
+    | inr it ↦ inr (
+      sym noted.here ∙ (ap (λ (x : Stored). is_noted new (block_hash_of x.block)) it ∙ after.noted),
+      subst (λ (x : Stored). Follows (tip_at x.block) y) (sym it) after.follows,
+    )
+  ]
 
-  pub came : AreTurning root now true (λ x. block_hash_of x.block ≡ block_hash_of b) new
-  came = record {
-    kept = λ y member. elim (before y member) [
-      | inl there ↦ same.kept (block_hash_of y.block) (was.kept y there)
-      | inr it ↦ subst (λ (x : Stored). IsSome (get hash_cmp new (block_hash_of x.block))) it kept
-    ];
-    named = λ hash noted. let x = was.named hash (sym (same.same hash) ∙ noted) in (x.0, still x.0 x.1, x.2);
-    sound = λ y member noted.
-        let had : is_noted old (block_hash_of y.block) ≡ true = sym (same.same (block_hash_of y.block)) ∙ noted in
-        elim (before y member) [
-          | inl there ↦ let reached = was.right true y there had in record { unmarked = reached.unmarked; step = grown y.block reached.step }
-          | inr it ↦ absurd (let e : false ≡ true = sym not_noted ∙ (ap (λ (x : Stored). is_noted old (block_hash_of x.block)) it ∙ had) in cc)
-        ];
-    left = λ y member noted.
-        let hadnt : is_noted old (block_hash_of y.block) ≡ false = sym (same.same (block_hash_of y.block)) ∙ noted in
-        elim (before y member) [
-          | inl there ↦ inl (λ reached. was.right false y there hadnt (record { unmarked = reached.unmarked; step = shrunk y.block reached.step }))
-          | inr it ↦ inr (ap (λ (x : Stored). block_hash_of x.block) (sym it))
-        ];
-  }
+  -- where it is reached, what follows it has a step
+  pub came_stands : reached ≡ true → Stands root now true new (tip_at b)
+  came_stands sure = λ c follows. inr (record { parent = unmarked b; member = it_is_there; noted = noted.here ∙ sure; follows = follows })
+
+  -- and may turn no more
+  pub came_fewer : reached ≡ true → may_turn now true new + 1 ≤ length now
+  came_fewer sure =
+      let turns : IsTurned (block_hash_of b) true old new = record { before = unnoted root live old (block_hash_of b) was none; after = noted.here ∙ sure; others = noted.others } in
+      let less = one_fewer now true (unmarked b) old new it_is_there turns in omega (arith, less, few_turn now true old)
+
+  module _ (waits : List Place) (comes : reached ≡ true → (p : Place) × Contains waits p × (tip_of p ≡ tip_at b)) where
+    behind : (y : Stored) → Contains live y → is_noted old (block_hash_of y.block) ≡ false → (t : Bool) → reached ≡ t → Follows (tip_at b) y.block ⊎ (Follows (tip_at b) y.block → ⊥)
+        → (IsReached root now new y → ⊥) ⊎ FollowsOne waits y
+    behind y there hadnt true sure (inl follows) = let p = comes sure in inr (p.0, p.1, subst (λ (t : Tip). Follows t y.block) (sym p.2) follows)
+    behind y there hadnt false never (inl follows) = inl (λ has. elim (shrunk y.block has.step) [
+      | inl step ↦ was.right false y there hadnt (record { unmarked = has.unmarked; step = step })
+      | inr by ↦ let e : false ≡ true = sym never ∙ by.0 in absurd {A = ⊥} cc
+    ])
+    behind y there hadnt t at (inr aside) = inl (λ has. elim (shrunk y.block has.step) [
+      | inl step ↦ was.right false y there hadnt (record { unmarked = has.unmarked; step = step })
+      | inr by ↦ aside by.1
+    ])
+
+    itself : reached ≡ false → IsReached root now new (unmarked b) → ⊥
+    itself never has = elim (shrunk b has.step) [
+      | inl step ↦ let e : false ≡ true = sym never ∙ asked.1 step in absurd {A = ⊥} cc
+      | inr by ↦ let e : false ≡ true = sym never ∙ by.0 in absurd {A = ⊥} cc
+    ]
+
+    pub came : AreTurning root now true (FollowsOne waits) new
+    came = record {
+      named = λ hash said. elim (is_hash (block_hash_of b) hash) [
+        | inl same ↦ (unmarked b, it_is_there, sym same)
+        | inr other ↦ let x = was.named hash (sym (noted.others hash other) ∙ said) in (x.0, still x.0 x.1, x.2)
+      ];
+      sound = λ y member said. elim (before y member) [
+        | inl there ↦ let has = was.right true y there (sym (as_it_was y there) ∙ said) in record { unmarked = has.unmarked; step = grown y.block has.step }
+        | inr it ↦
+            let sure : reached ≡ true = sym noted.here ∙ (ap (λ (x : Stored). is_noted new (block_hash_of x.block)) it ∙ said) in
+            subst (IsReached root now new) it (record { unmarked = refl; step = grown b (asked.0 sure) })
+      ];
+      left = λ y member said. elim (before y member) [
+        | inl there ↦ behind y there (sym (as_it_was y there) ∙ said) reached refl (follows_or_not (tip_at b) y.block)
+        | inr it ↦
+            let never : reached ≡ false = sym noted.here ∙ (ap (λ (x : Stored). is_noted new (block_hash_of x.block)) it ∙ said) in
+            inl (λ has. itself never (subst (IsReached root now new) (sym it) has))
+      ];
+    }
 
 -- ---- a block gets its mark
 
@@ -150,7 +141,6 @@ module _ (root : Option Tip) (live now : List Stored) (hash : List ℕ) (notes :
 
   pub marked_now : AreTurning root now false (λ x. block_hash_of x.block ≡ hash) notes
   marked_now = record {
-    kept = λ y member. let z = was_before y member in subst (λ (b : Block). IsSome (get hash_cmp notes (block_hash_of b))) (sym z.block) (was.kept z.stored z.member);
     named = λ q noted. let x = was.named q noted in (marked_at hash x.0, still_there x.0 x.1, ap block_hash_of (is_marked hash x.0).block ∙ x.2);
     sound = λ y member noted reached.
         let z = was_before y member in
@@ -171,49 +161,109 @@ module _ (root : Option Tip) (live now : List Stored) (hash : List ℕ) (notes :
         ];
   }
 
+-- it wasn't noted, so that no note turns
+pub mark_settles : (root : Option Tip) (live now : List Stored) (hash : List ℕ) (old new : Notes) → AreNotes root live old → IsSame now (map (marked_at hash) live) → is_noted old hash ≡ false → IsNotedAt hash false old new
+    → AreTurning root now false (FollowsOne []) new
+mark_settles root live now hash old new was is none noted =
+    others_wait root now false (λ x. block_hash_of x.block ≡ hash) (FollowsOne []) new
+    (λ y member said same. absurd (let e : false ≡ true = sym noted.here ∙ (ap (is_noted new) (sym same) ∙ said) in cc))
+    (same_turning root now false (λ x. block_hash_of x.block ≡ hash) old new says (marked_now root live now hash old was is))
+  where
+    says : (q : List ℕ) → is_noted new q ≡ is_noted old q
+    says q = elim (is_hash hash q) [
+      | inl same ↦ ap (is_noted new) same ∙ (noted.here ∙ (sym none ∙ sym (ap (is_noted old) same)))
+      | inr other ↦ noted.others q other
+    ]
+
+-- so that they are right
+pub mark_settled : (root : Option Tip) (live now : List Stored) (hash : List ℕ) (old new : Notes) → AreNotes root live old → IsSame now (map (marked_at hash) live) → is_noted old hash ≡ false → IsNotedAt hash false old new → AreNotes root now new
+mark_settled root live now hash old new was is none noted =
+    settled root now false (FollowsOne []) new (λ y member one. nothing_contained one.0 one.1) (mark_settles root live now hash old new was is none noted)
+
+-- its note turns
+module _ (root : Option Tip) (live now : List Stored) (hash : List ℕ) (old new : Notes) (place : Place) (was : AreNotes root live old) (is : IsSame now (map (marked_at hash) live)) (apart : AreApart now)
+    (stood : IsPlaceOf (record { blocks = live; notes = old }) hash (Some (tip_of place))) (noted : IsNotedAt hash false old new) where
+  abbrev x : Stored
+  x = marked_at hash stood.0
+
+  x_there : Contains now x
+  x_there = (is.members x).1 (contains_map (marked_at hash) live stood.0 stood.1)
+
+  x_block : x.block ≡ stood.0.block
+  x_block = (is_marked hash stood.0).block
+
+  x_hash : block_hash_of x.block ≡ hash
+  x_hash = ap block_hash_of x_block ∙ stood.2
+
+  x_dead : IsReached root now old x → ⊥
+  x_dead has = let e : true ≡ false = sym ((is_marked hash stood.0).this stood.2) ∙ has.unmarked in cc
+
+  x_turned : IsTurned (block_hash_of x.block) false old new
+  x_turned = subst (λ (h : List ℕ). IsTurned h false old new) (sym x_hash) (record { before = stood.3; after = noted.here; others = noted.others })
+
+  x_place : tip_at x.block ≡ tip_of place
+  x_place = ap tip_at x_block ∙ stood.4
+
+  pub mark_turns : AreTurning root now false (FollowsOne (place ∷ [])) new
+  mark_turns =
+      others_wait root now false (WaitsToo (λ y. block_hash_of y.block ≡ hash) x) (FollowsOne (place ∷ [])) new
+      (λ y member said waits. elim waits [
+        | inl same ↦ absurd (let e : false ≡ true = sym noted.here ∙ (ap (is_noted new) (sym same) ∙ said) in cc)
+        | inr follows ↦ inr (place, contains_first place [], subst (λ (t : Tip). Follows t y.block) x_place follows)
+      ])
+      (turned root now false (λ y. block_hash_of y.block ≡ hash) x old new apart x_there x_turned x_dead (marked_now root live now hash old was is))
+
+  pub mark_fewer : may_turn now false new + 1 ≤ length now
+  mark_fewer = let less = one_fewer now false x old new x_there x_turned in omega (arith, less, few_turn now false old)
+
+  pub mark_stands : AllStand root now false new (place ∷ [])
+  mark_stands p member = elim (contains_cases place [] p member) [
+    | inl same ↦ subst (Stands root now false new) (x_place ∙ ap tip_of same) (stands_here root now false x old new apart x_there x_turned)
+    | inr none ↦ absurd (nothing_contained p none)
+  ]
+
 -- ---- blocks go
 
 -- where ways begin after them
-pub risen : (root : Tip) (next : Option Tip) (live now : List Stored) (old notes : Notes) (waiting more : List (Option (List ℕ))) → AreNotes (Some root) live old → AreDropped live now old notes waiting
-    → ((name : Option (List ℕ)) → Contains waiting name → Contains more name)
-    → ((y : Stored) → Contains now y → FollowsRoot next y.block → HasStep (Some root) live old y.block)
-    → ((y : Stored) → Contains now y → Follows root y.block → FollowsRoot next y.block ⊎ NamesOne more y) → AreTurning next now false (NamesOne more) notes
-risen root next live now old notes waiting more was dropped wider before after = record {
-  kept = λ y member. ap is_some (dropped.notes y member) ∙ was.kept y (dropped.within y member);
+risen : (root : Tip) (next : Option Tip) (old new : Held) (place : Tip) (leads : Bool) (waiting more : List Place) → AreNotes (Some root) old.blocks old.notes → AreDropped old new place leads waiting
+    → ((p : Place) → Contains waiting p → Contains more p)
+    → ((y : Stored) → Contains new.blocks y → FollowsRoot next y.block → HasStep (Some root) old.blocks old.notes y.block)
+    → ((y : Stored) → Contains new.blocks y → Follows root y.block → FollowsRoot next y.block ⊎ FollowsOne more y)
+    → (leads ≡ true → (y : Stored) → Follows place y.block → FollowsRoot next y.block)
+    → AreTurning next new.blocks false (FollowsOne more) new.notes
+risen root next old new place leads waiting more was dropped wider before after led = record {
   named = λ hash noted.
       let x = was.named hash (dropped.noted hash noted) in
-      (x.0, dropped.named x.0 x.1 (ap (is_noted notes) x.2 ∙ noted), x.2);
-  sound = λ y member noted reached. was.right false y (dropped.within y member) (said y member false noted) (record { unmarked = reached.unmarked; step = back y member reached.step });
+      (x.0, dropped.named x.0 x.1 (ap (is_noted new.notes) x.2 ∙ noted), x.2);
+  sound = λ y member noted reached. was.right false y (dropped.within y member) (sym (dropped.notes y member) ∙ noted) (record { unmarked = reached.unmarked; step = back y member reached.step });
   left = λ y member noted.
-      let reached = was.right true y (dropped.within y member) (said y member true noted) in
+      let reached = was.right true y (dropped.within y member) (sym (dropped.notes y member) ∙ noted) in
       elim (on y member reached.step) [
         | inl step ↦ inl (record { unmarked = reached.unmarked; step = step })
         | inr waits ↦ inr waits
       ];
 }
   where
-    said : (y : Stored) → Contains now y → (t : Bool) → is_noted notes (block_hash_of y.block) ≡ t → is_noted old (block_hash_of y.block) ≡ t
-    said y member t noted = ap (λ (o : Option Bool). unwrap_or o false) (sym (dropped.notes y member)) ∙ noted
-
-    back : (y : Stored) → Contains now y → HasStep next now notes y.block → HasStep (Some root) live old y.block
+    back : (y : Stored) → Contains new.blocks y → HasStep next new.blocks new.notes y.block → HasStep (Some root) old.blocks old.notes y.block
     back y member (inl first) = before y member first
     back y member (inr after_p) = inr (record {
       parent = after_p.parent;
       member = dropped.within after_p.parent after_p.member;
-      noted = said after_p.parent after_p.member true after_p.noted;
+      noted = sym (dropped.notes after_p.parent after_p.member) ∙ after_p.noted;
       follows = after_p.follows;
     })
 
-    on : (y : Stored) → Contains now y → HasStep (Some root) live old y.block → HasStep next now notes y.block ⊎ NamesOne more y
+    on : (y : Stored) → Contains new.blocks y → HasStep (Some root) old.blocks old.notes y.block → HasStep next new.blocks new.notes y.block ⊎ FollowsOne more y
     on y member (inl first) = elim (after y member first) [ inl is ↦ inl (inl is) | inr waits ↦ inr waits ]
-    on y member (inr after_p) = elim (dropped.gone after_p.parent after_p.member) [
+    on y member (inr after_p) = elim (dropped.gone after_p.parent after_p.member after_p.noted) [
       | inl here ↦ inl (inr (record {
         parent = after_p.parent;
         member = here;
-        noted = ap (λ (o : Option Bool). unwrap_or o false) (dropped.notes after_p.parent here) ∙ after_p.noted;
+        noted = dropped.notes after_p.parent here ∙ after_p.noted;
         follows = after_p.follows;
       }))
-      | inr waits ↦ inr (wider y.block.header.previous (subst (Contains waiting) (sym after_p.follows.previous) waits))
+      | inr (inl w) ↦ inr (w.0, wider w.0 w.1, subst (λ (t : Tip). Follows t y.block) (sym w.2) after_p.follows)
+      | inr (inr at) ↦ inl (inl (led at.1 y (subst (λ (t : Tip). Follows t y.block) at.0 after_p.follows)))
     ]
 
 -- what is noted is past the root
@@ -229,53 +279,72 @@ number_below root live notes (suc n) x was member noted low = at (was.right true
         let past = before after.parent after.member after.noted (omega (arith, low, number)) in
         omega (arith, number, past)
 
--- the place that ways begin behind is the one that they began behind, or a way leads to it
-pub risen_on : (root next : Tip) (live now : List Stored) (old notes : Notes) (waiting : List (Option (List ℕ))) → AreNotes (Some root) live old → AreDropped live now old notes waiting → LeadsTo root live old next
-    → ((y : Stored) → Contains now y → next.number < y.block.header.number) → AreTurning (Some next) now false (NamesOne waiting) notes
-risen_on root next live now old notes waiting was dropped (inl same) past =
-    risen root (Some next) live now old notes waiting waiting was dropped (λ name member. member)
+-- the place that ways begin behind is the one that they began behind, or one led to it
+pub risen_on : (root next : Tip) (old new : Held) (leads : Bool) (waiting : List Place) → AreNotes (Some root) old.blocks old.notes → AreDropped old new next leads waiting → (next ≡ root) ⊎ (leads ≡ true)
+    → ((y : Stored) → Contains new.blocks y → next.number < y.block.header.number) → AreTurning (Some next) new.blocks false (FollowsOne waiting) new.notes
+risen_on root next old new leads waiting was dropped (inl same) past =
+    risen root (Some next) old new next leads waiting waiting was dropped (λ p member. member)
     (λ y member first. inl (subst (λ (t : Tip). Follows t y.block) same first))
     (λ y member first. inl (subst (λ (t : Tip). Follows t y.block) (sym same) first))
-risen_on root next live now old notes waiting was dropped (inr leads) past =
-    risen root (Some next) live now old notes waiting waiting was dropped (λ name member. member)
-    (λ y member first. inr (record { parent = leads.0; member = leads.1; noted = leads.2; follows = subst (λ (t : Tip). Follows t y.block) (sym leads.3) first }))
+    (λ sure y follows. follows)
+risen_on root next old new leads waiting was dropped (inr sure) past =
+    let r = dropped.led sure in
+    risen root (Some next) old new next leads waiting waiting was dropped (λ p member. member)
+    (λ y member first. inr (record { parent = r.0; member = r.1; noted = r.2; follows = subst (λ (t : Tip). Follows t y.block) (sym r.3) first }))
     (λ y member first.
-    let r : Stored = leads.0 in
-    let low = number_below root live old (r.block.header.number + 1) r was leads.1 leads.2 (omega arith) in
-    let is : r.block.header.number ≡ next.number = ap (λ (t : Tip). t.number) leads.3 in
+    let x : Stored = r.0 in
+    let low = number_below root old.blocks old.notes (x.block.header.number + 1) x was r.1 r.2 (omega arith) in
+    let is : x.block.header.number ≡ next.number = ap (λ (t : Tip). t.number) r.3 in
     let far = past y member in
     let number = first.number in absurd (omega (arith, low, is, far, number)))
+    (λ _ y follows. follows)
 
 -- none begins anywhere
-pub risen_off : (root : Tip) (live now : List Stored) (old notes : Notes) (waiting : List (Option (List ℕ))) → AreNotes (Some root) live old → AreDropped live now old notes waiting
-    → AreTurning None now false (NamesOne (root.hash ∷ waiting)) notes
-risen_off root live now old notes waiting was dropped =
-    risen root None live now old notes waiting (root.hash ∷ waiting) was dropped (λ name member. later name member)
+pub risen_off : (root : Place) (next : Tip) (old new : Held) (leads : Bool) (waiting : List Place) → AreNotes (Some (tip_of root)) old.blocks old.notes → AreDropped old new next leads waiting → leads ≡ false
+    → AreTurning None new.blocks false (FollowsOne (root ∷ waiting)) new.notes
+risen_off root next old new leads waiting was dropped never =
+    risen (tip_of root) None old new next leads waiting (root ∷ waiting) was dropped (λ p member. contains_later root waiting p member)
     (λ y member first. absurd first)
-    (λ y member first. inr (subst (Contains (root.hash ∷ waiting)) (sym first.previous) (contains_first root.hash waiting)))
-  where
-    later : (name : Option (List ℕ)) → Contains waiting name → Contains (root.hash ∷ waiting) name
-    later name member = contains_later root.hash waiting name member
+    (λ y member first. inr (root, contains_first root waiting, first))
+    (λ sure. let e : true ≡ false = sym sure ∙ never in absurd cc)
+
+-- no live block that is left stands where one went
+pub dropped_stand : (next : Option Tip) (old new : Held) (place : Tip) (leads : Bool) (waiting : List Place) → AreDropped old new place leads waiting → AllStand next new.blocks false new.notes waiting
+dropped_stand next old new place leads waiting dropped p member = λ b follows after.
+    dropped.out p member after.parent after.member (sym follows.previous ∙ after.follows.previous)
+
+-- nor where the root was
+pub root_stands : (root : Place) (next : Option Tip) (old new : Held) (place : Tip) (leads : Bool) (waiting : List Place) → AreNotes (Some (tip_of root)) old.blocks old.notes → AreDropped old new place leads waiting
+    → AllStand next new.blocks false new.notes (root ∷ waiting)
+root_stands root next old new place leads waiting was dropped p member = elim (contains_cases root waiting p member) [
+  | inr later ↦ dropped_stand next old new place leads waiting dropped p later
+  | inl same ↦ subst (λ (q : Place). Stands next new.blocks false new.notes (tip_of q)) same
+      (λ b follows after.
+      let x : Stored = after.parent in
+      let there = dropped.within x after.member in
+      let low = number_below (tip_of root) old.blocks old.notes (x.block.header.number + 1) x was there (sym (dropped.notes x after.member) ∙ after.noted) (omega arith) in
+      let number = follows.number in
+      let too = after.follows.number in absurd (omega (arith, low, number, too)))
+]
 
 -- where none began, ways begin behind a place
-pub anew : (root : Tip) (live : List Stored) (notes : Notes) → AreNotes None live notes → AreTurning (Some root) live true (NamesOne (root.hash ∷ [])) notes
+pub anew : (root : Place) (live : List Stored) (notes : Notes) → AreNotes None live notes → AreTurning (Some (tip_of root)) live true (FollowsOne (root ∷ [])) notes
 anew root live notes was = record {
-  kept = was.kept;
   named = was.named;
   sound = λ y member noted. let reached = was.right true y member noted in record { unmarked = reached.unmarked; step = more y.block reached.step };
-  left = λ y member noted. elim (names_or_not y.block.header.previous root.hash) [
-    | inl is ↦ inr (subst (Contains (root.hash ∷ [])) (sym is) (contains_first root.hash []))
-    | inr other ↦ inl (λ reached. was.right false y member noted (record { unmarked = reached.unmarked; step = less y.block other reached.step }))
+  left = λ y member noted. elim (follows_or_not (tip_of root) y.block) [
+    | inl follows ↦ inr (root, contains_first root [], follows)
+    | inr aside ↦ inl (λ reached. was.right false y member noted (record { unmarked = reached.unmarked; step = less y.block aside reached.step }))
   ];
 }
   where
-    more : (b : Block) → HasStep None live notes b → HasStep (Some root) live notes b
+    more : (b : Block) → HasStep None live notes b → HasStep (Some (tip_of root)) live notes b
     more b (inl first) = absurd first
     more b (inr after) = inr after
 
-    less : (b : Block) → b.header.previous ≢ root.hash → HasStep (Some root) live notes b → HasStep None live notes b
-    less b other (inl first) = absurd (other first.previous)
-    less b other (inr after) = inr after
+    less : (b : Block) → (Follows (tip_of root) b → ⊥) → HasStep (Some (tip_of root)) live notes b → HasStep None live notes b
+    less b aside (inl first) = absurd (aside first)
+    less b aside (inr after) = inr after
 
 -- ---- whole ways
 
@@ -326,32 +395,69 @@ step_is_way root live notes b was = (to, (λ way. along root live notes was root
 
 -- ---- one goes after the other
 
--- before the first
-pub none_dropped : (live : List Stored) (notes : Notes) → AreDropped live live notes notes []
-none_dropped live notes = record { within = λ x member. member; gone = λ x member. inl member; notes = λ x member. refl; named = λ x member noted. member; noted = λ hash noted. noted }
+module _ (old held now : Held) (place : Tip) (leads one more_leads : Bool) (waiting more : List Place) (hash : List ℕ) (was : AreDropped old held place leads waiting)
+    (alone : (x y : Stored) → Contains held.blocks x → Contains held.blocks y → block_hash_of x.block ≡ block_hash_of y.block → x.block ≡ y.block)
+    (without : (x : Stored) → Contains now.blocks x ↔ (Contains held.blocks x × (block_hash_of x.block ≢ hash))) (noted : IsNotedAt hash false held.notes now.notes) where
+  wider : IsLetGo held hash place one waiting more → (p : Place) → Contains waiting p → Contains more p
+  wider (inl none) p member = subst (λ (ws : List Place). Contains ws p) (sym none.2) member
+  wider (inr (y, there, at, said, inl stood)) p member = subst (λ (ws : List Place). Contains ws p) (sym stood.2) member
+  wider (inr (y, there, at, said, inr left)) p member = subst (λ (ws : List Place). Contains ws p) (sym left.1.2) (Contains-append_left waiting (left.1.0 ∷ []) p member)
 
-pub one_dropped : (old live now : List Stored) (old_notes notes next : Notes) (waiting more : List (Option (List ℕ))) (hash : List ℕ) → AreDropped old live old_notes notes waiting
-    → ((x : Stored) → (Contains now x → Contains live x × (block_hash_of x.block ≢ hash)) × (Contains live x × (block_hash_of x.block ≢ hash) → Contains now x))
-    → tree.UpdatesBy hash_cmp (hash_cmp hash) notes next None → more ≡ waiting ++ Some hash ∷ [] → AreDropped old now old_notes next more
-one_dropped old live now old_notes notes next waiting more hash was without took is = record {
-  within = λ x member. was.within x ((without x).0 member).0;
-  gone = λ x member. elim (was.gone x member) [
-    | inr waits ↦ inr (before (Some (block_hash_of x.block)) waits)
-    | inl here ↦ elim (is_hash hash (block_hash_of x.block)) [
-      | inl same ↦ inr (subst (λ (ws : List (Option (List ℕ))). Contains ws (Some (block_hash_of x.block))) (sym is) (subst (λ (h : List ℕ). Contains (waiting ++ Some hash ∷ []) (Some h)) (sym same) (Contains-push waiting (Some hash))))
-      | inr other ↦ inl ((without x).1 (here, other))
-    ]
-  ];
-  notes = λ x member. let here = (without x).0 member in at_others notes next hash None took (block_hash_of x.block) here.1 ∙ was.notes x here.0;
-  named = λ x member noted. let other = apart (block_hash_of x.block) noted in (without x).1 (was.named x member (still (block_hash_of x.block) noted), other);
-  noted = λ q noted. was.noted q (still q noted);
-}
-  where
-    before : (name : Option (List ℕ)) → Contains waiting name → Contains more name
-    before name member = subst (λ (ws : List (Option (List ℕ))). Contains ws name) (sym is) (Contains-append_left waiting (Some hash ∷ []) name member)
+  apart : (q : List ℕ) → is_noted now.notes q ≡ true → q ≢ hash
+  apart q said same = let e : false ≡ true = sym (ap (is_noted now.notes) same ∙ noted.here) ∙ said in cc
 
-    apart : (q : List ℕ) → is_noted next q ≡ true → q ≢ hash
-    apart q noted same = let e : false ≡ true = sym (ap (λ (o : Option Bool). unwrap_or o false) (ap (get hash_cmp next) same ∙ took.1)) ∙ noted in cc
+  had_it : (q : List ℕ) → is_noted now.notes q ≡ true → is_noted held.notes q ≡ true
+  had_it q said = sym (noted.others q (apart q said)) ∙ said
 
-    still : (q : List ℕ) → is_noted next q ≡ true → is_noted notes q ≡ true
-    still q noted = ap (λ (o : Option Bool). unwrap_or o false) (sym (at_others notes next hash None took q (apart q noted))) ∙ noted
+  -- where the one that went stood
+  goes : (x : Stored) → Contains held.blocks x → block_hash_of x.block ≡ hash → is_noted held.notes (block_hash_of x.block) ≡ true → IsLetGo held hash place one waiting more
+      → ((p : Place) × Contains more p × (tip_of p ≡ tip_at x.block)) ⊎ ((tip_at x.block ≡ place) × (one ≡ true))
+  goes x here same said (inl none) = absurd (let e : false ≡ true = sym none.0 ∙ (ap (is_noted held.notes) (sym same) ∙ said) in cc)
+  goes x here same said (inr (y, there, at, had, inl stood)) = inr (ap tip_at (alone x y here there (same ∙ sym at)) ∙ stood.0, stood.1)
+  goes x here same said (inr (y, there, at, had, inr left)) = inl (
+    left.1.0,
+    subst (λ (ws : List Place). Contains ws left.1.0) (sym left.1.2) (Contains-push waiting left.1.0),
+    left.1.1 ∙ ap tip_at (alone y x there here (at ∙ sym same)),
+  )
+
+  outside : IsLetGo held hash place one waiting more → (p : Place) → Contains more p → Contains waiting p ⊎ ((tip_of p).hash ≡ Some hash)
+  outside (inl none) p member = inl (subst (λ (ws : List Place). Contains ws p) none.2 member)
+  outside (inr (y, there, at, had, inl stood)) p member = inl (subst (λ (ws : List Place). Contains ws p) stood.2 member)
+  outside (inr (y, there, at, had, inr left)) p member = elim (Contains-push_cases waiting left.1.0 p (subst (λ (ws : List Place). Contains ws p) left.1.2 member)) [
+    | inl earlier ↦ inl earlier
+    | inr it ↦ inr (ap (λ (q : Place). (tip_of q).hash) (sym it) ∙ (ap (λ (t : Tip). t.hash) left.1.1 ∙ ap (λ (h : List ℕ). Some h) at))
+  ]
+
+  leads_on : one ≡ true → IsLetGo held hash place one waiting more → (x : Stored) × Contains old.blocks x × (is_noted old.notes (block_hash_of x.block) ≡ true) × (tip_at x.block ≡ place)
+  leads_on sure (inl none) = absurd (let e : false ≡ true = sym none.1 ∙ sure in cc)
+  leads_on sure (inr (y, there, at, had, inl stood)) = (y, was.within y there, sym (was.notes y there) ∙ (ap (is_noted held.notes) at ∙ had), stood.0)
+  leads_on sure (inr (y, there, at, had, inr left)) = absurd (let e : false ≡ true = sym left.0 ∙ sure in cc)
+
+  pub one_dropped : IsLetGo held hash place one waiting more → (more_leads ≡ true → (one ≡ true) ⊎ (leads ≡ true)) → (one ≡ true → more_leads ≡ true) → (leads ≡ true → more_leads ≡ true) → AreDropped old now place more_leads more
+  one_dropped go either this that = record {
+    within = λ x member. was.within x ((without x).0 member).0;
+    gone = λ x member said. elim (was.gone x member said) [
+      | inr (inl w) ↦ inr (inl (w.0, wider go w.0 w.1, w.2))
+      | inr (inr at) ↦ inr (inr (at.0, that at.1))
+      | inl here ↦ elim (is_hash hash (block_hash_of x.block)) [
+        | inr other ↦ inl ((without x).1 (here, other))
+        | inl same ↦ elim (goes x here same (was.notes x here ∙ said) go) [
+          | inl waits ↦ inr (inl waits)
+          | inr stood ↦ inr (inr (stood.0, this stood.1))
+        ]
+      ]
+    ];
+    notes = λ x member. let here = (without x).0 member in noted.others (block_hash_of x.block) here.1 ∙ was.notes x here.0;
+    named = λ x member said. (without x).1 (was.named x member (had_it (block_hash_of x.block) said), apart (block_hash_of x.block) said);
+    noted = λ q said. was.noted q (had_it q said);
+    out = λ p member x there same.
+        let here = (without x).0 there in
+        elim (outside go p member) [
+          | inl earlier ↦ was.out p earlier x here.0 same
+          | inr at ↦ here.1 (same_Some (block_hash_of x.block) hash (sym same ∙ at))
+        ];
+    led = λ sure. elim (either sure) [
+      | inl is ↦ leads_on is go
+      | inr had ↦ was.led had
+    ];
+  }

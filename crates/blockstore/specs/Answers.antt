@@ -36,7 +36,7 @@ pub record IsMarkSet (old : Store) (hash : List ℕ) (new : Store) : Type 0 wher
   pub members : (x : Stored) → Contains new.blocks x ↔ ((y : Stored) × Contains old.blocks y × IsMarkedAt hash y x)
   pub count : length new.blocks ≡ length old.blocks
 
--- the blocks past this number are left, and nothing else changed
+-- the blocks past this number are left, and nothing else changed but the root
 pub record IsCutTo (old : Store) (number : ℕ) (new : Store) : Type 0 where
   pub capacity : new.capacity ≡ old.capacity
   pub members : (x : Stored) → Contains new.blocks x ↔ (Contains old.blocks x × (number < x.block.header.number))

@@ -9,12 +9,13 @@ use Rattle.blockstore.specs.Stored.{Store, IsSet}
 use Rattle.blockstore.specs.Ways.{AreNotes}
 
 abbrev pub store_of : {S : Type 0} → Inside S → Store
-store_of s = record { capacity = s.max_volatile; root = tip_of s.root; blocks = s.blocks }
+store_of s = record { capacity = s.max_volatile; root = tip_of s.root; blocks = s.blocks.blocks }
 
--- the blocks were read, so that the text of each is no other block's; to which of them a way leads is noted
+-- the blocks were read, so that the text of each is no other block's; which of them have no mark and a way that leads
+-- to them is noted
 pub record IsHeldStore {S : Type 0} (s : Inside S) : Type 0 where
   pub is_set : IsSet (store_of s)
-  pub read : AllByRecursion (λ x. IsRead x.block (block_text x.block)) s.blocks
-  pub notes : AreNotes (Some (tip_of s.root)) s.blocks s.reach.notes
+  pub read : AllByRecursion (λ x. IsRead x.block (block_text x.block)) s.blocks.blocks
+  pub notes : AreNotes (Some (tip_of s.root)) s.blocks.blocks s.blocks.notes
   pub none_waits : s.reach.waiting.items ≡ []
-  pub room : length s.blocks ≤ vec_capacity s.reach.waiting
+  pub room : length s.blocks.blocks ≤ vec_capacity s.reach.waiting

@@ -1,10 +1,9 @@
 -- The keys under which blocks are found beside their hashes, and their order.
-use Rattle.std.specs.Prelude.{◌≡◌, ◌<◌, ℕ, Bool, true, List, length, Some, slice_index}
+use Rattle.std.specs.Prelude.{◌≡◌, ◌<◌, ℕ, Bool, true, List, length, Option, Some, replicate, slice_index}
 use Rattle.std.specs.Ordering.{nat_cmp, ordering_then}
 use Rattle.std.specs.Option.{option_cmp}
 use Rattle.std.specs.Cmp.Lexicographic.{slice_cmp}
 use Rattle.std.specs.declared.cmp.Ordering.{Ordering}
-use Rattle.std.specs.BTreeMap.{BTreeMap, get}
 use Rattle.model.specs.Limits.{hash_size}
 use Rattle.model.specs.Block.{Block, block_hash_of}
 use Rattle.blockstore.specs.Stored.{Stored}
@@ -35,10 +34,16 @@ IsLinkOf b link = (link.previous ≡ b.header.previous) × (link.hash ≡ block_
 abbrev pub IsAgeOf : Block → Age → Type 0
 IsAgeOf b age = (age.number ≡ b.header.number) × (age.hash ≡ block_hash_of b)
 
--- Just the blocks of a map have keys of this kind.
-pub record AreKeysOf {K : Type 0} (IsKey : Block → K → Type 0) (has : K → Bool)
-    (m : BTreeMap (List ℕ) Stored) : Type 0 where
-  pub kept : (hash : List ℕ) (x : Stored) → get hash_cmp m hash ≡ Some x
-      → (key : K) × (has key ≡ true) × IsKey x.block key
+-- Just the blocks that stand at a hash have keys of this kind.
+pub record AreKeysOf {K : Type 0} (IsKey : Block → K → Type 0) (has : K → Bool) (at : List ℕ → Option Stored)
+    : Type 0 where
+  pub kept : (hash : List ℕ) (x : Stored) → at hash ≡ Some x → (key : K) × (has key ≡ true) × IsKey x.block key
   pub named : (key : K) → has key ≡ true
-      → (hash : List ℕ) × (x : Stored) × (get hash_cmp m hash ≡ Some x) × IsKey x.block key
+      → (hash : List ℕ) × (x : Stored) × (at hash ≡ Some x) × IsKey x.block key
+
+-- the least of the links whose blocks name this one as the block before them, and the greatest
+abbrev pub first_link : Option (List ℕ) → Link
+first_link previous = record { previous = previous; hash = replicate 32 0 }
+
+abbrev pub last_link : Option (List ℕ) → Link
+last_link previous = record { previous = previous; hash = replicate 32 255 }

@@ -6,6 +6,8 @@ pub mod Insertion
 pub mod Answers
 pub mod Live
 pub mod Keys
+pub mod Placed
+pub mod HeldPlaced
 pub mod Shelves
 pub mod HeldShelf
 pub mod Ways

@@ -36,6 +36,10 @@ pub record AreLinksAfter (xs : List Stored) (previous : Option (List ℕ)) (link
       → (l : Link) × Contains links l × IsLinkOf x.block l
   pub once : IsDistinct (eq_by_cmp link_cmp) links
 
+-- one of them has a number past this one
+abbrev pub HasPast : ℕ → List Stored → Type 0
+HasPast number xs = (x : Stored) × Contains xs x × (number < x.block.header.number)
+
 -- all are past this number
 abbrev pub ArePast : ℕ → List Stored → Type 0
 ArePast number xs = (x : Stored) → Contains xs x → number < x.block.header.number

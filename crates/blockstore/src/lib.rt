@@ -6,12 +6,13 @@
 //! for next in &store.successors(Some(tip))? {
 //!     println!(rt; "{}", next.block().number())?;
 //! }
-//! store.drop_up_to(immutable_tip.number);
+//! store.drop_up_to(immutable_tip);
 //! ```
 #![tactic(auto)]
 
 mod insert_fault;
 mod keys;
+mod placed_block;
 mod reach;
 mod shelf;
 mod store;

@@ -1,20 +1,27 @@
-//! The live blocks, found by hash, by the block before them, and by number.
+//! The live blocks, found by hash, by the block before them, and by number, each with the note of whether a way leads
+//! to it.
 
-ghost use Rattle.std.specs.Prelude.{◌≡◌, [], ◌∷◌, ◌++◌, ◌≤◌, length, false, map, option_map, Contains};
-ghost use Rattle.std.specs.Prelude.{MatchOption, IfOk, OnOk, OnErr};
-ghost use Rattle.std.specs.Ordering.{is_gt};
+ghost use Rattle.std.specs.Prelude.{◌≡◌, ◌↔◌, ◌∷◌, [], ◌++◌, ◌+◌, ◌≤◌, length, false, map, option_map, Contains};
+ghost use Rattle.std.specs.Prelude.{IsTrue, Some, MatchOption, IfOk, OnOk, OnErr, vec_len, vec_capacity};
 ghost use Rattle.std.specs.BTreeSet.{keys_between, IsOrdered};
 ghost use Rattle.std.specs.declared.ops.Bound.TheVariants.{Included};
 ghost use Rattle.model.specs.Block.{block_hash_of};
 ghost use Rattle.model.specs.Chain.{HaveDistinctHashes};
-ghost use Rattle.block.specs.View.{bytes_of as hash_bytes};
+ghost use Rattle.block.specs.View.{tip_of, bytes_of as hash_bytes};
 ghost use Rattle.blockstore.specs.Tests.{marked_at};
-ghost use Rattle.blockstore.specs.Keys.{link_cmp};
+ghost use Rattle.blockstore.specs.Keys.{hash_cmp, link_cmp, first_link, last_link};
+ghost use Rattle.std.specs.BTreeMap as tree;
+ghost use Rattle.blockstore.specs.Placed.{is_noted, nothing_held, blocks_in, notes_in, stored_at};
+ghost use Rattle.blockstore.specs.Placed.{IsKeyed, AreSameBlocks};
 ghost use Rattle.blockstore.specs.Shelves.{IsSame, AreApart, AreAfter, AreLinksAfter};
-ghost use Rattle.blockstore.specs.Shelves.{HasNone, ArePast, IsThere, IsWithout};
+ghost use Rattle.blockstore.specs.Shelves.{HasNone, HasPast, ArePast, IsThere, IsWithout};
+ghost use Rattle.blockstore.specs.Ways.{HasStep, HasParent, IsNotedAt, IsPlaceOf, FollowsOne, Stands, AllStand};
+ghost use Rattle.blockstore.specs.Ways.{AreTurning, AreSameNotes, IsLookedAt, may_turn};
 
 use crate::keys::{Age, Bytes, Link, bytes_of};
+use crate::placed_block::PlacedBlock;
 use crate::stored_block::StoredBlock;
+use block::{CheckedBlock, Tip};
 use ident::BlockHash;
 use std::alloc::{AllocError, Global};
 use std::collections::btree_set::Range;
@@ -28,41 +35,74 @@ const LEAST: Bytes = [0; 32];
 /// The greatest hash.
 const GREATEST: Bytes = [255; 32];
 
-/// The links from the first of these to the last.
-fn links_between(
-    alloc: Global,
-    links: &BTreeSet<Link>,
-    first: Link,
-    last: Link,
-) -> Result<Vec<&Link>, AllocError>
-    requires { is_gt (link_cmp first last) ≡ false }
-    ensures all { IfOk result (λ found.
-        map (λ l. l.now) found.items ≡ keys_between link_cmp (Included first) (Included last) links.now) }
+/// The links of the blocks that name the one with this hash as the block before them, one after the other. A look-up;
+/// takes no memory.
+fn links_of(links: &BTreeSet<Link>, previous: Option<Bytes>) -> Range<'_, Link>
+    ensures between { result
+        ≡ keys_between link_cmp (Included (first_link previous)) (Included (last_link previous)) links.now }
     ensures ordered { IsOrdered link_cmp links.now }
 {
-    links.range(first..=last).collect(alloc)
+    let first = Link {
+        previous,
+        hash: LEAST,
+    };
+    let last = Link {
+        previous,
+        hash: GREATEST,
+    };
+    links.range(first..=last)
 }
 
-/// Blocks, no two of one hash. In contracts they are a list in no order that is spoken of.
+/// Looks at the block of this hash behind a place where notes turn: where its own turns, its place waits. A look-up;
+/// takes no memory.
+fn look_at<S: SigScheme>(
+    blocks: &mut BTreeMap<Bytes, PlacedBlock<S>>,
+    waiting: &mut Vec<Tip>,
+    hash: &Bytes,
+    before: &Tip,
+    root: Option<Tip>,
+    reached: bool,
+)
+    requires keyed { IsKeyed blocks.old }
+    requires room { vec_len waiting.old + may_turn (blocks_in blocks.old) reached (notes_in blocks.old)
+        ≤ vec_capacity waiting.old }
+    ensures same { AreSameBlocks blocks.old blocks.new }
+    ensures ordered { tree.IsOrdered hash_cmp blocks.new }
+    ensures looked { MatchOption (stored_at blocks.old hash.now)
+        (AreSameNotes (notes_in blocks.old) (notes_in blocks.new) × (waiting.new.items ≡ waiting.old.items))
+        (λ x. IsLookedAt (tip_of before.now) (option_map tip_of root) reached x (notes_in blocks.old)
+        (notes_in blocks.new) waiting.old.items waiting.new.items) }
+    ensures fewer { vec_len waiting.new + may_turn (blocks_in blocks.old) reached (notes_in blocks.new)
+        ≤ vec_len waiting.old + may_turn (blocks_in blocks.old) reached (notes_in blocks.old) }
+    ensures room { vec_capacity waiting.old ≤ vec_capacity waiting.new }
+{
+    let Some(placed) = blocks.get_mut(hash) else {
+        return;
+    };
+    if placed.turn(before, root, reached) {
+        let _ = waiting.push(Tip::at(placed.block()));
+    }
+}
+
+/// Blocks, no two of one hash, and of each the note whether a way leads to it. In contracts the blocks are a list in no
+/// order that is spoken of, and the notes are found by hash.
 #[derive(Drop)]
 pub struct Shelf<S: SigScheme> {
-    blocks: BTreeMap<Bytes, StoredBlock<S>>,
+    blocks: BTreeMap<Bytes, PlacedBlock<S>>,
     links: BTreeSet<Link>,
     ages: BTreeSet<Age>,
 }
 
 impl<S: SigScheme> Model for Shelf<S> {
-    ghost use Rattle.std.specs.Prelude.{List};
-    ghost use Rattle.std.specs.Coded.{coded_list};
-    ghost use Rattle.blockstore.specs.Stored.{Stored, coded_stored};
+    ghost use Rattle.blockstore.specs.Placed.{Held, coded_held};
 
-    ghost Value = { List Stored };
+    ghost Value = { Held };
 
-    ghost coded = { coded_list coded_stored };
+    ghost coded = { coded_held };
 
-    ghost use Rattle.blockstore.specs.HeldShelf.{blocks_on, IsInStep};
+    ghost use Rattle.blockstore.specs.HeldShelf.{held_on, IsInStep};
 
-    ghost view = { blocks_on };
+    ghost view = { held_on };
 
     ghost invariant = { IsInStep };
 }
@@ -70,7 +110,7 @@ impl<S: SigScheme> Model for Shelf<S> {
 impl<S: SigScheme> Shelf<S> {
     /// No block.
     pub fn new(alloc: Global) -> Shelf<S>
-        ensures { result ≡ [] }
+        ensures { result ≡ nothing_held }
     {
         Shelf {
             blocks: BTreeMap::new(alloc),
@@ -81,44 +121,50 @@ impl<S: SigScheme> Shelf<S> {
 
     /// How many there are, in constant time.
     pub fn len(&self) -> usize
-        ensures { result ≡ length self.now }
+        ensures { result ≡ length self.now.blocks }
     {
         self.blocks.len()
     }
 
     /// The block with this hash, if there is one. A look-up.
     pub fn with_hash(&self, hash: BlockHash) -> Option<&StoredBlock<S>>
-        ensures found { MatchOption result (HasNone self.now hash.bytes)
-            (λ found. Contains self.now found.now × (block_hash_of found.now.block ≡ hash.bytes)) }
-        ensures apart { AreApart self.now }
+        ensures { MatchOption result (HasNone self.now.blocks hash.bytes)
+            (λ found. Contains self.now.blocks found.now × (block_hash_of found.now.block ≡ hash.bytes)) }
     {
-        self.at(hash.as_bytes())
+        let Some(placed) = self.at(hash.as_bytes()) else {
+            return None;
+        };
+        Some(placed.stored())
     }
 
-    /// The block with the hash of these bytes, if there is one. A look-up.
-    pub fn at(&self, hash: &Bytes) -> Option<&StoredBlock<S>>
-        ensures found { MatchOption result (HasNone self.now hash.now)
-            (λ found. Contains self.now found.now × (block_hash_of found.now.block ≡ hash.now)) }
-        ensures apart { AreApart self.now }
+    /// The block with the hash of these bytes, if there is one, with its note. A look-up.
+    fn at(&self, hash: &Bytes) -> Option<&PlacedBlock<S>>
+        ensures found { MatchOption result (HasNone self.now.blocks hash.now)
+            (λ found. Contains self.now.blocks found.now.stored × (block_hash_of found.now.stored.block ≡ hash.now)
+            × (is_noted self.now.notes hash.now ≡ found.now.reached)) }
+        ensures apart { AreApart self.now.blocks }
     {
         self.blocks.get(hash)
     }
 
-    /// The links of the blocks that name the one with this hash as the block before them, one after the other. A
-    /// look-up; takes no memory.
-    pub fn links_of(&self, previous: Option<Bytes>) -> Range<'_, Link>
-        ensures all { AreLinksAfter self.now previous result }
-        ensures apart { AreApart self.now }
+    /// Whether the block, which need not be here, follows the root, or one to which a way leads. A look-up.
+    pub fn connects(&self, root: &Tip, block: &CheckedBlock<S>) -> bool
+        ensures { IsTrue result ↔ HasStep (Some (tip_of root.now)) self.now.blocks self.now.notes block.now }
     {
-        let first = Link {
-            previous,
-            hash: LEAST,
+        root.precedes(block) || self.has_parent(block)
+    }
+
+    /// Whether it follows a block to which a way leads.
+    fn has_parent(&self, block: &CheckedBlock<S>) -> bool
+        ensures { IsTrue result ↔ HasParent self.now.blocks self.now.notes block.now }
+    {
+        let Some(previous) = block.previous() else {
+            return false;
         };
-        let last = Link {
-            previous,
-            hash: GREATEST,
+        let Some(parent) = self.at(previous.as_bytes()) else {
+            return false;
         };
-        self.links.range(first..=last)
+        parent.is_reached() && Tip::at(parent.block()).precedes(block)
     }
 
     /// The blocks that name this one as the block before them. A look-up, and one more for each.
@@ -128,47 +174,64 @@ impl<S: SigScheme> Shelf<S> {
         previous: Option<BlockHash>,
     ) -> Result<Vec<&StoredBlock<S>>, AllocError>
         ensures { IfOk result (λ found.
-            AreAfter self.now (option_map hash_bytes previous) (map (λ x. x.now) found.items)) }
+            AreAfter self.now.blocks (option_map hash_bytes previous) (map (λ x. x.now) found.items)) }
     {
-        let links = self.links_after(alloc, bytes_of(previous))?;
         let mut found = Vec::new(alloc);
-        for link in &links {
-            if let Some(stored) = self.blocks.get(&link.hash) {
-                found.push(stored)?;
+        for link in links_of(&self.links, bytes_of(previous)) {
+            if let Some(placed) = self.blocks.get(&link.hash) {
+                found.push(placed.stored())?;
             }
         }
         Ok(found)
     }
 
-    /// The links of the blocks that name the one with this hash as the block before them.
-    fn links_after(&self, alloc: Global, previous: Option<Bytes>) -> Result<Vec<&Link>, AllocError>
-        ensures { IfOk result (λ links. AreLinksAfter self.now previous (map (λ l. l.now) links.items)) }
+    /// Looks behind a place where notes turn to this, at the blocks that name it as the one before them: where the note
+    /// of one turns, its place waits. A look-up, and one more for each; takes no memory.
+    pub fn look_behind(
+        &mut self,
+        waiting: &mut Vec<Tip>,
+        before: &Tip,
+        root: Option<Tip>,
+        reached: bool,
+    )
+        requires room { vec_len waiting.old + may_turn self.old.blocks reached self.old.notes
+            ≤ vec_capacity waiting.old }
+        requires stands { Stands (option_map tip_of root) self.old.blocks reached self.old.notes (tip_of before.now) }
+        requires all_stand { AllStand (option_map tip_of root) self.old.blocks reached self.old.notes
+            waiting.old.items }
+        requires turning { AreTurning (option_map tip_of root) self.old.blocks reached
+            (FollowsOne (before.now ∷ waiting.old.items)) self.old.notes }
+        ensures blocks { self.new.blocks ≡ self.old.blocks }
+        ensures all_stand { AllStand (option_map tip_of root) self.new.blocks reached self.new.notes waiting.new.items }
+        ensures turning { AreTurning (option_map tip_of root) self.new.blocks reached (FollowsOne waiting.new.items)
+            self.new.notes }
+        ensures fewer { vec_len waiting.new + may_turn self.new.blocks reached self.new.notes
+            ≤ vec_len waiting.old + may_turn self.old.blocks reached self.old.notes }
+        ensures room { vec_capacity waiting.old ≤ vec_capacity waiting.new }
     {
-        let first = Link {
-            previous,
-            hash: LEAST,
-        };
-        let last = Link {
-            previous,
-            hash: GREATEST,
-        };
-        links_between(alloc, &self.links, first, last)
+        let blocks = &mut self.blocks;
+        for link in links_of(&self.links, bytes_of(before.hash)) {
+            look_at(blocks, waiting, &link.hash, before, root, reached);
+        }
     }
 
-    /// Puts a block there whose hash none of them has. Err where memory runs out: nothing changes.
-    pub fn put(&mut self, stored: StoredBlock<S>) -> Result<(), AllocError>
-        requires { HasNone self.old (block_hash_of stored.block) }
-        ensures ok { OnOk result (IsSame self.new (self.old ++ stored ∷ [])) }
+    /// Puts a block there whose hash none of them has, with the note whether a way leads to it. A look-up in each of
+    /// the three trees. Err where memory runs out: nothing changes.
+    pub fn put(&mut self, placed: PlacedBlock<S>) -> Result<(), AllocError>
+        requires { HasNone self.old.blocks (block_hash_of placed.stored.block) }
+        ensures ok { OnOk result (IsSame self.new.blocks (self.old.blocks ++ placed.stored ∷ [])) }
+        ensures notes { OnOk result (IsNotedAt (block_hash_of placed.stored.block) placed.reached self.old.notes
+            self.new.notes) }
         ensures err { OnErr result (self.new ≡ self.old) }
     {
-        let link = Link::of(stored.block());
-        let age = Age::of(stored.block());
+        let link = Link::of(placed.block());
+        let age = Age::of(placed.block());
         self.links.insert(link)?;
         if self.ages.insert(age).is_err() {
             self.links.remove(&link);
             return Err(AllocError);
         }
-        if self.blocks.insert(link.hash, stored).is_err() {
+        if self.blocks.insert(link.hash, placed).is_err() {
             self.links.remove(&link);
             self.ages.remove(&age);
             return Err(AllocError);
@@ -176,22 +239,36 @@ impl<S: SigScheme> Shelf<S> {
         Ok(())
     }
 
-    /// Marks the block with this hash, if there is one. A look-up; takes no memory.
-    pub fn mark(&mut self, hash: BlockHash)
-        ensures { IsSame self.new (map (marked_at hash.bytes) self.old) }
+    /// Marks the block with this hash, if there is one, so that no way leads on by it. Answers where it stands, if one
+    /// led to it until then. A look-up; takes no memory.
+    pub fn mark(&mut self, hash: BlockHash) -> Option<Tip>
+        ensures blocks { IsSame self.new.blocks (map (marked_at hash.bytes) self.old.blocks) }
+        ensures notes { IsNotedAt hash.bytes false self.old.notes self.new.notes }
+        ensures place { IsPlaceOf self.old hash.bytes (option_map tip_of result) }
+        ensures apart { AreApart self.new.blocks }
     {
-        let Some(stored) = self.blocks.get_mut(hash.as_bytes()) else {
-            return;
+        let Some(placed) = self.blocks.get_mut(hash.as_bytes()) else {
+            return None;
         };
-        stored.mark();
+        placed.mark()
+    }
+
+    /// Whether one of them has a number past this one. Looks at the newest alone.
+    pub fn goes_past(&self, number: u64) -> bool
+        ensures { IsTrue result ↔ HasPast number self.now.blocks }
+    {
+        match self.ages.last() {
+            Some(newest) => newest.number > number,
+            None => false,
+        }
     }
 
     /// The least age, if it is up to this number. A look-up.
     pub fn oldest_up_to(&self, number: u64) -> Option<Age>
-        ensures oldest { MatchOption result (ArePast number self.now)
-            (λ age. IsThere self.now age × (age.number ≤ number)) }
+        ensures oldest { MatchOption result (ArePast number self.now.blocks)
+            (λ age. IsThere self.now.blocks age × (age.number ≤ number)) }
         // No two blocks have one hash.
-        ensures distinct { HaveDistinctHashes (map (λ s. s.block) self.now) }
+        ensures distinct { HaveDistinctHashes (map (λ s. s.block) self.now.blocks) }
     {
         let Some(oldest) = self.ages.first() else {
             return None;
@@ -202,15 +279,20 @@ impl<S: SigScheme> Shelf<S> {
         Some(*oldest)
     }
 
-    /// Takes out the block at this age. A look-up; takes no memory.
-    pub fn remove(&mut self, age: Age)
-        requires { IsThere self.old age }
-        ensures { IsWithout self.old age self.new }
+    /// Takes out the block at this age. Answers where it stood, if a way led to it. A look-up in each of the three
+    /// trees; takes no memory.
+    pub fn remove(&mut self, age: Age) -> Option<Tip>
+        requires { IsThere self.old.blocks age }
+        ensures blocks { IsWithout self.old.blocks age self.new.blocks }
+        ensures notes { IsNotedAt age.hash false self.old.notes self.new.notes }
+        ensures place { IsPlaceOf self.old age.hash (option_map tip_of result) }
     {
-        let Some(stored) = self.blocks.remove(&age.hash) else {
-            return;
+        let Some(gone) = self.blocks.remove(&age.hash) else {
+            return None;
         };
-        self.links.remove(&Link::of(stored.block()));
+        let link = Link::of(gone.block());
+        self.links.remove(&link);
         self.ages.remove(&age);
+        gone.place()
     }
 }

@@ -9,6 +9,7 @@ ghost use Rattle.block.specs.View.{bytes_of, tip_of};
 ghost use Rattle.blockstore.specs.Stored.{empty_store, IsSet, HasBlock};
 ghost use Rattle.blockstore.specs.Insertion.{IsKnown, IsFull, IsAllowed, IsInsertFault, IsInserted};
 ghost use Rattle.blockstore.specs.Answers.{HasNoneAt, IsAt, AreSuccessors, IsMarkSet, IsCutTo};
+ghost use Rattle.blockstore.specs.Shelves.{HasPast};
 ghost use Rattle.blockstore.specs.Ways.{HasWay};
 ghost use Rattle.blockstore.specs.Live.{HoldsNothing, GainsLive, FollowsChain, KeepsLive};
 
@@ -121,16 +122,26 @@ impl<S: SigScheme> BlockStore<S> {
     }
 
     /// Whether a way leads to this block, which need not be live: live blocks without marks, each following the one
-    /// before it, the first of them the place that chains go through. Where none does, no chain through that place can
-    /// have it.
+    /// before it, the first of them following the place that chains go through. Where none does, no chain of live
+    /// blocks without marks leads from that place to it.
     pub fn connects(&self, block: &CheckedBlock<S>) -> bool
         ensures { IsTrue result ↔ HasWay self.now.root self.now.blocks block.now }
     {
-        self.reach.connects(&self.blocks, Some(self.root), block)
+        self.blocks.connects(&self.root, block)
+    }
+
+    /// Whether a live block has a number past this one: where none has, none goes on from a block with this number. Looks
+    /// at the newest of them alone.
+    pub fn goes_past(&self, number: u64) -> bool
+        ensures { IsTrue result ↔ HasPast number self.now.blocks }
+    {
+        self.blocks.goes_past(number)
     }
 
     /// Takes the block in, without a mark. Err where one of the reasons applies, and then nothing changes. A mark will
-    /// take no more memory. Texts are compared where hashes agree, and then that of one block.
+    /// take no more memory. Texts are compared where hashes agree, and then that of one block. Where a way leads to the
+    /// block, it looks behind it, and behind each that one leads to from then on: a look-up, and one more for each
+    /// block that is found there.
     pub fn insert(&mut self, block: CheckedBlock<S>) -> Result<(), InsertFault>
         ensures ok { OnOk result (IsAllowed self.old block × IsInserted self.old block self.new) }
         ensures err { IfErr result (λ fault. IsInsertFault self.old block fault × (self.new ≡ self.old)) }
@@ -151,7 +162,7 @@ impl<S: SigScheme> BlockStore<S> {
         }
         if self
             .reach
-            .take_in(&mut self.blocks, Some(self.root), block)
+            .take_in(&mut self.blocks, self.root, block)
             .is_err()
         {
             return Err(InsertFault::OutOfMemory);
@@ -160,27 +171,26 @@ impl<S: SigScheme> BlockStore<S> {
     }
 
     /// Marks the live block with this hash as one that no valid chain will ever have. Nothing changes where no live
-    /// block has the hash. Takes no memory.
+    /// block has the hash. Where a way led to the block, it looks behind it, and behind each that none leads to from
+    /// then on: a look-up, and one more for each block that is found there. Takes no memory.
     pub fn mark_invalid(&mut self, hash: BlockHash)
         ensures marks { IsMarkSet self.old hash.bytes self.new }
         ensures set { IsSet self.new }
         ensures live { KeepsLive self.old self.new }
     {
-        self.blocks.mark(hash);
-        self.reach
-            .look_from(&self.blocks, Some(self.root), hash, false);
+        self.reach.mark(&mut self.blocks, self.root, hash);
     }
 
     /// Takes out all blocks with a number up to that of this place, which all chains go through from then on: the
-    /// immutable tip of the selected one. Takes look-ups for each that goes, and for each that hangs on one of them.
-    /// Where no way led to the place, it takes look-ups for all. Takes no memory.
+    /// immutable tip of the selected one. Takes look-ups for each that goes, and for each that hangs on another of them
+    /// than the one at the place. Where no way led to the place, it takes look-ups for all. Takes no memory.
     pub fn drop_up_to(&mut self, root: Tip)
         ensures cut { IsCutTo self.old root.number self.new }
         ensures root { self.new.root ≡ tip_of root }
         ensures set { IsSet self.new }
         ensures live { FollowsChain self.old root.number self.new }
     {
-        self.reach.rise(&mut self.blocks, &self.root, root);
+        self.reach.rise(&mut self.blocks, &self.root, &root);
         self.root = root;
     }
 }

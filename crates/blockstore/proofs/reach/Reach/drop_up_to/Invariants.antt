@@ -1,5 +1,6 @@
 use Rattle.std.proofs.Common.{◌+◌, ◌≤◌, length, map, MatchOption, vec_len, vec_capacity}
 use Rattle.model.specs.Chain.{HaveDistinctHashes}
+use Rattle.block.specs.View.{tip_of}
 use Rattle.blockstore.specs.Stored.{Stored}
 use Rattle.blockstore.specs.Shelves.{ArePast, IsThere, IsLeft}
 use Rattle.blockstore.specs.Ways.{AreDropped}
@@ -8,12 +9,12 @@ use Rattle.blockstore.proofs.reach.Reach.drop_up_to.Given as goal
 -- the oldest one is known; of those there were, all past the number are left
 abbrev pub invariant-loop-oldest : goal.invariant-loop-oldest
 invariant-loop-oldest g l = record {
-  oldest : MatchOption l.oldest (ArePast l.number l.blocks) (λ age. IsThere l.blocks age × (age.number ≤ l.number));
-  distinct : HaveDistinctHashes (map (λ (s : Stored). s.block) l.blocks);
-  left : IsLeft l.number l.initial.blocks l.blocks;
-  dropped : AreDropped l.initial.blocks l.blocks l.initial.self.notes l.self.notes l.self.waiting.items;
-  room : vec_len l.self.waiting + length l.blocks ≤ vec_capacity l.self.waiting;
+  oldest : MatchOption l.oldest (ArePast l.root.number l.blocks.blocks) (λ age. IsThere l.blocks.blocks age × (age.number ≤ l.root.number));
+  distinct : HaveDistinctHashes (map (λ (s : Stored). s.block) l.blocks.blocks);
+  left : IsLeft l.root.number l.initial.blocks.blocks l.blocks.blocks;
+  dropped : AreDropped l.initial.blocks l.blocks (tip_of l.root) l.leads l.self.waiting.items;
+  room : vec_len l.self.waiting + length l.blocks.blocks ≤ vec_capacity l.self.waiting;
 }
 
 abbrev pub decreases-loop-oldest : goal.decreases-loop-oldest
-decreases-loop-oldest g l = length l.blocks
+decreases-loop-oldest g l = length l.blocks.blocks

@@ -1,43 +1,64 @@
-use Rattle.std.proofs.Common.{◌≡◌, ◌∙◌, ap, subst, sym, map, List, Bor, option_map}
-use Rattle.std.specs.BTreeMap.{values}
-use Rattle.std.proofs.lemmas.List.{take_all}
+use Rattle.std.proofs.Common.{◌≡◌, ◌∙◌, ◌++◌, refl, ap, subst, sym, map, Contains, List, Bor, option_map}
+use Rattle.model.specs.Block.{block_hash_of}
+use Rattle.model.proofs.Lists.{contains_first, contains_later, nothing_contained}
 use Rattle.block.specs.View.{bytes_of as hash_bytes}
 use Rattle.blockstore.specs.Stored.{Stored}
-use Rattle.blockstore.specs.Shelves.{AreAfter, AreLinksAfter}
+use Rattle.blockstore.specs.Placed.{Held, blocks_in}
+use Rattle.blockstore.specs.Shelves.{AreAfter}
 use Rattle.blockstore.specs.declared.keys.Link.{Link}
 use Rattle.blockstore.proofs.Shelves.{value_at}
-use Rattle.blockstore.proofs.LinkRanges.{are_after, one_found, still_within, is_found, found_there, hashes_found, hashes_linked}
+use Rattle.blockstore.proofs.LinkRanges.{are_links, are_after, one_found, still_within, is_found, found_there, hashes_found, hashes_of, links_behind, ends_here}
 use Rattle.blockstore.proofs.shelf.Shelf.after.Goals as goal
-use Rattle.blockstore.proofs.shelf.Shelf.after.Goals.{in-Some+in_ok-push, in_default}
+
+pub loop-link-init : goal.loop-link-init
+loop-link-init g c =
+    let previous = option_map hash_bytes c.args.previous in
+    let is : c.into_iter-link-iterator.result ≡ links_behind c.self.inside.links previous =
+    c.into_iter-link-iterator.ensures.into_iter_gives ∙ (c.links_of-link-items.ensures.between ∙ ap (links_behind c.self.inside.links) c.bytes_of.ensures) in
+    record {
+      can_next = tt;
+      is_finite = tt;
+      so_far = ap (λ (found : List (Bor Stored)). hashes_found found ++ hashes_of c.into_iter-link-iterator.result) c.new-found.ensures.items ∙ ap hashes_of is;
+      left = λ k member. subst (λ (ls : List Link). Contains ls k) is member;
+      within = λ x member. absurd (nothing_contained x (subst (λ (found : List (Bor Stored)). Contains (map (λ (y : Bor Stored). y.now) found) x) c.new-found.ensures.items member));
+    }
+
+pub loop-link-preserved-in-Continue-1 : goal.loop-link-preserved-in-Continue-1
+loop-link-preserved-in-Continue-1 g c =
+    let m = c.self.inside.blocks in
+    let k : Link = c.in-Some.link.now in
+    let all = links_behind c.self.inside.links (option_map hash_bytes c.args.previous) in
+    let inv = c.loop-link.invariant in
+    let there = found_there m k.hash c.get.result c.in-Some-get.placed c.get.ensures.value c.in-Some-get.is in
+    let same : c.stored.result.now ≡ c.in-Some-get.placed.now.stored = c.stored.ensures in
+    let so_far = subst (λ (ls : List Link). hashes_found c.loop-link.found.items ++ hashes_of ls ≡ hashes_of all) c.in-Some.ensures.steps inv.so_far in
+    let left = subst (λ (ls : List Link). (j : Link) → Contains ls j → Contains all j) c.in-Some.ensures.steps inv.left in
+    record {
+      can_next = tt;
+      is_finite = tt;
+      so_far = one_found k c.next.new.self (hashes_of all) c.loop-link.found.items c.push.new.self.items c.stored.result c.in_ok-push.ensures.items
+          (ap (λ (x : Stored). block_hash_of x.block) same ∙ c.self.invariant.keyed k.hash c.in-Some-get.placed.now.stored there) so_far;
+      left = λ j member. left j (contains_later k c.next.new.self j member);
+      within = still_within m c.loop-link.found.items c.push.new.self.items c.stored.result c.in_ok-push.ensures.items (subst (Contains (blocks_in m)) (sym same) (value_at m k.hash c.in-Some-get.placed.now.stored there)) inv.within;
+    }
 
 pub loop-link-preserved : goal.loop-link-preserved
 loop-link-preserved g c =
     let m = c.self.inside.blocks in
-    let links = c.deref-link-items.result.now in
-    let i = c.loop-link.link-index in
-    let are : AreLinksAfter (values m) c.bytes_of.result (map (λ (k : Bor Link). k.now) links) =
-    subst (λ (ls : List (Bor Link)). AreLinksAfter (values m) c.bytes_of.result (map (λ (k : Bor Link). k.now) ls)) (sym c.deref-link-items.ensures.value)
-    (subst (λ (xs : List Stored). AreLinksAfter xs c.bytes_of.result (map (λ (k : Bor Link). k.now) c.in_ok-links.links.items)) (sym c.self.view_is) c.in_ok-links.ensures) in
-    elim c.match-get.branch [
-      | in-Some+in_ok-push w ↦
-          let there = found_there m _ c.get.result w.in-Some.stored c.get.ensures.value w.in-Some.is in
-          rw w.found-is (
-            one_found links i _ c.loop-link.found.items w.push.new.self.items w.in-Some.stored c.loop-link-test.true w.in_ok-push.ensures.items (c.self.invariant.keyed _ w.in-Some.stored.now there) c.loop-link.invariant.0,
-            still_within m c.loop-link.found.items w.push.new.self.items w.in-Some.stored w.in_ok-push.ensures.items (value_at m _ w.in-Some.stored.now there) c.loop-link.invariant.1,
-          )
-      | in_default w ↦ absurd (is_found m c.bytes_of.result links i _ c.get.result c.self.invariant.ordered c.self.invariant.keyed are c.loop-link-test.true c.get.ensures.value w.in_default.not-Some)
-    ]
+    let k : Link = c.in-Some.link.now in
+    let previous = option_map hash_bytes c.args.previous in
+    let all = links_behind c.self.inside.links previous in
+    let left = subst (λ (ls : List Link). (j : Link) → Contains ls j → Contains all j) c.in-Some.ensures.steps c.loop-link.invariant.left in
+    let are = are_links m c.self.inside.links previous all c.self.invariant.ordered c.self.invariant.keyed c.self.invariant.links c.links_of-link-items.ensures.ordered refl in
+    absurd (is_found m previous all k c.get.result c.self.invariant.ordered c.self.invariant.keyed are (left k (contains_first k c.next.new.self)) c.get.ensures.value c.in_default.not-Some)
 
 pub returns : goal.returns
 returns g c =
     let m = c.self.inside.blocks in
-    let links = c.deref-link-items.result.now in
     let found = c.loop-link.found.items in
-    let are : AreLinksAfter (values m) c.bytes_of.result (map (λ (k : Bor Link). k.now) links) =
-    subst (λ (ls : List (Bor Link)). AreLinksAfter (values m) c.bytes_of.result (map (λ (k : Bor Link). k.now) ls)) (sym c.deref-link-items.ensures.value)
-    (subst (λ (xs : List Stored). AreLinksAfter xs c.bytes_of.result (map (λ (k : Bor Link). k.now) c.in_ok-links.links.items)) (sym c.self.view_is) c.in_ok-links.ensures) in
-    let all : hashes_found found ≡ hashes_linked links =
-    c.loop-link.invariant.0 ∙ ap hashes_linked (take_all c.loop-link.link-index links c.loop-link-test.false) in
-    subst (λ (xs : List Stored). AreAfter xs (option_map hash_bytes c.args.previous) (map (λ (x : Bor Stored). x.now) found)) c.self.view_is
-    (subst (λ p. AreAfter (values m) p (map (λ (x : Bor Stored). x.now) found)) c.bytes_of.ensures
-    (are_after m c.bytes_of.result (map (λ (k : Bor Link). k.now) links) (map (λ (x : Bor Stored). x.now) found) c.self.invariant.ordered c.self.invariant.keyed are all c.loop-link.invariant.1))
+    let previous = option_map hash_bytes c.args.previous in
+    let all = links_behind c.self.inside.links previous in
+    let are = are_links m c.self.inside.links previous all c.self.invariant.ordered c.self.invariant.keyed c.self.invariant.links c.links_of-link-items.ensures.ordered refl in
+    let so_far = subst (λ (ls : List Link). hashes_found found ++ hashes_of ls ≡ hashes_of all) c.in-None.ensures.steps.0 c.loop-link.invariant.so_far in
+    subst (λ (h : Held). AreAfter h.blocks previous (map (λ (x : Bor Stored). x.now) found)) c.self.view_is
+    (are_after m previous all (map (λ (x : Bor Stored). x.now) found) c.self.invariant.ordered c.self.invariant.keyed are (sym (ends_here (hashes_found found)) ∙ so_far) c.loop-link.invariant.within)

@@ -1,90 +1,98 @@
 use Rattle.std.proofs.Common.{◌≡◌, ◌++◌, ◌∷◌, [], ℕ, ◌+◌, ap, subst, sym, ◌∙◌, List, Option, None, Some}
 use Rattle.std.specs.Prelude.{is_some, if◌then◌else◌}
 use Rattle.std.specs.List.{list_any}
-use Rattle.std.specs.Map.{lookup}
-use Rattle.std.specs.BTreeMap.{get, values, is_at, btree_map_len}
-use Rattle.std.specs.BTreeMap as tree
+use Rattle.std.specs.BTreeMap.{get, is_at, btree_map_len}
 use Rattle.model.specs.Block.{Block, block_hash_of}
-use Rattle.blockstore.specs.Stored.{Stored}
+use Rattle.blockstore.specs.Placed.{Placed, Held, stored_at, blocks_in, notes_in}
 use Rattle.blockstore.specs.Keys.{hash_cmp, link_cmp, age_cmp, IsLinkOf, IsAgeOf, AreKeysOf}
 use Rattle.blockstore.specs.Shelves.{IsSame, HasNone}
+use Rattle.blockstore.specs.Ways.{IsNotedAt}
 use Rattle.blockstore.specs.declared.keys.Link.{Link}
 use Rattle.blockstore.specs.declared.keys.Age.{Age}
-use Rattle.blockstore.proofs.KeySets.{exact_link, exact_age, link_names, one_link, age_names, one_age, keys_put, keys_same, keys_undone, key_is_free, on_ok, on_err, new_len}
-use Rattle.blockstore.proofs.Shelves.{free_at, keyed_put, same_put}
+use Rattle.blockstore.proofs.KeySets.{BecomesAt, becomes, exact_link, exact_age, link_names, one_link, age_names, one_age, keys_put, keys_same, keys_undone, key_is_free, on_ok, on_err, new_len}
+use Rattle.blockstore.proofs.Shelves.{unchanged_at, none_placed, noted_becomes, free_at, keyed_put, same_put}
 use Rattle.blockstore.proofs.shelf.Shelf.put.Goals as goal
 
 pub invariant_of-self-then-is_err : goal.invariant_of-self-then-is_err
 invariant_of-self-then-is_err g c =
     let m = c.self.inside.blocks in
-    let b = c.args.stored.block in
+    let b = c.args.placed.stored.block in
     let link : IsLinkOf b c.of-link.result = subst (λ (x : Block). IsLinkOf x c.of-link.result) c.block.ensures c.of-link.ensures in
-    let free : get hash_cmp m (block_hash_of b) ≡ None =
-    free_at m (block_hash_of b) c.self.invariant.keyed (subst (λ (xs : List Stored). HasNone xs (block_hash_of b)) (sym c.self.view_is) c.requires) in
+    let free : stored_at m (block_hash_of b) ≡ None =
+    free_at m (block_hash_of b) c.self.invariant.keyed (subst (λ (h : Held). HasNone h.blocks (block_hash_of b)) (sym c.self.view_is) c.requires) in
     let same : c.insert-2.new.self.keys ≡ c.self.inside.ages.keys = on_err _ c.insert-2.result c.if-is_err.ensures.value c.insert-2.ensures.err in
     record {
       ordered = c.self.invariant.ordered;
       keyed = c.self.invariant.keyed;
-      links = keys_undone link_cmp exact_link IsLinkOf (λ (l : Link). l.hash) link_names one_link c.self.inside.links c.insert.new.self c.remove.new.self m c.of-link.result c.self.invariant.links
+      links = keys_undone link_cmp exact_link IsLinkOf (λ (l : Link). l.hash) link_names one_link c.self.inside.links c.insert.new.self c.remove.new.self (stored_at m) c.of-link.result c.self.invariant.links
           c.in_ok-insert.ensures.updates c.remove.ensures.updates
-          (key_is_free link_cmp exact_link IsLinkOf (λ (l : Link). l.hash) link_names one_link c.self.inside.links m c.of-link.result b c.self.invariant.links link free c.self.invariant.keyed);
-      ages = subst (λ (ks : List Age). AreKeysOf IsAgeOf (λ k. list_any (is_at (age_cmp k)) ks) m) (sym same) c.self.invariant.ages;
+          (key_is_free link_cmp exact_link IsLinkOf (λ (l : Link). l.hash) link_names one_link c.self.inside.links (stored_at m) c.of-link.result b c.self.invariant.links link free c.self.invariant.keyed);
+      ages = subst (λ (ks : List Age). AreKeysOf IsAgeOf (λ k. list_any (is_at (age_cmp k)) ks) (stored_at m)) (sym same) c.self.invariant.ages;
     }
 
 pub invariant_of-self-then-is_err-2 : goal.invariant_of-self-then-is_err-2
 invariant_of-self-then-is_err-2 g c =
     let m = c.self.inside.blocks in
-    let b = c.args.stored.block in
+    let b = c.args.placed.stored.block in
     let link : IsLinkOf b c.of-link.result = subst (λ (x : Block). IsLinkOf x c.of-link.result) c.block.ensures c.of-link.ensures in
     let age : IsAgeOf b c.of-age.result = subst (λ (x : Block). IsAgeOf x c.of-age.result) c.block-2.ensures c.of-age.ensures in
-    let free : get hash_cmp m (block_hash_of b) ≡ None =
-    free_at m (block_hash_of b) c.self.invariant.keyed (subst (λ (xs : List Stored). HasNone xs (block_hash_of b)) (sym c.self.view_is) c.requires) in
+    let free : stored_at m (block_hash_of b) ≡ None =
+    free_at m (block_hash_of b) c.self.invariant.keyed (subst (λ (h : Held). HasNone h.blocks (block_hash_of b)) (sym c.self.view_is) c.requires) in
     let same : c.insert-3.new.self.entries ≡ m.entries = on_err _ c.insert-3.result c.if-is_err-2.ensures.value c.insert-3.ensures.err in
     let came = on_ok _ c.insert-2.result c.if-is_err.ensures.value c.insert-2.ensures.updates in
     record {
       ordered = c.insert-3.ensures.ordered;
-      keyed = λ q x there. c.self.invariant.keyed q x (ap (λ (es : List (List ℕ × Stored)). lookup (is_at (hash_cmp q)) es) (sym same) ∙ there);
-      links = keys_same IsLinkOf _ m c.insert-3.new.self same
-          (keys_undone link_cmp exact_link IsLinkOf (λ (l : Link). l.hash) link_names one_link c.self.inside.links c.insert.new.self c.remove-then-is_err-2.new.self m c.of-link.result c.self.invariant.links
+      keyed = λ q x there. c.self.invariant.keyed q x (sym (unchanged_at m c.insert-3.new.self same q) ∙ there);
+      links = keys_same IsLinkOf _ (stored_at m) (stored_at c.insert-3.new.self) (unchanged_at m c.insert-3.new.self same)
+          (keys_undone link_cmp exact_link IsLinkOf (λ (l : Link). l.hash) link_names one_link c.self.inside.links c.insert.new.self c.remove-then-is_err-2.new.self (stored_at m) c.of-link.result c.self.invariant.links
           c.in_ok-insert.ensures.updates c.remove-then-is_err-2.ensures.updates
-          (key_is_free link_cmp exact_link IsLinkOf (λ (l : Link). l.hash) link_names one_link c.self.inside.links m c.of-link.result b c.self.invariant.links link free c.self.invariant.keyed));
-      ages = keys_same IsAgeOf _ m c.insert-3.new.self same
-          (keys_undone age_cmp exact_age IsAgeOf (λ (a : Age). a.hash) age_names one_age c.self.inside.ages c.insert-2.new.self c.remove-then-is_err-2-2.new.self m c.of-age.result c.self.invariant.ages
+          (key_is_free link_cmp exact_link IsLinkOf (λ (l : Link). l.hash) link_names one_link c.self.inside.links (stored_at m) c.of-link.result b c.self.invariant.links link free c.self.invariant.keyed));
+      ages = keys_same IsAgeOf _ (stored_at m) (stored_at c.insert-3.new.self) (unchanged_at m c.insert-3.new.self same)
+          (keys_undone age_cmp exact_age IsAgeOf (λ (a : Age). a.hash) age_names one_age c.self.inside.ages c.insert-2.new.self c.remove-then-is_err-2-2.new.self (stored_at m) c.of-age.result c.self.invariant.ages
           came c.remove-then-is_err-2-2.ensures.updates
-          (key_is_free age_cmp exact_age IsAgeOf (λ (a : Age). a.hash) age_names one_age c.self.inside.ages m c.of-age.result b c.self.invariant.ages age free c.self.invariant.keyed));
+          (key_is_free age_cmp exact_age IsAgeOf (λ (a : Age). a.hash) age_names one_age c.self.inside.ages (stored_at m) c.of-age.result b c.self.invariant.ages age free c.self.invariant.keyed));
     }
 
 pub invariant_of-self-else-is_err-2 : goal.invariant_of-self-else-is_err-2
 invariant_of-self-else-is_err-2 g c =
     let m = c.self.inside.blocks in
     let p = c.insert-3.new.self in
-    let x = c.args.stored in
+    let x = c.args.placed in
     let hash = c.of-link.result.hash in
-    let link : IsLinkOf x.block c.of-link.result = subst (λ (b : Block). IsLinkOf b c.of-link.result) c.block.ensures c.of-link.ensures in
-    let age : IsAgeOf x.block c.of-age.result = subst (λ (b : Block). IsAgeOf b c.of-age.result) c.block-2.ensures c.of-age.ensures in
-    let free : get hash_cmp m hash ≡ None =
-    ap (get hash_cmp m) link.1 ∙ free_at m (block_hash_of x.block) c.self.invariant.keyed (subst (λ (xs : List Stored). HasNone xs (block_hash_of x.block)) (sym c.self.view_is) c.requires) in
+    let link : IsLinkOf x.stored.block c.of-link.result = subst (λ (b : Block). IsLinkOf b c.of-link.result) c.block.ensures c.of-link.ensures in
+    let age : IsAgeOf x.stored.block c.of-age.result = subst (λ (b : Block). IsAgeOf b c.of-age.result) c.block-2.ensures c.of-age.ensures in
+    let free : stored_at m hash ≡ None =
+    ap (stored_at m) link.1 ∙ free_at m (block_hash_of x.stored.block) c.self.invariant.keyed (subst (λ (h : Held). HasNone h.blocks (block_hash_of x.stored.block)) (sym c.self.view_is) c.requires) in
     let came = on_ok _ c.insert-2.result c.if-is_err.ensures.value c.insert-2.ensures.updates in
-    let put : tree.UpdatesBy hash_cmp (hash_cmp hash) m p (Some x) = on_ok _ c.insert-3.result c.if-is_err-2.ensures.value c.insert-3.ensures.updates in
+    let put : BecomesAt (stored_at m) (stored_at p) hash (Some x.stored) = becomes m p hash (Some x) (on_ok _ c.insert-3.result c.if-is_err-2.ensures.value c.insert-3.ensures.updates) in
     record {
       ordered = c.insert-3.ensures.ordered;
-      keyed = keyed_put m p hash x (sym link.1) put c.self.invariant.keyed;
-      links = keys_put link_cmp exact_link IsLinkOf (λ (l : Link). l.hash) link_names one_link c.self.inside.links c.insert.new.self m p c.of-link.result hash x c.self.invariant.links
+      keyed = keyed_put m p hash x.stored (sym link.1) put c.self.invariant.keyed;
+      links = keys_put link_cmp exact_link IsLinkOf (λ (l : Link). l.hash) link_names one_link c.self.inside.links c.insert.new.self (stored_at m) (stored_at p) c.of-link.result hash x.stored c.self.invariant.links
           c.in_ok-insert.ensures.updates put free link;
-      ages = keys_put age_cmp exact_age IsAgeOf (λ (a : Age). a.hash) age_names one_age c.self.inside.ages c.insert-2.new.self m p c.of-age.result hash x c.self.invariant.ages came put free age;
+      ages = keys_put age_cmp exact_age IsAgeOf (λ (a : Age). a.hash) age_names one_age c.self.inside.ages c.insert-2.new.self (stored_at m) (stored_at p) c.of-age.result hash x.stored c.self.invariant.ages came put free age;
     }
 
 pub returns-clause-ok : goal.returns-clause-ok
 returns-clause-ok g c =
     let m = c.self.inside.blocks in
     let p = c.insert-3.new.self in
-    let x = c.args.stored in
+    let x = c.args.placed in
     let hash = c.of-link.result.hash in
-    let link : IsLinkOf x.block c.of-link.result = subst (λ (b : Block). IsLinkOf b c.of-link.result) c.block.ensures c.of-link.ensures in
-    let free : get hash_cmp m hash ≡ None =
-    ap (get hash_cmp m) link.1 ∙ free_at m (block_hash_of x.block) c.self.invariant.keyed (subst (λ (xs : List Stored). HasNone xs (block_hash_of x.block)) (sym c.self.view_is) c.requires) in
-    let put : tree.UpdatesBy hash_cmp (hash_cmp hash) m p (Some x) = on_ok _ c.insert-3.result c.if-is_err-2.ensures.value c.insert-3.ensures.updates in
+    let link : IsLinkOf x.stored.block c.of-link.result = subst (λ (b : Block). IsLinkOf b c.of-link.result) c.block.ensures c.of-link.ensures in
+    let free : stored_at m hash ≡ None =
+    ap (stored_at m) link.1 ∙ free_at m (block_hash_of x.stored.block) c.self.invariant.keyed (subst (λ (h : Held). HasNone h.blocks (block_hash_of x.stored.block)) (sym c.self.view_is) c.requires) in
+    let put : BecomesAt (stored_at m) (stored_at p) hash (Some x.stored) = becomes m p hash (Some x) (on_ok _ c.insert-3.result c.if-is_err-2.ensures.value c.insert-3.ensures.updates) in
     let len : btree_map_len p ≡ btree_map_len m + 1 =
-    new_len (λ (old : Option Stored). btree_map_len m + (if is_some old then 0 else 1)) (get hash_cmp m hash) (btree_map_len p) c.insert-3.result c.if-is_err-2.ensures.value c.insert-3.ensures.old c.insert-3.ensures.len free in
-    subst (λ (xs : List Stored). IsSame (values p) (xs ++ x ∷ [])) c.self.view_is
-    (same_put m p hash x (sym link.1) put c.self.invariant.keyed free c.self.invariant.ordered c.insert-3.ensures.ordered len)
+    new_len (λ (old : Option Placed). btree_map_len m + (if is_some old then 0 else 1)) (get hash_cmp m hash) (btree_map_len p) c.insert-3.result c.if-is_err-2.ensures.value c.insert-3.ensures.old c.insert-3.ensures.len (none_placed (get hash_cmp m hash) free) in
+    subst (λ (h : Held). IsSame (blocks_in p) (h.blocks ++ x.stored ∷ [])) c.self.view_is
+    (same_put m p hash x.stored (sym link.1) put c.self.invariant.keyed free c.self.invariant.ordered c.insert-3.ensures.ordered len)
+
+pub returns-clause-notes : goal.returns-clause-notes
+returns-clause-notes g c =
+    let m = c.self.inside.blocks in
+    let x = c.args.placed in
+    let link : IsLinkOf x.stored.block c.of-link.result = subst (λ (b : Block). IsLinkOf b c.of-link.result) c.block.ensures c.of-link.ensures in
+    let noted = noted_becomes m c.insert-3.new.self c.of-link.result.hash (Some x) (on_ok _ c.insert-3.result c.if-is_err-2.ensures.value c.insert-3.ensures.updates) in
+    subst (λ (h : Held). IsNotedAt (block_hash_of x.stored.block) x.reached h.notes (notes_in c.insert-3.new.self)) c.self.view_is
+    (subst (λ (q : List ℕ). IsNotedAt q x.reached (notes_in m) (notes_in c.insert-3.new.self)) link.1 noted)

@@ -1,0 +1,111 @@
+//! A block as a shelf has it.
+
+ghost use Rattle.std.specs.Prelude.{◌≡◌, ◌↔◌, false, option_map, IsTrue};
+ghost use Rattle.block.specs.View.{tip_of};
+ghost use Rattle.blockstore.specs.Stored.{marked};
+ghost use Rattle.blockstore.specs.Placed.{place_of};
+ghost use Rattle.blockstore.specs.Ways.{IsLed, HasTurned, HasStayed};
+
+use crate::stored_block::StoredBlock;
+use block::{CheckedBlock, Tip};
+use std::marker::Model;
+use witness_pool::SigScheme;
+
+/// A live block, and whether it has no mark and a way leads to it: live blocks without marks, each following the one
+/// before it, the first of them following the root.
+#[derive(Drop)]
+pub struct PlacedBlock<S: SigScheme> {
+    stored: StoredBlock<S>,
+    reached: bool,
+}
+
+impl<S: SigScheme> Model for PlacedBlock<S> {
+    ghost use Rattle.blockstore.specs.Placed.{Placed, coded_placed};
+
+    ghost Value = { Placed };
+
+    ghost coded = { coded_placed };
+
+    ghost use Rattle.blockstore.specs.HeldPlaced.{placed_of};
+
+    ghost view = { placed_of };
+}
+
+impl<S: SigScheme> PlacedBlock<S> {
+    /// The block, and whether it has no mark and a way leads to it.
+    pub fn new(stored: StoredBlock<S>, reached: bool) -> PlacedBlock<S>
+        ensures { result ≡ record { stored = stored; reached = reached } }
+    {
+        PlacedBlock { stored, reached }
+    }
+
+    /// The block with its mark, if it has one.
+    pub fn stored(&self) -> &StoredBlock<S>
+        ensures { result.now ≡ self.now.stored }
+    {
+        &self.stored
+    }
+
+    /// The block.
+    pub fn block(&self) -> &CheckedBlock<S>
+        ensures { result.now ≡ self.now.stored.block }
+    {
+        self.stored.block()
+    }
+
+    /// Whether it has no mark and a way leads to it.
+    pub fn is_reached(&self) -> bool
+        ensures { result ≡ self.now.reached }
+    {
+        self.reached
+    }
+
+    /// Where it stands, if it has no mark and a way leads to it.
+    pub fn place(&self) -> Option<Tip>
+        ensures { option_map tip_of result ≡ place_of self.now }
+    {
+        if self.reached {
+            Some(Tip::at(self.stored.block()))
+        } else {
+            None
+        }
+    }
+
+    /// Marks the block, so that no way leads on by it. Answers where it stands, if one led to it until then.
+    pub fn mark(&mut self) -> Option<Tip>
+        ensures marked { self.new ≡ record { stored = marked self.old.stored; reached = false } }
+        ensures place { option_map tip_of result ≡ place_of self.old }
+    {
+        let place = self.place();
+        self.stored.mark();
+        self.reached = false;
+        place
+    }
+
+    /// Whether a way leads to the block, which follows a block that turned to this: it has no mark, and if that one
+    /// isn't reached, it follows the root.
+    fn is_led(&self, root: Option<Tip>, reached: bool) -> bool
+        ensures { IsTrue result ↔ IsLed (option_map tip_of root) reached self.now.stored }
+    {
+        !self.stored.is_invalid()
+            && (reached || root.is_some_and(|root| root.precedes(self.stored.block())))
+    }
+
+    /// Notes that a way leads to the block, or that none does, if it follows this place, to which one leads, or none
+    /// does. Answers whether that is new.
+    pub fn turn(&mut self, before: &Tip, root: Option<Tip>, reached: bool) -> bool
+        ensures stored { self.new.stored ≡ self.old.stored }
+        ensures turned { IsTrue result → HasTurned (tip_of before.now) (option_map tip_of root) reached self.old.stored
+            self.old.reached self.new.reached }
+        ensures stayed { result ≡ false → HasStayed (tip_of before.now) (option_map tip_of root) reached self.old.stored
+            self.old.reached self.new.reached }
+    {
+        let turns = self.reached != reached
+            && before.precedes(self.stored.block())
+            && self.is_led(root, reached) == reached;
+        if turns {
+            self.reached = reached;
+        }
+        turns
+    }
+}
