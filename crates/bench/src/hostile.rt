@@ -84,17 +84,26 @@ fn forks(alloc: Global, blocks: u64) -> Plan {
     plan
 }
 
-/// Those of bad blocks that follow the last one of a fork as long as the chain, which has so many blocks.
-fn tips(alloc: Global, length: u64, blocks: u64) -> Plan {
+/// Those of bad blocks that follow the last ones of so many forks, in turns. Each fork is as long as the chain, which
+/// has so many blocks.
+fn tips(alloc: Global, forks: u64, length: u64, blocks: u64) -> Plan {
     let mut plan = arrivals(alloc, blocks);
     End::genesis().put_chain(alloc, &mut plan.blocks, length);
-    let mut end = End::genesis();
-    for _ in 0..length {
-        end.put_next(alloc, &mut plan.blocks, 1);
+    let mut ends = Vec::new(alloc);
+    for fork in 1..=forks {
+        let mut end = End::genesis();
+        for _ in 0..length {
+            end.put_next(alloc, &mut plan.blocks, fork);
+        }
+        let _ = ends.push(end);
     }
-    for late in 0..blocks {
-        let mut tip = end;
-        tip.put_bad(alloc, &mut plan.measured, late.saturating_add(2));
+    let mut late = forks;
+    for _ in 0..blocks / forks.max(1) {
+        for end in &ends {
+            late = late.saturating_add(1);
+            let mut tip = *end;
+            tip.put_bad(alloc, &mut plan.measured, late);
+        }
     }
     plan.height = length;
     plan
@@ -128,9 +137,17 @@ pub fn measure(rt: &HostRuntime) -> io::Result<()> {
             forks(rt.alloc(), blocks),
         )?;
     }
-    for length in [100, 1_000] {
-        let plan = tips(rt.alloc(), length, 1_000);
-        cores::measure(rt, "bad tips of a fork", length, plan)?;
+    for blocks in [1_000, 4_000, 16_000, 64_000] {
+        let plan = tips(rt.alloc(), 1, 1_000, blocks);
+        cores::measure(rt, "bad tips of a fork", blocks, plan)?;
+    }
+    for length in [100, LENGTH] {
+        let plan = tips(rt.alloc(), 1, length, 1_000);
+        cores::measure(rt, "bad tips of a fork of", length, plan)?;
+    }
+    for forks in [8, 9] {
+        let plan = tips(rt.alloc(), forks, 1_000, forks.saturating_mul(200));
+        cores::measure(rt, "bad tips in turns of forks", forks, plan)?;
     }
     Ok(())
 }

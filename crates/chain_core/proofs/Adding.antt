@@ -1,12 +1,12 @@
 -- A block that is kept: the chain, the store and the states are settled again.
-use Rattle.std.proofs.Common.{◌≡◌, ℕ, ◌+◌, ◌-◌, ◌<◌, ◌≤◌, true, false, List, ◌∷◌, ◌++◌, length, take, drop, Contains, refl, sym, ap, subst, ◌∙◌, arith, inl, inr}
-use Rattle.std.specs.Prelude.{min, max, Result, Ok, Err, IfOk, OnOk, OnErr}
+use Rattle.std.proofs.Common.{◌≡◌, ℕ, ◌+◌, ◌-◌, ◌<◌, ◌≤◌, true, false, List, [], ◌∷◌, ◌++◌, length, take, drop, Contains, refl, sym, ap, subst, ◌∙◌, arith, inl, inr}
+use Rattle.std.specs.Prelude.{min, max, Option, Result, Ok, Err, IfOk, IfSome, OnOk, OnErr}
 use Rattle.std.specs.declared.alloc.AllocError.{AllocError}
 use Rattle.std.specs.List.{AllByRecursion}
 use Rattle.std.proofs.lemmas.Bool.{cases_lt}
 use Rattle.std.proofs.lemmas.List.{length-append, length-take, take-take, take-append-le, take-append-drop}
 use Rattle.model.proofs.FollowerSteps.{begins_not_longer}
-use Rattle.std.proofs.lemmas.List.Elements.{Contains-append_right}
+use Rattle.std.proofs.lemmas.List.Elements.{Contains-append_left, Contains-append_right, Contains-append_cases}
 use Rattle.model.specs.Block.{Block}
 use Rattle.model.specs.Ledger.{Network}
 use Rattle.std.specs.BTreeSet.{BTreeSet}
@@ -15,20 +15,21 @@ use Rattle.model.specs.Rules.{Params}
 use Rattle.model.specs.Applying.{LedgerState, IsStateOf}
 use Rattle.model.specs.Mempool.{SubmitReply}
 use Rattle.model.specs.History.{IsChange}
-use Rattle.model.proofs.Lists.{all_of_member, all_from_members, all_take, contains_first, contains_later, contains_cases}
+use Rattle.model.proofs.Lists.{all_of_member, all_from_members, all_take, all_drop, all_push, contains_first, contains_later, contains_cases}
 use Rattle.model.proofs.MappedLists.{contains_map, contains_before}
 use Rattle.model.proofs.Chains.{one_with_hash, linked_front, length_immutable, tip_number}
 use Rattle.model.proofs.Selections.{selection_not_shorter}
 use Rattle.ident.specs.Kinds.{BlockHash}
 use Rattle.blockstore.specs.Stored.{Stored, Store, unmarked, HasBlock, blocks_of}
-use Rattle.ledgerdb.specs.Values.{Database, depth, count}
+use Rattle.ledgerdb.specs.Values.{Database, depth, count, most_sides}
 use Rattle.ledgerdb.specs.Chains.{without_last, IsDatabaseOf, IsPreparedOf}
-use Rattle.ledgerdb.proofs.ForCallers.{prepared_count, database_valid}
+use Rattle.ledgerdb.proofs.ForCallers.{prepared_count, database_valid, beside_any}
 use Rattle.chainsel.specs.Dead.{IsDead}
+use Rattle.chainsel.specs.Sides.{IsSide}
 use Rattle.chainsel.specs.Ready.{IsSettled, IsReady}
 use Rattle.chainsel.specs.Choices.{IsSelected, IsFoundDead, IsSwitch}
 use Rattle.chainsel.specs.declared.selection.Switch.{Switch}
-use Rattle.chainsel.proofs.ForCallers.{at_hand, dead_with, selection_at_hand, IsNextStore, settled_again, switched_at_hand, depth_next}
+use Rattle.chainsel.proofs.ForCallers.{at_hand, dead_with, sides_among, selection_at_hand, IsNextStore, settled_again, switched_at_hand, depth_next}
 use Rattle.chain_core.specs.declared.chain_db.ChainDb.{ChainDb}
 use Rattle.chain_core.specs.declared.chain_db.Change.{Change}
 use Rattle.mempool.specs.Contents.{Mempool, Waiting}
@@ -39,7 +40,7 @@ use Rattle.chain_core.specs.Mempools.{IsMempoolOf, IsResynced}
 use Rattle.chain_core.proofs.Mempools.{mempool_resynced, stay_resynced, submits, mempool_after}
 use Rattle.chain_core.specs.PastHashes.{IsNoted, IsBlockNoted}
 use Rattle.chain_core.proofs.PastHashes.{blocks_keep}
-use Rattle.chain_core.specs.ChainDbs.{IsWhole, IsAdded, IsTakenIn, IsCutBack, IsCommitted, IsTaken}
+use Rattle.chain_core.specs.ChainDbs.{IsWhole, IsAdded, IsTakenIn, IsCutBack, IsCommitted, IsBeside, IsTaken}
 
 -- where ways begin after a switch
 root_of_cut : (network : Network) (chain : List Block) (number : ℕ) (root : Tip) → IsLinked genesis_tip chain → number ≡ immutable_length network chain → root ≡ record (tip_after genesis_tip (take number chain)) { number = number }
@@ -135,6 +136,26 @@ module _ (network : Network) (chain : List Block) (store : Store) (db : Database
     marks = λ s member marked. marks s ((cut.cut.members s).0 member).0 marked;
   }
 
+-- ---- states beside the chain
+
+-- what is kept beside the chain is all that may have changed of the database
+beside_alone : (old new : Database) (side : Option LedgerState) → IsBeside old side new → new ≡ record old { sides = new.sides }
+beside_alone old new side is =
+    elim is [
+      | inl same ↦ subst (λ (d : Database). d ≡ record old { sides = d.sides }) (sym same) refl
+      | inr kept ↦ subst (λ (d : Database). d ≡ record old { sides = d.sides }) (sym kept.2) refl
+    ]
+
+beside_all : (P : LedgerState → Type 0) (old new : Database) (side : Option LedgerState) → IsBeside old side new → AllByRecursion P old.sides → IfSome side P → AllByRecursion P new.sides
+beside_all P old new side is all one =
+    elim is [
+      | inl same ↦ subst (λ (d : Database). AllByRecursion P d.sides) (sym same) all
+      | inr kept ↦
+          let s = kept.0 in
+          subst (λ (d : Database). AllByRecursion P d.sides) (sym kept.2)
+          (all_drop P (length (old.sides ++ s ∷ []) - most_sides) (old.sides ++ s ∷ []) (all_push P old.sides s all (subst (λ (o : Option LedgerState). IfSome o P) kept.1 one)))
+    ]
+
 -- where the chain, the store and the states stay it is settled still
 settled_same : {S : Type 0} (network : Network) (old new : ChainDb S) → new.chain.items ≡ old.chain.items → new.store ≡ old.store → new.db ≡ old.db → IsWhole network old → IsSettled network new.chain.items new.store new.db
 settled_same network old new chain store db whole =
@@ -220,25 +241,46 @@ switch_noted network old whole switch noted next k within k_is stays grows told 
 module _ {S : Type 0} (network : Network) (old : ChainDb S) (new : Block) (whole : IsWhole network old) (ready : IsReady network old.chain.items old.store old.db new) (invalid : List BlockHash)
     (found : AllByRecursion (IsFoundDead network old.chain.items (new ∷ blocks_of old.store)) invalid) where
   -- the chain stays
-  pub added_kept : (next : ChainDb S) (told : Change) → IsTakenIn old.store new invalid next.store → next ≡ record old { store = next.store } → told.back ≡ 0 → told.added ≡ 0 → IsSelected network old.store old.chain.items new old.chain.items
-      → IsAdded network old new next told
-  added_kept next told taken frame no_back none_added selected = subst (λ (a : ChainDb S). IsAdded network old new a told) (sym frame) (record {
+  pub added_kept : (next : ChainDb S) (told : Change) (side : Option LedgerState) → IsTakenIn old.store new invalid next.store → next ≡ record old { store = next.store; db = next.db } → told.back ≡ 0 → told.added ≡ 0
+      → IsSelected network old.store old.chain.items new old.chain.items → IsBeside old.db side next.db → IfSome side (IsSide network (at_hand old.chain.items old.store new)) → IsAdded network old new next told
+  added_kept next told side taken frame no_back none_added selected beside one = subst (λ (a : ChainDb S). IsAdded network old new a told) (sym frame) (record {
     selected = selected;
     change = no_change old.chain.items told.back told.added no_back none_added;
     live = λ kept holds. taken.marked.live network (new ∷ kept) old.chain.items (taken.gains network kept old.chain.items holds ready.past);
     mempool = sym whole.mempool.valid;
     whole = record {
       opened = whole.opened;
-      settled = settled_again network old.chain.items old.store old.db new ready old.chain.items next.store old.db selected
+      settled = settled_again network old.chain.items old.store old.db new ready old.chain.items next.store next.db selected
           (all_from_members (Contains (at_hand old.chain.items old.store new)) old.chain.items (λ b member. Contains-append_right (new ∷ blocks_of old.store) old.chain.items b member))
-          (kept_store network old.chain.items old.store old.db new ready invalid found next.store taken) ready.settled.database ready.settled.depth;
-      k = whole.k;
+          (kept_store network old.chain.items old.store old.db new ready invalid found next.store taken)
+          (subst (IsDatabaseOf network old.chain.items) (sym alone) (beside_any network old.chain.items old.db next.db.sides ready.settled.database))
+          (ap depth alone ∙ ready.settled.depth) sides;
+      k = ap (λ (d : Database). d.k) alone ∙ whole.k;
       capacity = taken.marked.capacity ∙ (taken.inserted.capacity ∙ whole.capacity);
       mempool = whole.mempool;
       past = whole.past;
     };
   })
     where
+      alone : next.db ≡ record old.db { sides = next.db.sides }
+      alone = beside_alone old.db next.db side beside
+
+      live_still : (b : Block) → Contains (new ∷ blocks_of old.store) b → Contains (blocks_of next.store ++ old.chain.items) b
+      live_still b member = Contains-append_left (blocks_of next.store) old.chain.items b (still network old.chain.items old.store old.db new ready invalid found next.store taken b member)
+
+      still_at_hand : (b : Block) → Contains (at_hand old.chain.items old.store new) b → Contains (blocks_of next.store ++ old.chain.items) b
+      still_at_hand b member =
+          elim (Contains-append_cases (new ∷ blocks_of old.store) old.chain.items b member) [
+            | inl live ↦ live_still b live
+            | inr on_chain ↦ Contains-append_right (blocks_of next.store) old.chain.items b on_chain
+          ]
+
+      sides : AllByRecursion (IsSide network (blocks_of next.store ++ old.chain.items)) next.db.sides
+      sides =
+          sides_among network (at_hand old.chain.items old.store new) (blocks_of next.store ++ old.chain.items) next.db.sides still_at_hand
+          (beside_all (IsSide network (at_hand old.chain.items old.store new)) old.db next.db side beside
+          (sides_among network (blocks_of old.store ++ old.chain.items) (at_hand old.chain.items old.store new) old.db.sides (λ b member. contains_later new (blocks_of old.store ++ old.chain.items) b member) ready.settled.sides) one)
+
       no_change : (c : List Block) (back added : ℕ) → back ≡ 0 → added ≡ 0 → IsChange c c back added
       no_change c back added b a = record {
         common = length c;
@@ -265,7 +307,7 @@ module _ {S : Type 0} (network : Network) (old : ChainDb S) (new : Block) (whole
       settled = settled_again network old.chain.items old.store old.db new ready next.chain.items next.store next.db selected
           (subst (AllByRecursion (Contains (at_hand old.chain.items old.store new))) (sym chain_is) (switched_at_hand old.chain.items old.store new switch.back switch.blocks.items is.members))
           (cut_store network old.chain.items old.store old.db new ready invalid found mid taken next.chain.items (length next.chain.items - depth next.db) next.store number (database_valid network next.chain.items next.db database).linked cut)
-          database deep;
+          database deep (subst (AllByRecursion (IsSide network (blocks_of next.store ++ next.chain.items))) (sym committed.sides) tt);
       k = committed.k ∙ whole.k;
       capacity = cut.cut.capacity ∙ (taken.marked.capacity ∙ (taken.inserted.capacity ∙ whole.capacity));
       mempool = mempool_resynced network next.chain.items old.mempool next.mempool waiting whole.mempool.capacity resynced_here mempool_is;

@@ -1,11 +1,13 @@
 -- The selected chain with what selection stands on, and what becomes of them when a block is kept.
-use Rattle.std.specs.Prelude.{◌≡◌, ◌↔◌, ◌⊎◌, ℕ, ◌+◌, ◌-◌, min, true, List, ◌∷◌, ◌++◌, length, take, Contains}
+use Rattle.std.specs.Prelude.{◌≡◌, ◌↔◌, ◌⊎◌, ℕ, ◌+◌, ◌-◌, min, true, List, [], ◌∷◌, ◌++◌, length, take, Contains}
+use Rattle.std.specs.Prelude.{Option, Some}
 use Rattle.std.specs.List.{AllByRecursion}
 use Rattle.model.specs.Block.{Block, block_hash_of}
 use Rattle.model.specs.Genesis.{Genesis}
 use Rattle.model.specs.Signature.{Verifies}
 use Rattle.model.specs.Ledger.{Network, network_on}
 use Rattle.model.specs.Chain.{genesis_tip, tip_after, immutable_part}
+use Rattle.model.specs.Applying.{LedgerState}
 use Rattle.model.specs.Mempool.{SubmitReply, revalidated, Submits}
 use Rattle.model.specs.History.{State, IsChange}
 use Rattle.ident.specs.Kinds.{BlockHash}
@@ -13,7 +15,7 @@ use Rattle.blockstore.specs.Stored.{Stored, Store, HasBlock, IsSet}
 use Rattle.blockstore.specs.Insertion.{IsInserted}
 use Rattle.blockstore.specs.Answers.{IsCutTo}
 use Rattle.blockstore.specs.Live.{HoldsLive, GainsLive, FollowsChain, KeepsLive}
-use Rattle.ledgerdb.specs.Values.{Database, Prepared, depth, count}
+use Rattle.ledgerdb.specs.Values.{Database, Prepared, depth, count, latest}
 use Rattle.ledgerdb.specs.Chains.{without_last, IsDatabaseOf, IsPreparedOf}
 use Rattle.chainsel.specs.Ready.{IsSettled}
 use Rattle.chainsel.specs.Choices.{IsSelected}
@@ -84,6 +86,13 @@ pub record IsCommitted (old : Database) (prepared : Prepared) (new : Database) :
   pub chain : (network : Network) (chain blocks : List Block) → IsDatabaseOf network chain old
       → IsPreparedOf network (without_last prepared.back chain) blocks prepared
       → IsDatabaseOf network (without_last prepared.back chain ++ blocks) new
+  pub sides : new.sides ≡ []
+
+-- the database keeps this state beside the chain as well, if there is one, or nothing changed
+abbrev pub IsBeside : Database → Option LedgerState → Database → Type 0
+IsBeside old side new =
+    (new ≡ old)
+    ⊎ ((s : LedgerState) × (side ≡ Some s) × (new ≡ record old { sides = latest (old.sides ++ s ∷ []) }))
 
 -- bytes of a transaction were submitted and answered so
 pub record IsTaken {S : Type 0} (network : Network) (old : ChainDb S) (bytes : List ℕ) (reply : SubmitReply)

@@ -18,7 +18,7 @@ ghost use Rattle.chainsel.specs.Ready.{IsReady};
 ghost use Rattle.ledgerdb.specs.Values.{depth};
 ghost use Rattle.ledgerdb.specs.Chains.{without_last, IsDatabaseOf, IsPreparedOf};
 ghost use Rattle.chain_core.specs.ChainDbs.{IsWhole, IsAdded, AreMarked, IsTakenIn, IsCutBack, IsCommitted};
-ghost use Rattle.chain_core.specs.ChainDbs.{IsTaken, network_db};
+ghost use Rattle.chain_core.specs.ChainDbs.{IsBeside, IsTaken, network_db};
 ghost use Rattle.chain_core.specs.PastHashes.{IsNoted, IsBlockNoted};
 ghost use Rattle.chain_core.specs.Mempools.{IsResynced, IsWantOf};
 
@@ -138,16 +138,15 @@ impl<S: SigScheme> ChainDb<S> {
         ensures past { (hash : List ℕ) → IsNoted self.old.past hash → IsNoted self.new.past hash }
         ensures opened { self.new.opened ≡ self.old.opened }
     {
-        let Selection { choice, invalid } = select(
-            alloc,
-            &self.store,
-            &self.db,
-            &self.chain,
-            &block,
-        )?;
+        let Selection {
+            choice,
+            invalid,
+            side,
+        } = select(alloc, &self.store, &self.db, &self.chain, &block)?;
         match choice {
             Choice::Keep => {
                 self.insert(block, &invalid)?;
+                self.keep_side(side);
                 Ok(Change { back: 0, added: 0 })
             }
             Choice::Switch(switch) => {
@@ -240,6 +239,17 @@ impl<S: SigScheme> ChainDb<S> {
             Err(InsertFault::OutOfMemory) => Err(AllocError),
             Err(InsertFault::Known | InsertFault::Clash | InsertFault::VolatileFull) =>
                 unreachable!(),
+        }
+    }
+
+    /// Keeps the state, if there is one, beside the chain. It is left out where there is no memory for it: no answer
+    /// rests on it, and the fork before it is judged once more.
+    fn keep_side(&mut self, side: Option<LedgerState>)
+        ensures frame { self.new ≡ record self.old { db = self.new.db } }
+        ensures sides { IsBeside self.old.db side self.new.db }
+    {
+        if let Some(state) = side {
+            let _ = self.db.keep_side(state);
         }
     }
 

@@ -1,10 +1,6 @@
 -- From what a search found at a turn to the whole answer, said of every network at once.
-use Rattle.std.proofs.Common.{◌≡◌, ◌≢◌, ℕ, ◌-◌, ◌<◌, ◌≤◌, List, [], ◌∷◌, ◌++◌, length, get_or, Contains, refl, sym, ap, subst, ◌∙◌, arith, inl, inr, append_assoc}
-use Rattle.std.specs.Ordering.{nat_cmp}
-use Rattle.std.specs.declared.cmp.Ordering.TheVariants.{Equal, Greater}
-use Rattle.std.specs.Cmp.Lexicographic.{slice_cmp}
-use Rattle.std.specs.Cmp.{tied_itself}
-use Rattle.std.proofs.lemmas.Cmp.{nat_list_cmp_total}
+use Rattle.std.proofs.Common.{◌≡◌, ℕ, ◌-◌, ◌<◌, ◌≤◌, List, [], ◌∷◌, ◌++◌, length, get_or, Contains, refl, sym, ap, subst, ◌∙◌, arith, inl, inr, append_assoc}
+use Rattle.std.specs.Prelude.{None, IfSome}
 use Rattle.std.specs.List.{AllByRecursion}
 use Rattle.std.specs.Global.{Vec}
 use Rattle.model.specs.Genesis.{Genesis}
@@ -23,12 +19,13 @@ use Rattle.ledgerdb.specs.Chains.{without_last, IsDatabaseOf, IsPreparedOf}
 use Rattle.ledgerdb.specs.Faults.{IsFaultOnChain}
 use Rattle.ledgerdb.specs.declared.fork_fault.ForkFault.TheVariants.{Refused}
 use Rattle.chainsel.specs.Ready.{IsReady}
-use Rattle.chainsel.specs.Choices.{IsSelected, IsChoice, IsFoundDead, IsPossible, IsExplained, IsSelectionAnswer}
-use Rattle.chainsel.specs.Paths.{Descends, IsBest, IsFitLive, IsLast, IsWay, HasNoWay, last_block}
+use Rattle.chainsel.specs.Choices.{IsSelected, IsChoice, IsFoundDead, AreDeadInAll, IsSideInAll, IsPossible, IsExplained, IsSelectionAnswer}
+use Rattle.chainsel.specs.Paths.{Descends, IsBest, IsFitLive, IsLast, IsWay, HasNoWay}
 use Rattle.chainsel.specs.declared.selection.Choice.TheVariants as choice
 use Rattle.chainsel.specs.declared.selection.Selection.{Selection}
 use Rattle.chainsel.specs.declared.selection.Switch.{Switch}
 use Rattle.chainsel.proofs.AtHand.{chain_valid}
+use Rattle.chainsel.proofs.EndLemmas.{alone_is_best}
 use Rattle.chainsel.proofs.Through.{first_new}
 use Rattle.chainsel.proofs.Switching.{blocks_there}
 use Rattle.chainsel.proofs.Turns.{true_way, immutable_is, stays_by_number, stays_by_way, stays_by_death, switches, dies}
@@ -65,19 +62,11 @@ leads_nowhere network chain store new told root nowhere before all linked =
 
 -- a block that nothing goes on from is the best of what goes on from it
 last_is_best : (store : Store) (told : List BlockHash) (new : Block) → IsLast store new → IsBest store told new new
-last_is_best store told new last = record {
-  descends = record { path = []; linked = tt; members = tt; last = refl };
-  furthest = λ b is. let same = itself b is in omega (arith, ap (λ (c : Block). c.header.number) same);
-  least = λ b is level. let same = itself b is in
-      subst (λ (c : Block). slice_cmp nat_cmp (block_hash_of new) (block_hash_of c) ≢ Greater) same (λ greater. let e : Equal ≡ Greater = sym (tied_itself nat_list_cmp_total (block_hash_of new)) ∙ greater in cc);
-}
+last_is_best store told new last = alone_is_best store told new none_after
   where
     none_after : (path : List Block) → IsLinked (tip_at new) path → AllByRecursion (IsFitLive store told) path → path ≡ []
     none_after [] linked fit = refl
     none_after (c ∷ cs) linked fit = absurd (last fit.0.stored fit.0.member (ap (λ (d : Block). d.header.previous) fit.0.block ∙ linked.0.previous))
-
-    itself : (b : Block) → Descends store told new b → new ≡ b
-    itself b is = ap (λ (path : List Block). last_block new path) (sym (none_after is.path is.linked is.members)) ∙ is.last
 
 -- no way leads to the block, where the blocks at hand are as they are to be
 abbrev pub LeadsNowhere : Store → List BlockHash → (chain : List Block) → (immutable : ℕ) → (new end : Block) → Type 0
@@ -92,17 +81,13 @@ pub record IsLed (chain : List Block) (store : Store) (db : Database) (new : Blo
   pub way : IsWay store told chain immutable new end keep blocks
 
 module _ (verifies : Verifies) (chain : List Block) (store : Store) (db : Database) (new : Block) where
-  -- what was found dead is so in every network
-  abbrev pub AreDeadInAll : List BlockHash → Type 0
-  AreDeadInAll told = (genesis : Genesis) (opened : List Block) → IsReady (network_on genesis verifies opened) chain store db new
-      → AllByRecursion (IsFoundDead (network_on genesis verifies opened) chain (new ∷ blocks_of store)) told
-
   -- a block that comes isn't the genesis
   positive : (genesis : Genesis) (opened : List Block) → IsReady (network_on genesis verifies opened) chain store db new → 0 < new.header.number
   positive genesis opened ready = let past = ready.past in omega arith
 
   -- ---- where the chain stays
-  module _ {S : Type 0} (selection : Selection S) (told : List BlockHash) (keeps : selection.choice ≡ choice.Keep) (tells : selection.invalid.items ≡ told) (dead : AreDeadInAll told) where
+  module _ {S : Type 0} (selection : Selection S) (told : List BlockHash) (keeps : selection.choice ≡ choice.Keep) (tells : selection.invalid.items ≡ told) (dead : AreDeadInAll verifies chain store db new told)
+      (beside : IfSome selection.side (IsSideInAll verifies chain store db new)) where
     kept : ((genesis : Genesis) (opened : List Block) → IsReady (network_on genesis verifies opened) chain store db new
         → IsSelected (network_on genesis verifies opened) store chain new chain × AreShort (network_on genesis verifies opened) chain store new told) → IsSelectionAnswer verifies chain store db new selection
     kept each = record {
@@ -111,6 +96,7 @@ module _ (verifies : Verifies) (chain : List Block) (store : Store) (db : Databa
       told = λ genesis opened ready. when_kept (network_on genesis verifies opened) chain store new selection.invalid.items selection.choice keeps
           (subst (AreShort (network_on genesis verifies opened) chain store new) (sym tells) (each genesis opened ready).1);
       switch = subst (IsPossible chain db) (sym keeps) tt;
+      side = beside;
     }
 
     -- since nothing goes on past it
@@ -157,12 +143,12 @@ module _ (verifies : Verifies) (chain : List Block) (store : Store) (db : Databa
         ))
 
   -- ---- where a way leads past it
-  module _ (told : List BlockHash) (dead : AreDeadInAll told) (end : Block) (immutable keep : ℕ) (blocks : List Block) (led : IsLed chain store db new told end immutable keep blocks) where
+  module _ (told : List BlockHash) (dead : AreDeadInAll verifies chain store db new told) (end : Block) (immutable keep : ℕ) (blocks : List Block) (led : IsLed chain store db new told end immutable keep blocks) where
     -- the chain changes
     pub switched : {S : Type 0} (invalid : Vec BlockHash) (switch : Switch S) → invalid.items ≡ told → switch.back ≡ length chain - keep → switch.blocks.items ≡ blocks → switch.prepared.back ≡ switch.back
         → count switch.prepared ≡ length switch.blocks.items
         → ((genesis : Genesis) (opened : List Block) → IsDatabaseOf (network_on genesis verifies opened) chain db → IsPreparedOf (network_on genesis verifies opened) (without_last switch.back chain) switch.blocks.items switch.prepared)
-        → IsSelectionAnswer verifies chain store db new (record { choice = choice.Switch switch; invalid = invalid })
+        → IsSelectionAnswer verifies chain store db new (record { choice = choice.Switch switch; invalid = invalid; side = None })
     switched invalid switch tells back put_on prepared_back counted prepared = record {
       choice = λ genesis opened ready.
           let network = network_on genesis verifies opened in
@@ -184,12 +170,13 @@ module _ (verifies : Verifies) (chain : List Block) (store : Store) (db : Databa
             back = prepared_back;
             count = counted;
           };
+      side = tt;
     }
 
     -- the first of its blocks that isn't applied is dead, beside those that were
     pub one_dead : (index : ℕ) (fault : BlockFault) (b : Block) (hash : BlockHash)
         → ((genesis : Genesis) (opened : List Block) → IsDatabaseOf (network_on genesis verifies opened) chain db → IsFaultOnChain (network_on genesis verifies opened) (without_last (length chain - keep) chain) blocks (Refused index fault))
-        → get_or blocks index b ≡ b → hash.bytes ≡ block_hash_of b → AreDeadInAll (told ++ hash ∷ [])
+        → get_or blocks index b ≡ b → hash.bytes ≡ block_hash_of b → AreDeadInAll verifies chain store db new (told ++ hash ∷ [])
     one_dead index fault b hash stops here named genesis opened ready =
         let network = network_on genesis verifies opened in
         let found = dead genesis opened ready in

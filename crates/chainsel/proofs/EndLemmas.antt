@@ -1,15 +1,21 @@
 -- Where the paths of each length end, from those that are one block shorter.
 use Rattle.std.proofs.Common.{◌≡◌, ◌≢◌, ℕ, ◌+◌, ◌<◌, ◌≤◌, List, [], ◌∷◌, ◌++◌, length, take, Contains, refl, sym, ap, subst, ◌∙◌, arith, inl, inr}
 use Rattle.std.specs.List.{AllByRecursion}
+use Rattle.std.specs.Ordering.{nat_cmp}
+use Rattle.std.specs.declared.cmp.Ordering.TheVariants.{Equal, Greater}
+use Rattle.std.specs.Cmp.Lexicographic.{slice_cmp}
+use Rattle.std.specs.Cmp.{tied_itself}
+use Rattle.std.proofs.lemmas.Cmp.{nat_list_cmp_total}
 use Rattle.std.proofs.lemmas.Bool.{cases_lt}
 use Rattle.std.proofs.lemmas.List.{length-append, length-take-le, nil_from_length}
-use Rattle.model.specs.Block.{Block}
+use Rattle.model.specs.Block.{Block, block_hash_of}
 use Rattle.model.specs.Chain.{Tip, tip_at, tip_after, Follows, IsLinked}
 use Rattle.model.proofs.Lists.{all_of_member, all_take, all_push, contains_first, contains_cases, nothing_contained}
 use Rattle.model.proofs.Chains.{linked_rest, linked_front}
 use Rattle.ident.specs.Kinds.{BlockHash}
 use Rattle.blockstore.specs.Stored.{Store}
-use Rattle.chainsel.specs.Paths.{IsFitLive, last_block, IsBest}
+use Rattle.blockstore.specs.Shelves.{HasPast}
+use Rattle.chainsel.specs.Paths.{IsFitLive, last_block, Descends, IsBest}
 use Rattle.chainsel.specs.Ends.{DescendsBy, AreEnds, IsNext, AreNext, AreFurthest, HasLeastHash}
 use Rattle.chainsel.proofs.Lists.{last_cases, all_front, all_rest}
 use Rattle.chainsel.proofs.Tips.{tip_of_path, last_of_pushed, number_of_last, linked_push, linked_take}
@@ -140,3 +146,27 @@ module _ (store : Store) (invalid : List BlockHash) (new : Block) where
             let long : length descends.path ≡ are.n = omega arith in
             all_of_member _ ends b least ((are.all b).1 (record { descends = descends; count = long }));
       }
+
+  -- where nothing goes on from it, the block is the best of what does
+  pub alone_is_best : ((path : List Block) → IsLinked (tip_at new) path → AllByRecursion (IsFitLive store invalid) path → path ≡ []) → IsBest store invalid new new
+  alone_is_best none = record {
+    descends = record { path = []; linked = tt; members = tt; last = refl };
+    furthest = λ b is. let same = itself b is in omega (arith, ap (λ (c : Block). c.header.number) same);
+    least = λ b is level. let same = itself b is in
+        subst (λ (c : Block). slice_cmp nat_cmp (block_hash_of new) (block_hash_of c) ≢ Greater) same (λ greater. let e : Equal ≡ Greater = sym (tied_itself nat_list_cmp_total (block_hash_of new)) ∙ greater in cc);
+  }
+    where
+      itself : (b : Block) → Descends store invalid new b → new ≡ b
+      itself b is = ap (λ (path : List Block). last_block new path) (sym (none is.path is.linked is.members)) ∙ is.last
+
+  -- so where no live block has a greater number
+  pub newest_is_best : (HasPast new.header.number store.blocks → ⊥) → IsBest store invalid new new
+  newest_is_best none = alone_is_best none_after
+    where
+      none_after : (path : List Block) → IsLinked (tip_at new) path → AllByRecursion (IsFitLive store invalid) path → path ≡ []
+      none_after [] linked fit = refl
+      none_after (c ∷ cs) linked fit =
+          let stored = fit.0.stored in
+          let number_of : stored.block.header.number ≡ c.header.number = ap (λ (d : Block). d.header.number) fit.0.block in
+          let next = linked.0.number in
+          absurd (none (stored, fit.0.member, omega (arith, number_of, next)))

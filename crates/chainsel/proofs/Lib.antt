@@ -6,6 +6,7 @@ pub mod Keeping
 pub mod Switching
 pub mod Founds
 pub mod Sifted
+pub mod Sides
 pub mod Lists
 pub mod Tips
 pub mod Parents

@@ -19,6 +19,7 @@ use Rattle.blockstore.specs.Live.{HoldsLive}
 use Rattle.ledgerdb.specs.Values.{Database, depth}
 use Rattle.ledgerdb.specs.Chains.{without_last, IsDatabaseOf}
 use Rattle.chainsel.specs.Dead.{HaveOnePlace, IsDead}
+use Rattle.chainsel.specs.Sides.{IsSide}
 use Rattle.chainsel.specs.Ready.{IsSettled, IsReady}
 use Rattle.chainsel.specs.Choices.{IsSelected}
 use Rattle.chainsel.proofs.AtHand.{at_hand, chain_valid, is_past, at_hand_placed}
@@ -161,8 +162,8 @@ module _ (network : Network) (chain : List Block) (store : Store) (db : Database
 
   -- so it is settled again
   pub settled_again : (next_chain : List Block) (next : Store) (next_db : Database) → IsSelected network store chain new next_chain → AllByRecursion (Contains (at_hand chain store new)) next_chain → IsNextStore next_chain next
-      → IsDatabaseOf network next_chain next_db → depth next_db ≡ length next_chain - immutable_length network next_chain → IsSettled network next_chain next next_db
-  settled_again next_chain next next_db selected made is database deep = record {
+      → IsDatabaseOf network next_chain next_db → depth next_db ≡ length next_chain - immutable_length network next_chain → AllByRecursion (IsSide network (blocks_of next ++ next_chain)) next_db.sides → IsSettled network next_chain next next_db
+  settled_again next_chain next next_db selected made is database deep sides = record {
     database = database;
     depth = deep;
     opened = subst (BeginsWith next_chain) ready.settled.opened (begins_fewer chain next_chain (length network.opened) (immutable_length network chain) (let within = begins_not_longer chain network.opened ready.settled.opened in omega arith)
@@ -178,6 +179,7 @@ module _ (network : Network) (chain : List Block) (store : Store) (db : Database
     });
     marks = all_from_members (λ (s : Stored). s.invalid ≡ true → IsDead network next_chain (blocks_of next) s.block) next.blocks (λ s member marked.
         dead_moves network chain (new ∷ blocks_of store) next_chain (blocks_of next) s.block (at_hand_placed network chain store db new ready) further was still (is.marks s member marked));
+    sides = sides;
   }
     where
       further : immutable_length network chain ≤ immutable_length network next_chain
@@ -199,8 +201,8 @@ module _ (network : Network) (chain : List Block) (store : Store) (db : Database
 -- ---- how it begins, and how a switch goes on
 
 -- before the first arrival
-pub settled_at_start : (network : Network) (store : Store) (db : Database) → IsOpening network → store.blocks ≡ [] → store.root ≡ tip_after genesis_tip network.opened → IsDatabaseOf network network.opened db → depth db ≡ 0 → IsSettled network network.opened store db
-settled_at_start network store db opens empty root database deep =
+pub settled_at_start : (network : Network) (store : Store) (db : Database) → IsOpening network → store.blocks ≡ [] → store.root ≡ tip_after genesis_tip network.opened → IsDatabaseOf network network.opened db → depth db ≡ 0 → db.sides ≡ [] → IsSettled network network.opened store db
+settled_at_start network store db opens empty root database deep none_beside =
     let none : [] ≡ blocks_of store = sym (ap (map (λ (s : Stored). s.block)) empty) in
     record {
       database = database;
@@ -212,6 +214,7 @@ settled_at_start network store db opens empty root database deep =
       distinct = subst HaveDistinctHashes none tt;
       longest = subst (λ (bs : List Block). NoneLonger network (bs ++ network.opened) network.opened) none (none_longer_than_all network network.opened opens.valid);
       marks = subst (AllByRecursion (λ (s : Stored). s.invalid ≡ true → IsDead network network.opened (blocks_of store) s.block)) (sym empty) tt;
+      sides = subst (AllByRecursion (IsSide network (blocks_of store ++ network.opened))) (sym none_beside) tt;
     }
 
 -- the chain that is switched to is of blocks at hand

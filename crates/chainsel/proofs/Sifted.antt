@@ -1,25 +1,21 @@
 -- What is judged on the state of the block before it: the state after it, or that it is dead.
-use Rattle.std.proofs.Common.{◌≡◌, ℕ, suc, ◌-◌, List, [], ◌∷◌, ◌++◌, length, take, Contains, Some, sym, ap, subst, ◌∙◌}
-use Rattle.std.specs.Prelude.{slice_get}
+use Rattle.std.proofs.Common.{◌≡◌, List, [], ◌∷◌, ◌++◌, Contains, sym, subst}
 use Rattle.std.specs.List.{AllByRecursion}
-use Rattle.std.proofs.lemmas.Option.{slice_get_within, get_or_from_slice_get}
-use Rattle.std.proofs.lemmas.List.Elements.{Contains-append_left, Contains-append_right}
+use Rattle.std.proofs.lemmas.List.Elements.{Contains-append_left}
 use Rattle.model.specs.Block.{Block, block_hash_of}
 use Rattle.model.specs.Ledger.{Network}
-use Rattle.model.specs.Chain.{Tip, genesis_tip, tip_at, tip_after, Follows, HaveDistinctHashes}
-use Rattle.model.specs.Applying.{LedgerState, BlockFault, HasFault, IsApplied, IsStateOf}
-use Rattle.model.proofs.Lists.{all_of_member, all_from_members, all_weaker, all_append, all_take, all_push, contains_first, contains_later}
-use Rattle.model.proofs.Chains.{tip_after-append, one_with_hash}
+use Rattle.model.specs.Chain.{Tip, genesis_tip, tip_at, Follows}
+use Rattle.model.specs.Applying.{LedgerState, BlockFault, HasFault, IsApplied}
+use Rattle.model.proofs.Lists.{all_push, contains_later}
 use Rattle.model.proofs.AppliedBlocks.{state_push}
 use Rattle.ident.specs.Kinds.{BlockHash}
 use Rattle.blockstore.specs.Stored.{Store, blocks_of}
-use Rattle.ledgerdb.specs.Chains.{without_last}
 use Rattle.chainsel.specs.Choices.{IsFoundDead}
 use Rattle.chainsel.specs.Judged.{IsStateAt, IsSifted}
 use Rattle.chainsel.specs.declared.sifting.Judged.{Judged}
 use Rattle.chainsel.proofs.AtHand.{at_hand}
 use Rattle.chainsel.proofs.Deaths.{fault_dead}
-use Rattle.chainsel.proofs.Tips.{tip_of_pushed, tip_of_place, linked_push}
+use Rattle.chainsel.proofs.Tips.{tip_of_pushed, linked_push}
 
 module _ (network : Network) (chain : List Block) (store : Store) (new : Block) where
   -- a live block is at hand
@@ -76,22 +72,3 @@ module _ (network : Network) (chain : List Block) (store : Store) (new : Block) 
           → AllByRecursion (λ (k : Judged S). IsStateAt network chain store new k.block.now k.state) xs × IsStateAt network chain store new x.block.now x.state
       split [] x all = (tt, all.0)
       split (y ∷ ys) x all = let more = split ys x all.1 in ((all.0, more.0), more.1)
-
-  -- the state at the block that came, behind the way to it
-  pub state_there : (back place : ℕ) (way : List Block) (b : Block) (s : LedgerState) → HaveDistinctHashes (new ∷ blocks_of store) → AllByRecursion (Contains (new ∷ blocks_of store)) way
-      → slice_get way place ≡ Some b → block_hash_of b ≡ block_hash_of new → IsStateOf network (without_last back chain ++ take (suc place) way) s → IsStateAt network chain store new new s
-  state_there back place way b s distinct there at same is =
-      let one : b ≡ new = one_with_hash (new ∷ blocks_of store) b new distinct (all_of_member (Contains (new ∷ blocks_of store)) way b there (member way place at)) (contains_first new (blocks_of store)) same in
-      record {
-        path = without_last back chain ++ take (suc place) way;
-        state = is;
-        ends =
-            tip_after-append genesis_tip (without_last back chain) (take (suc place) way)
-            ∙ (tip_of_place (tip_after genesis_tip (without_last back chain)) way place b at ∙ ap tip_at one);
-        members = all_append (Contains (at_hand chain store new)) (without_last back chain) (take (suc place) way)
-            (all_take (Contains (at_hand chain store new)) (length chain - back) chain (all_from_members (Contains (at_hand chain store new)) chain (λ c member. Contains-append_right (new ∷ blocks_of store) chain c member)))
-            (all_take (Contains (at_hand chain store new)) (suc place) way (all_weaker (Contains (new ∷ blocks_of store)) (Contains (at_hand chain store new)) way (λ c member. Contains-append_left (new ∷ blocks_of store) chain c member) there));
-      }
-    where
-      member : (bs : List Block) (n : ℕ) → slice_get bs n ≡ Some b → Contains bs b
-      member bs n is = (n, slice_get_within bs n b is, get_or_from_slice_get bs n b b is)

@@ -1,5 +1,5 @@
 -- What a selection answers.
-use Rattle.std.specs.Prelude.{◌≡◌, ◌≢◌, ℕ, ◌≤◌, List, ◌∷◌, ◌++◌, length, take, Contains}
+use Rattle.std.specs.Prelude.{◌≡◌, ◌≢◌, ℕ, ◌≤◌, List, ◌∷◌, ◌++◌, length, take, Contains, IfSome}
 use Rattle.std.specs.List.{AllByRecursion}
 use Rattle.std.specs.Ordering.{nat_cmp}
 use Rattle.std.specs.declared.cmp.Ordering.TheVariants.{Greater}
@@ -9,6 +9,7 @@ use Rattle.model.specs.Signature.{Verifies}
 use Rattle.model.specs.Block.{Block, block_hash_of}
 use Rattle.model.specs.Ledger.{Network, network_on}
 use Rattle.model.specs.Chain.{genesis_tip, tip_after, tip_hash, immutable_length, IsLinked, IsSelection}
+use Rattle.model.specs.Applying.{LedgerState}
 use Rattle.model.specs.History.{IsChange}
 use Rattle.ident.specs.Kinds.{BlockHash}
 use Rattle.blockstore.specs.Stored.{Store, blocks_of}
@@ -17,6 +18,7 @@ use Rattle.ledgerdb.specs.Values.{Database, depth, count}
 use Rattle.ledgerdb.specs.Chains.{without_last, IsPreparedOf}
 use Rattle.chainsel.specs.Dead.{IsDead}
 use Rattle.chainsel.specs.Paths.{IsOnPath}
+use Rattle.chainsel.specs.Sides.{IsSide}
 use Rattle.chainsel.specs.Ready.{IsReady}
 use Rattle.chainsel.specs.declared.selection.Choice.{Choice}
 use Rattle.chainsel.specs.declared.selection.Choice.TheVariants as choice
@@ -58,6 +60,18 @@ pub record IsFoundDead (network : Network) (chain live : List Block) (hash : Blo
 -- each of these hashes is that of a dead block
 abbrev pub AreDead : Network → (chain : List Block) → Store → (new : Block) → List BlockHash → Type 0
 AreDead network chain store new found = AllByRecursion (IsFoundDead network chain (new ∷ blocks_of store)) found
+
+-- they are so in every network in which all was ready
+abbrev pub AreDeadInAll : Verifies → (chain : List Block) → Store → Database → (new : Block) → List BlockHash → Type 0
+AreDeadInAll verifies chain store db new found =
+    (genesis : Genesis) (opened : List Block) → IsReady (network_on genesis verifies opened) chain store db new
+    → AreDead (network_on genesis verifies opened) chain store new found
+
+-- the state is that of a chain of blocks at hand, in every network in which all was ready
+abbrev pub IsSideInAll : Verifies → (chain : List Block) → Store → Database → (new : Block) → LedgerState → Type 0
+IsSideInAll verifies chain store db new s =
+    (genesis : Genesis) (opened : List Block) → IsReady (network_on genesis verifies opened) chain store db new
+    → IsSide (network_on genesis verifies opened) ((new ∷ blocks_of store) ++ chain) s
 
 -- The switch can be made: no more blocks are rolled back than the chain has and the database can roll back, and what is
 -- prepared rolls back just as many and puts on just as many as the switch does.
@@ -103,7 +117,8 @@ IsExplained network chain store new told (choice.Switch switch) =
 
 -- Of every network in which all was ready the answer is that of the selection rule, whatever was kept. What was found
 -- dead is so, whatever comes later, and explains the choice by links alone: nothing found dead that it rests on is kept
--- back. Whatever it was asked with, a switch can be made: the database can commit what is prepared.
+-- back. Whatever it was asked with, a switch can be made: the database can commit what is prepared. The state that is
+-- answered may be kept beside the chain.
 pub record IsSelectionAnswer {S : Type 0} (verifies : Verifies) (chain : List Block) (store : Store) (db : Database)
     (new : Block) (selection : Selection S) : Type 0 where
   pub choice : (genesis : Genesis) (opened : List Block)
@@ -117,3 +132,4 @@ pub record IsSelectionAnswer {S : Type 0} (verifies : Verifies) (chain : List Bl
       → IsReady (network_on genesis verifies opened) chain store db new
       → IsExplained (network_on genesis verifies opened) chain store new selection.invalid.items selection.choice
   pub switch : IsPossible chain db selection.choice
+  pub side : IfSome selection.side (IsSideInAll verifies chain store db new)

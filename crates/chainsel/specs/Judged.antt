@@ -1,8 +1,8 @@
 -- What a search knows of the blocks that go on from the one that came: the states after those that are applied, and
 -- those that are dead.
-use Rattle.std.specs.Prelude.{◌≡◌, ◌≤◌, List, ◌∷◌, ◌++◌, length, Contains}
+use Rattle.std.specs.Prelude.{◌≡◌, ◌≤◌, List, [], ◌∷◌, ◌++◌, length, Contains, Bool, true, false}
 use Rattle.std.specs.List.{AllByRecursion}
-use Rattle.model.specs.Block.{Block}
+use Rattle.model.specs.Block.{Block, block_hash_of}
 use Rattle.model.specs.Signature.{Verifies}
 use Rattle.model.specs.Genesis.{Genesis}
 use Rattle.model.specs.Ledger.{Network, network_on}
@@ -42,7 +42,13 @@ StaysSifted verifies store b s found more waiting after =
     → IsSifted (network_on genesis verifies opened) chain store new found waiting
     → IsSifted (network_on genesis verifies opened) chain store new more after
 
--- Where each was a live block found once it stays so, and none is forgotten.
+-- Where each was a live block found once it stays so, and there are no fewer.
 pub record GainsFound (store : Store) (found more : List BlockHash) : Type 0 where
   pub stays : AreFound store found → AreFound store more
   pub longer : length found ≤ length more
+
+-- where the block that came is applied, live blocks may be found dead, and else it is itself
+abbrev pub IsNoted : Store → (new : Block) → (applied : Bool) → (found more : List BlockHash) → Type 0
+IsNoted store new true found more = GainsFound store found more
+IsNoted store new false found more =
+    (hash : BlockHash) × (hash.bytes ≡ block_hash_of new) × (more ≡ found ++ hash ∷ [])

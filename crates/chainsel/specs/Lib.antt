@@ -1,4 +1,5 @@
 pub mod Dead
+pub mod Sides
 pub mod Ready
 pub mod Choices
 pub mod Paths

@@ -106,7 +106,7 @@ fn least<'a, S: SigScheme>(
 }
 
 /// The block that goes on furthest from the new one, itself where none does; of several the one with the least hash.
-/// Takes a look-up of successors for each block that goes on from it.
+/// Takes a look-up of successors for it, where a live block has a greater number, and for each that goes on from it.
 pub fn furthest<'a, S: SigScheme>(
     alloc: Global,
     store: &'a BlockStore<S>,
@@ -117,6 +117,9 @@ pub fn furthest<'a, S: SigScheme>(
     ensures best { IfOk result (λ best.
         0 < new.now.header.number → IsBest store.now found.now.hashes.items new.now best.now) }
 {
+    if !store.goes_past(new.number()) {
+        return Ok(new);
+    }
     let ends = furthest_ends(alloc, store, found, new)?;
     Ok(least(new, &ends))
 }

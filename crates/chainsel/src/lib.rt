@@ -10,9 +10,11 @@
 //! for hash in selection.invalid {
 //!     store.mark_invalid(hash); // never in a valid chain
 //! }
+//! // where the chain stays: selection.side for db.keep_side
 //! ```
 #![tactic(auto)]
 
+mod beside;
 mod found;
 mod furthest;
 mod links;

@@ -2,8 +2,10 @@
 
 ghost use Rattle.std.specs.Prelude.{◌≡◌, ◌-◌, length, IfOk};
 ghost use Rattle.ledgerdb.specs.Values.{depth};
-ghost use Rattle.chainsel.specs.Choices.{IsSelectionAnswer};
+ghost use Rattle.chainsel.specs.Founds.{AreFound};
+ghost use Rattle.chainsel.specs.Choices.{AreDeadInAll, IsSelectionAnswer};
 
+use crate::beside::side_of;
 use crate::found::Found;
 use crate::furthest::furthest;
 use crate::selection::{Choice, Selection, Switch};
@@ -11,16 +13,17 @@ use crate::sifting::sift;
 use crate::way::way_to;
 use block::CheckedBlock;
 use blockstore::BlockStore;
+use ledger::LedgerState;
 use ledgerdb::{ForkFault, LedgerDb};
 use std::alloc::{AllocError, Global};
 use witness_pool::SigScheme;
 
-/// What becomes of the selected chain when this block comes to the live ones, where a way leads to it from the chain,
-/// of which the first `immutable` blocks stay.
+/// What becomes of the selected chain, of which the first `immutable` blocks stay, when this block comes to the live
+/// ones, of which these were found dead by now.
 ///
-/// Takes a look-up of successors for each block that goes on from the new one, a look-up for each on the way to it, and
-/// the time to judge the longest path. Where a block is found dead, all that goes on from the new one is judged, each
-/// block once, and all of the above is done once more. Err where memory runs out.
+/// Takes a look-up of successors for each block that goes on from the new one, a look-up for each block on the way to
+/// it, and the time to judge the longest path. Where a block of that is dead, all that goes on from the new one is
+/// judged, each block once, and all of the above is done once more. Err where memory runs out.
 pub fn search<S: SigScheme>(
     alloc: Global,
     store: &BlockStore<S>,
@@ -28,18 +31,22 @@ pub fn search<S: SigScheme>(
     chain: &[CheckedBlock<S>],
     immutable: usize,
     new: &CheckedBlock<S>,
+    found: Found,
 ) -> Result<Selection<S>, AllocError>
-    requires { immutable ≡ length chain.now - depth db.now }
+    requires immutable { immutable ≡ length chain.now - depth db.now }
+    requires found { AreFound store.now found.hashes.items }
+    requires dead { AreDeadInAll S.verifies chain.now store.now db.now new.now found.hashes.items }
     ensures { IfOk result (IsSelectionAnswer S.verifies chain.now store.now db.now new.now) }
 {
-    let mut found = Found::new(alloc);
+    let mut found = found;
+    let mut side = None;
     loop {
         let end = furthest(alloc, store, &found, new)?;
         if end.number() <= chain.len() as u64 {
-            return Ok(keep(found));
+            return Ok(keep(found, side));
         }
         let Some(way) = way_to(alloc, store, &found, chain, immutable, new, end)? else {
-            return Ok(keep(found));
+            return Ok(keep(found, side));
         };
         let back = chain.len() - way.keep;
         match db.fork(back, &way.blocks) {
@@ -52,28 +59,31 @@ pub fn search<S: SigScheme>(
                 return Ok(Selection {
                     choice,
                     invalid: found.into_hashes(),
+                    side: None,
                 });
             }
             Err(ForkFault::OutOfMemory) => return Err(AllocError),
             Err(ForkFault::Refused(index, _)) => {
                 let dead = way.blocks[index].hash();
                 found.push(dead)?;
-                if dead == new.hash() {
-                    return Ok(keep(found));
+                side = side_of(db, back, &way.blocks, index, new)?;
+                if dead == new.hash() || !sift(alloc, store, &mut found, side.as_ref(), new)? {
+                    return Ok(keep(found, side));
                 }
-                sift(alloc, store, db, back, &way.blocks, new, &mut found)?;
             }
         }
     }
 }
 
 /// The chain stays.
-pub fn keep<S: SigScheme>(found: Found) -> Selection<S>
+pub fn keep<S: SigScheme>(found: Found, side: Option<LedgerState>) -> Selection<S>
     ensures choice { result.choice ≡ Choice.Keep }
     ensures invalid { result.invalid.items ≡ found.hashes.items }
+    ensures side { result.side ≡ side }
 {
     Selection {
         choice: Choice::Keep,
         invalid: found.into_hashes(),
+        side,
     }
 }

@@ -1,17 +1,20 @@
 //! The selection rule when a block comes.
 
-ghost use Rattle.std.specs.Prelude.{◌≡◌, ◌-◌, ◌≤◌, length, IfOk, IsTrue};
+ghost use Rattle.std.specs.Prelude.{◌≡◌, ◌⊎◌, ◌-◌, ◌≤◌, length, IfOk, IsTrue};
 ghost use Rattle.model.specs.Ledger.{Network};
 ghost use Rattle.model.specs.Chain.{immutable_length};
 ghost use Rattle.blockstore.specs.Stored.{Store};
+ghost use Rattle.blockstore.specs.Ways.{HasWay};
 ghost use Rattle.ledgerdb.specs.Values.{depth};
 ghost use Rattle.chainsel.specs.Ready.{IsSettled};
 ghost use Rattle.chainsel.specs.Paths.{IsLast};
 ghost use Rattle.chainsel.specs.Choices.{IsSelectionAnswer};
 
 use crate::found::Found;
+use crate::links::chain_tip;
 use crate::search::{keep, search};
 use crate::selection::Selection;
+use crate::sifting::sift;
 use block::CheckedBlock;
 use blockstore::BlockStore;
 use ledgerdb::LedgerDb;
@@ -42,15 +45,37 @@ fn goes_no_further<S: SigScheme>(
     Ok(store.successors(Some(new.hash()))?.is_empty())
 }
 
+/// Whether the chain stays by links alone: no way leads to the block from the immutable tip, or the block is no longer
+/// than the chain and nothing goes on from it. A few look-ups, and none where it extends the chain.
+fn stays_by_links<S: SigScheme>(
+    store: &BlockStore<S>,
+    chain: &[CheckedBlock<S>],
+    new: &CheckedBlock<S>,
+) -> Result<bool, AllocError>
+    ensures { IfOk result (λ stays. IsTrue stays → (HasWay store.now.root store.now.blocks new.now → ⊥)
+        ⊎ ((new.now.header.number ≤ length chain.now) × IsLast store.now new.now)) }
+{
+    if chain_tip(chain).precedes(new) {
+        return Ok(false);
+    }
+    if !store.connects(new) {
+        return Ok(true);
+    }
+    goes_no_further(store, chain, new)
+}
+
 /// What becomes of the selected chain when this block comes to the live ones (the Consensus and Storage Layer report,
-/// chain selection). Nothing changes: the caller marks what was found dead, and switches.
+/// chain selection). Nothing changes: the caller marks what was found dead, keeps the state that is answered beside the
+/// chain, and switches.
 ///
-/// Links are looked at first and the ledger last: where no way leads to the block from the immutable tip, or nothing
-/// goes on from it and it is no longer than the chain, a few look-ups in the store are all that it takes. Where nothing
-/// that goes on from it is longer, no block is judged, and one that extends the tip is judged once. A block that is
-/// found dead is told, so that it is never judged again. Else it takes a look-up of successors for each block that goes
-/// on from it, a look-up for each block on the way to it, and the time to judge the longest path. Where a block of that
-/// is dead, all that goes on from the new one is judged as well, each block once, and then all is done once more.
+/// Links are looked at first and the ledger last. Where no way leads to the block from the immutable tip, or nothing
+/// goes on from it and it is no longer than the chain, a few look-ups in the store are all that it takes. Where it
+/// comes next after a state that is kept beside the chain, it is judged on that, and so is all that goes on from it:
+/// each block once, and no time goes into the fork before it. Else, or where it is applied there, it takes a look-up of
+/// successors for each block that goes on from it. Where none of these is longer than the chain no block is judged, and
+/// where one is, it takes a look-up for each block on the way to it, and the time to judge the longest path. Where a
+/// block of that path is dead, the blocks before it are judged once more, and so is all that goes on from the new one,
+/// each block once; then the search begins again. A block that is found dead is told, so that it is never judged again.
 ///
 /// Where the answer is Err, memory ran out.
 pub fn select<S: SigScheme>(
@@ -62,9 +87,13 @@ pub fn select<S: SigScheme>(
 ) -> Result<Selection<S>, AllocError>
     ensures { IfOk result (IsSelectionAnswer S.verifies chain.now store.now db.now new.now) }
 {
-    if !store.connects(new) || goes_no_further(store, chain, new)? {
-        return Ok(keep(Found::new(alloc)));
+    let mut found = Found::new(alloc);
+    if stays_by_links(store, chain, new)? {
+        return Ok(keep(found, None));
+    }
+    if !sift(alloc, store, &mut found, db.side_before(new), new)? {
+        return Ok(keep(found, None));
     }
     let immutable = immutable(chain, db);
-    search(alloc, store, db, chain, immutable, new)
+    search(alloc, store, db, chain, immutable, new, found)
 }

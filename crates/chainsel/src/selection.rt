@@ -2,6 +2,7 @@
 
 use block::CheckedBlock;
 use ident::BlockHash;
+use ledger::LedgerState;
 use ledgerdb::Prepared;
 use witness_pool::SigScheme;
 
@@ -32,4 +33,8 @@ pub struct Selection<S: SigScheme> {
     pub choice: Choice<S>,
     /// The hashes of the blocks that were found to be in no valid chain, now or ever: live ones, or the one that came.
     pub invalid: Vec<BlockHash>,
+    /// Where a block was found dead on a fork that isn't taken, the state before it, or before the block that came, if
+    /// that comes first on the fork: for [`ledgerdb::LedgerDb::keep_side`], so that the next block there is judged on
+    /// it. None where nothing was, or where it was judged on such a state.
+    pub side: Option<LedgerState>,
 }

@@ -1,25 +1,21 @@
 //! What goes on from a block, judged.
 
-ghost use Rattle.std.specs.Prelude.{◌≡◌, ◌≤◌, ◌∷◌, List, Contains, OnOk, IfSome, Some, slice_get};
-ghost use Rattle.std.specs.List.{AllByRecursion};
+ghost use Rattle.std.specs.Prelude.{◌∷◌, ◌++◌, List, OnOk, IfOk, IfSome};
 ghost use Rattle.model.specs.Genesis.{Genesis};
-ghost use Rattle.model.specs.Block.{Block, block_hash_of};
+ghost use Rattle.model.specs.Block.{Block};
 ghost use Rattle.model.specs.Ledger.{network_on};
-ghost use Rattle.model.specs.Chain.{tip_at, Follows, HaveDistinctHashes};
+ghost use Rattle.model.specs.Chain.{tip_at, Follows};
 ghost use Rattle.blockstore.specs.Stored.{blocks_of};
-ghost use Rattle.ledgerdb.specs.Values.{depth};
-ghost use Rattle.ledgerdb.specs.Chains.{IsDatabaseOf};
 ghost use Rattle.chainsel.specs.Paths.{IsFitLive};
 ghost use Rattle.chainsel.specs.Choices.{AreDead};
-ghost use Rattle.chainsel.specs.Judged.{IsStateAt, StaysSifted, GainsFound};
+ghost use Rattle.chainsel.specs.Judged.{IsStateAt, StaysSifted, GainsFound, IsNoted};
+ghost use Rattle.chainsel.specs.Sides.{IsSide};
 
 use crate::found::Found;
 use crate::links::{follows, is_fit};
 use block::CheckedBlock;
 use blockstore::BlockStore;
-use ident::BlockHash;
 use ledger::{ApplyFault, LedgerState, apply_block};
-use ledgerdb::{ForkFault, LedgerDb};
 use std::alloc::{AllocError, Global};
 use witness_pool::SigScheme;
 
@@ -73,7 +69,7 @@ fn judge_next<'a, S: SigScheme>(
     Ok(())
 }
 
-/// Judges all that goes on from a block with this state after it, each block once and none behind one that is dead.
+/// Judges all that goes on from a block with this state after it: each block once, and none behind one that is dead.
 fn judge_behind<'a, S: SigScheme>(
     alloc: Global,
     store: &'a BlockStore<S>,
@@ -98,46 +94,56 @@ fn judge_behind<'a, S: SigScheme>(
     Ok(())
 }
 
-/// The place of the block with this hash, if it is there.
-fn place_of<S: SigScheme>(blocks: &[CheckedBlock<S>], hash: BlockHash) -> Option<usize>
-    ensures { IfSome result (λ place.
-        (b : Block) × (slice_get blocks.now place ≡ Some b) × (block_hash_of b ≡ hash.bytes)) }
-{
-    for (place, block) in blocks.iter().enumerate() {
-        if block.hash() == hash {
-            return Some(place);
-        }
-    }
-    None
-}
-
-/// Judges all that goes on from the new block, where that is applied itself behind the last `back` blocks of the chain
-/// and what comes before it on the way: each block once, and none behind one that is dead. What is dead is found. Takes
-/// the time to judge these blocks, with those of the way up to the new one, and memory for what each of them changes.
-pub fn sift<'a, S: SigScheme>(
+/// Judges the new block on this state, which it may come next after, and then all that goes on from it. Answers whether
+/// the new one is applied.
+fn judge_on<'a, S: SigScheme>(
     alloc: Global,
     store: &'a BlockStore<S>,
-    db: &LedgerDb,
-    back: usize,
-    way: &[CheckedBlock<S>],
-    new: &'a CheckedBlock<S>,
     found: &mut Found,
-) -> Result<(), AllocError>
-    requires { back ≤ depth db.now }
-    ensures found { OnOk result (GainsFound store.now found.old.hashes.items found.new.hashes.items) }
+    state: &LedgerState,
+    new: &'a CheckedBlock<S>,
+) -> Result<bool, AllocError>
+    requires { Follows state.now.tip new.now }
+    ensures found { IfOk result (λ applied. IsNoted store.now new.now applied
+        found.old.hashes.items found.new.hashes.items) }
     ensures dead { OnOk result ((genesis : Genesis) (opened chain : List Block)
-        → IsDatabaseOf (network_on genesis S.verifies opened) chain db.now
-        → HaveDistinctHashes (new.now ∷ blocks_of store.now)
-        → AllByRecursion (Contains (new.now ∷ blocks_of store.now)) way.now
+        → IsSide (network_on genesis S.verifies opened) ((new.now ∷ blocks_of store.now) ++ chain) state.now
         → AreDead (network_on genesis S.verifies opened) chain store.now new.now found.old.hashes.items
         → AreDead (network_on genesis S.verifies opened) chain store.now new.now found.new.hashes.items) }
 {
-    let Some(place) = place_of(way, new.hash()) else {
-        return Ok(());
-    };
-    match db.fork(back, &way[..=place]) {
-        Ok(prepared) => judge_behind(alloc, store, found, new, db.state_after(&prepared)),
-        Err(ForkFault::Refused(_, _)) => Ok(()),
-        Err(ForkFault::OutOfMemory) => Err(AllocError),
+    match apply_block(state, new) {
+        Ok(after) => {
+            judge_behind(alloc, store, found, new, &after)?;
+            Ok(true)
+        }
+        Err(ApplyFault::Refused(_)) => {
+            found.push(new.hash())?;
+            Ok(false)
+        }
+        Err(ApplyFault::OutOfMemory) => Err(AllocError),
+    }
+}
+
+/// Where there is a state that the new block may come next after, judges it on that, and then all that goes on from it:
+/// each block once, and none behind one that is dead. What is dead is found. Answers whether the new one isn't found
+/// dead. Takes the time to judge these blocks, and memory for what each changes; what comes before them takes none.
+pub fn sift<'a, S: SigScheme>(
+    alloc: Global,
+    store: &'a BlockStore<S>,
+    found: &mut Found,
+    state: Option<&LedgerState>,
+    new: &'a CheckedBlock<S>,
+) -> Result<bool, AllocError>
+    ensures found { IfOk result (λ applied. IsNoted store.now new.now applied
+        found.old.hashes.items found.new.hashes.items) }
+    ensures dead { OnOk result ((genesis : Genesis) (opened chain : List Block)
+        → IfSome state.entry (λ s.
+        IsSide (network_on genesis S.verifies opened) ((new.now ∷ blocks_of store.now) ++ chain) s.now)
+        → AreDead (network_on genesis S.verifies opened) chain store.now new.now found.old.hashes.items
+        → AreDead (network_on genesis S.verifies opened) chain store.now new.now found.new.hashes.items) }
+{
+    match state {
+        Some(state) if state.precedes(new) => judge_on(alloc, store, found, state, new),
+        _ => Ok(true),
     }
 }

@@ -1,6 +1,6 @@
 //! The state that blocks are applied to.
 
-ghost use Rattle.std.specs.Prelude.{◌≡◌, ◌+◌, ◌<◌, List, [], replicate, unwrap_or, IfOk};
+ghost use Rattle.std.specs.Prelude.{◌≡◌, ◌↔◌, ◌+◌, ◌<◌, List, [], replicate, unwrap_or, IsTrue, IfOk};
 ghost use Rattle.std.specs.List.{AllByRecursion};
 ghost use Rattle.model.specs.Limits.{hash_size, number_limit};
 ghost use Rattle.model.specs.Signature.{Verifies};
@@ -8,16 +8,18 @@ ghost use Rattle.model.specs.Utxo.{outputs_of, coin_of};
 ghost use Rattle.model.specs.Genesis.{supply_of};
 ghost use Rattle.model.specs.Block.{Block, IsBlock};
 ghost use Rattle.model.specs.Ledger.{Network, network_of};
+ghost use Rattle.model.specs.Chain.{Follows};
 ghost use Rattle.model.specs.Applying.{opening_state, IsStateOf};
 ghost use Rattle.utxo_rules.specs.View.{params_of};
 
 use crate::opening::{open_params, open_utxo};
-use block::Tip;
+use block::{CheckedBlock, Tip};
 use genesis::Genesis;
 use ident::Point;
 use std::alloc::{AllocError, Global};
 use std::marker::Model;
 use utxo_rules::{Params, Utxo};
+use witness_pool::SigScheme;
 
 /// What a chain leaves: its unspent outputs, its fees and where it ends, with what the network asks of the next block.
 /// A copy takes no memory and shares what the two have in common, so that a program can keep thousands of states. What
@@ -113,6 +115,14 @@ impl LedgerState {
                 hash: Point::genesis().hash,
             },
         }
+    }
+
+    /// Whether the block may come next, by its header alone: it has the number after that of the last block, names that
+    /// one as the block before it, and has a later slot. Takes no memory.
+    pub fn precedes<S: SigScheme>(&self, block: &CheckedBlock<S>) -> bool
+        ensures { IsTrue result ↔ Follows self.now.tip block.now }
+    {
+        self.tip.precedes(block)
     }
 
     /// The same state again, in constant time and with no memory. Err where 2^63 copies share its outputs already.

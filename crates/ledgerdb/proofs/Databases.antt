@@ -19,11 +19,15 @@ without_last_of back older blocks within =
     let e : length (older ++ blocks) - back ≡ length older + (length blocks - back) = omega (arith, length-append older blocks) in
     ap (λ (m : ℕ). take m (older ++ blocks)) e ∙ take_past (length blocks - back) older blocks
 
--- a database with this anchor and these states
+-- a database with this anchor and these states, and none beside the chain
 abbrev pub with_states : ℕ → LedgerState → List LedgerState → Database
-with_states k anchor states = record { k = k; anchor = anchor; states = states }
+with_states k anchor states = record { k = k; anchor = anchor; states = states; sides = [] }
 
 module _ (network : Network) where
+  -- what is kept beside the chain doesn't matter
+  pub beside_any : (chain : List Block) (db : Database) (sides : List LedgerState) → IsDatabaseOf network chain db → IsDatabaseOf network chain (record db { sides = sides })
+  beside_any chain db sides is = record { older = is.older; blocks = is.blocks; parts = is.parts; anchor = is.anchor; states = is.states }
+
   -- one state and no blocks after it
   pub new_database : (k : ℕ) (anchor : LedgerState) (chain : List Block) → IsStateOf network chain anchor → IsDatabaseOf network chain (with_states k anchor [])
   new_database k anchor chain is = record { older = chain; blocks = []; parts = sym (append-nil chain); anchor = is; states = tt }

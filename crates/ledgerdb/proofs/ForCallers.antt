@@ -14,6 +14,10 @@ module _ (network : Network) where
   pub depth_within : (chain : List Block) (db : Database) → IsDatabaseOf network chain db → depth db ≤ length chain
   depth_within = own.depth_within network
 
+  -- what is kept beside the chain doesn't matter to it
+  pub beside_any : (chain : List Block) (db : Database) (sides : List LedgerState) → IsDatabaseOf network chain db → IsDatabaseOf network chain (record db { sides = sides })
+  beside_any = own.beside_any network
+
   -- a chain that has a state is valid
   pub valid_chain : (chain : List Block) (s : LedgerState) → IsStateOf network chain s → IsValidChain network chain
   valid_chain chain s is = record { linked = is.linked; sizes = is.sizes; ledger = subst (λ (o : Option Ledger). IsSome o) (sym is.ledger) refl }

@@ -17,7 +17,12 @@ states_along (d ∷ ds) s = undone_blocks ds s ∷ states_along ds s
 
 abbrev pub database_of : Inside → Database
 database_of a =
-    record { k = a.k; anchor = undone_blocks a.diffs a.state; states = states_along a.diffs a.state }
+    record {
+      k = a.k;
+      anchor = undone_blocks a.diffs a.state;
+      states = states_along a.diffs a.state;
+      sides = a.sides;
+    }
 
 -- there are at most k differences, as many as a list can hold
 abbrev pub IsBounded : Inside → Type 0

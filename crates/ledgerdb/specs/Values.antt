@@ -1,14 +1,16 @@
 -- What a ledger database holds, and what a fork makes ready (the Consensus and Storage Layer report, ledger database).
-use Rattle.std.specs.Prelude.{ℕ, ◌-◌, List, length, take, refl}
+use Rattle.std.specs.Prelude.{ℕ, ◌-◌, List, length, take, drop, refl}
 use Rattle.std.specs.Coded.{Coded, code_by, coded×, coded_ℕ, coded_list}
 use Rattle.model.specs.Applying.{LedgerState, last_state}
 use Rattle.model.specs.Codes.{coded_ledger_state}
 
--- the anchor and the states of the blocks after it, the oldest first; at most k of these are kept
+-- the anchor and the states of the blocks after it, the oldest first, of which at most k are kept; and states beside
+-- this chain, of other chains, the oldest first
 pub record Database : Type 0 where
   pub k : ℕ
   pub anchor : LedgerState
   pub states : List LedgerState
+  pub sides : List LedgerState
 
 -- how many blocks are rolled back, the state that is left then, and the states of the blocks that stand in their place,
 -- the oldest first
@@ -19,10 +21,11 @@ pub record Prepared : Type 0 where
 
 abbrev pub coded_database : Coded Database
 coded_database =
-    code_by (ℕ × (LedgerState × List LedgerState))
-    (coded× coded_ℕ (coded× coded_ledger_state (coded_list coded_ledger_state)))
-    (λ db. (db.k, (db.anchor, db.states)))
-    (λ p. record { k = p.0; anchor = p.1.0; states = p.1.1 })
+    code_by (ℕ × (LedgerState × (List LedgerState × List LedgerState)))
+    (coded× coded_ℕ
+    (coded× coded_ledger_state (coded× (coded_list coded_ledger_state) (coded_list coded_ledger_state))))
+    (λ db. (db.k, (db.anchor, (db.states, db.sides))))
+    (λ p. record { k = p.0; anchor = p.1.0; states = p.1.1.0; sides = p.1.1.1 })
     (λ _. refl)
 
 abbrev pub coded_prepared : Coded Prepared
@@ -44,3 +47,11 @@ count prepared = length prepared.states
 -- the state so many blocks ago
 abbrev pub state_back : Database → ℕ → LedgerState
 state_back db back = last_state db.anchor (take (depth db - back) db.states)
+
+-- how many states beside the chain are kept at most
+abbrev pub most_sides : ℕ
+most_sides = 8
+
+-- the last ones, as many as are kept
+abbrev pub latest : List LedgerState → List LedgerState
+latest states = drop (length states - most_sides) states

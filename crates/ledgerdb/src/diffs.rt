@@ -56,13 +56,13 @@ pub fn drop_newest(diffs: &mut LinkedList<BlockDiff>, count: usize)
     }
 }
 
-/// Drops differences at the older end until there are at most `most`. Takes no memory, and time that grows with the
-/// number of those dropped.
-pub fn drop_oldest(diffs: &mut LinkedList<BlockDiff>, most: usize)
-    ensures { diffs.new ≡ drop (length diffs.old - most) diffs.old }
+/// Drops items at the older end until there are at most `most`. Takes no memory, and time that grows with the number of
+/// those dropped.
+pub fn drop_oldest<T: Drop>(items: &mut LinkedList<T>, most: usize)
+    ensures { items.new ≡ drop (length items.old - most) items.old }
 {
-    let extra = diffs.len().saturating_sub(most);
+    let extra = items.len().saturating_sub(most);
     for _ in 0..extra {
-        let _ = diffs.pop_front();
+        let _ = items.pop_front();
     }
 }

@@ -14,15 +14,22 @@ use witness_pool::SigScheme;
 /// The most differences that a list holds.
 const MOST_DIFFS: u64 = 0x7fff_ffff_ffff_ffff;
 
+/// How many states beside the chain are kept.
+const MOST_SIDES: usize = 8;
+
 /// The state of a chain and what each of its last k blocks changed, so that a fork from up to k blocks back can be
 /// judged without applying the chain anew (the Consensus and Storage Layer report, ledger database). One state is
 /// whole, the newest; those before it are had by undoing. Each block takes memory for what it changed.
+///
+/// Beside these it keeps up to eight states of other chains, until the next commit: those on which blocks were judged
+/// and refused, so that the next block there is judged without applying the whole fork once more.
 #[derive(Drop)]
 pub struct LedgerDb {
     alloc: Global,
     k: u64,
     state: LedgerState,
     diffs: LinkedList<BlockDiff>,
+    sides: LinkedList<LedgerState>,
 }
 
 impl Model for LedgerDb {
@@ -40,12 +47,15 @@ impl Model for LedgerDb {
 }
 
 impl LedgerDb {
-    ghost use Rattle.std.specs.Prelude.{◌≡◌, ◌+◌, ◌-◌, ◌^◌, ◌≤◌, min, List, ◌++◌, length, IfOk, IfErr};
+    ghost use Rattle.std.specs.Prelude.{◌≡◌, ◌+◌, ◌-◌, ◌^◌, ◌≤◌, min, List, [], ◌∷◌, ◌++◌, length, Contains};
+    ghost use Rattle.std.specs.Prelude.{IfOk, IfErr, OnOk, OnErr, MatchOption};
+    ghost use Rattle.std.specs.List.{AllByRecursion};
     ghost use Rattle.model.specs.Genesis.{Genesis};
     ghost use Rattle.model.specs.Block.{Block};
     ghost use Rattle.model.specs.Ledger.{Network, network_on};
+    ghost use Rattle.model.specs.Chain.{Follows};
     ghost use Rattle.model.specs.Applying.{IsStateOf, AreStates, last_state};
-    ghost use Rattle.ledgerdb.specs.Values.{depth, count, state_back};
+    ghost use Rattle.ledgerdb.specs.Values.{depth, count, state_back, latest};
     ghost use Rattle.ledgerdb.specs.Chains.{without_last, IsDatabaseOf, IsPreparedOf};
     ghost use Rattle.ledgerdb.specs.Faults.{IsForkFault, IsFaultOnChain};
 
@@ -58,12 +68,14 @@ impl LedgerDb {
         // It is a database of each chain whose state the anchor is.
         ensures chain { (network : Network) (chain : List Block) →
             IsStateOf network chain anchor → IsDatabaseOf network chain result }
+        ensures sides { result.sides ≡ [] }
     {
         LedgerDb {
             alloc,
             k: k.min(MOST_DIFFS),
             state: anchor,
             diffs: LinkedList::new(alloc),
+            sides: LinkedList::new(alloc),
         }
     }
 
@@ -117,6 +129,7 @@ impl LedgerDb {
         requires { back ≤ depth self.now }
         ensures back { IfOk result (λ prepared. prepared.back ≡ back) }
         ensures count { IfOk result (λ prepared. count prepared ≡ length blocks.now) }
+        ensures root { IfOk result (λ prepared. prepared.root ≡ state_back self.now back) }
         ensures applied { IfOk result (λ prepared.
             AreStates S.verifies (state_back self.now back) blocks.now prepared.states) }
         ensures refused { IfErr result (IsForkFault S.verifies (state_back self.now back) blocks.now) }
@@ -152,10 +165,8 @@ impl LedgerDb {
         }
     }
 
-    /// The newest state once this fork is committed, which rolls back at most the depth. Copies nothing, and takes no
-    /// memory.
+    /// The newest state once this fork is committed. Copies nothing, and takes no memory.
     pub fn state_after<'a>(&'a self, prepared: &'a Prepared) -> &'a LedgerState
-        requires { prepared.now.back ≤ depth self.now }
         ensures state { result.now ≡ last_state prepared.now.root prepared.now.states }
         // The same, said of the chain whose database it is.
         ensures chain { (network : Network) (chain blocks : List Block) →
@@ -167,17 +178,20 @@ impl LedgerDb {
     }
 
     /// Rolls back as many blocks as the fork does, and puts its blocks in their place. At most k states stay after the
-    /// anchor: older ones are dropped, and the anchor moves on. Takes no memory, and time that grows with the blocks
-    /// rolled back and put on, not with k.
+    /// anchor: older ones are dropped, and the anchor moves on. No state beside the chain is kept. Takes no memory, and
+    /// time that grows with the blocks rolled back and put on, not with k.
     pub fn commit(&mut self, prepared: Prepared)
         requires { prepared.back ≤ depth self.old }
         ensures depth { depth self.new ≡ min self.old.k (depth self.old - prepared.back + count prepared) }
         ensures k { self.new.k ≡ self.old.k }
+        ensures state { state_back self.new 0 ≡ last_state prepared.root prepared.states }
         ensures chain { (network : Network) (chain blocks : List Block) →
             IsDatabaseOf network chain self.old →
             IsPreparedOf network (without_last prepared.back chain) blocks prepared →
             IsDatabaseOf network (without_last prepared.back chain ++ blocks) self.new }
+        ensures sides { self.new.sides ≡ [] }
     {
+        self.sides.clear();
         let k = self.k as usize;
         let mut newer = prepared.diffs;
         drop_newest(&mut self.diffs, prepared.back);
@@ -185,5 +199,31 @@ impl LedgerDb {
         drop_oldest(&mut newer, k);
         self.diffs.append(&mut newer).unwrap();
         self.state = prepared.state;
+    }
+
+    /// The state beside the chain that the block may come next after, if one is kept: the oldest such. Takes no memory.
+    pub fn side_before<S: SigScheme>(&self, block: &CheckedBlock<S>) -> Option<&LedgerState>
+        ensures { MatchOption result
+            (AllByRecursion (λ s. Follows s.tip block.now → ⊥) self.now.sides)
+            (λ s. Contains self.now.sides s.now × Follows s.now.tip block.now) }
+    {
+        let mut rest = self.sides.iter();
+        while let Some(side) = rest.next() {
+            if side.precedes(block) {
+                return Some(side);
+            }
+        }
+        None
+    }
+
+    /// Keeps this state beside the chain until the next commit, and of all such states the latest eight. Err where
+    /// memory runs out, and then nothing changes.
+    pub fn keep_side(&mut self, state: LedgerState) -> Result<(), AllocError>
+        ensures ok { OnOk result (self.new ≡ record self.old { sides = latest (self.old.sides ++ state ∷ []) }) }
+        ensures err { OnErr result (self.new ≡ self.old) }
+    {
+        self.sides.push_back(state)?;
+        drop_oldest(&mut self.sides, MOST_SIDES);
+        Ok(())
     }
 }

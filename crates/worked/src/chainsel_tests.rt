@@ -75,7 +75,11 @@ fn keep(rt: &impl Abort, chains: &mut Chains, block: CheckedBlock<TestScheme>, d
 /// The block of this name comes; then the chain has so many blocks, and so many are found dead.
 fn comes(rt: &(impl Abort + AllocGlobal), chains: &mut Chains, name: &str, length: u64, dead: u64) {
     let block = block_of(rt, &chains.names, name);
-    let Selection { choice, invalid } = select_with(rt, chains, &block);
+    let Selection {
+        choice,
+        invalid,
+        side: _,
+    } = select_with(rt, chains, &block);
     if let Choice::Switch(selected) = choice {
         put_on(rt, chains, selected);
     }

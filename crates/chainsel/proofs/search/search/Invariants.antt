@@ -1,15 +1,17 @@
 use Rattle.std.proofs.Common.{◌-◌, length}
+use Rattle.std.specs.Prelude.{IfSome}
 use Rattle.chainsel.specs.Founds.{AreFound}
-use Rattle.chainsel.proofs.Answering.{AreDeadInAll}
+use Rattle.chainsel.specs.Choices.{AreDeadInAll, IsSideInAll}
 use Rattle.chainsel.proofs.search.search.Given as goal
 
--- what was found dead by now is so, and no block was found twice
-abbrev pub invariant-loop-found : goal.invariant-loop-found
-invariant-loop-found g l = record {
+-- what was found dead by now is so, no block was found twice, and the state beside the chain is one of blocks at hand
+abbrev pub invariant-loop-side : goal.invariant-loop-side
+invariant-loop-side g l = record {
   found : AreFound l.store l.found.hashes.items;
   dead : AreDeadInAll g.S.SigScheme.verifies l.chain l.store l.db l.new l.found.hashes.items;
+  beside : IfSome l.side (IsSideInAll g.S.SigScheme.verifies l.chain l.store l.db l.new);
 }
 
 -- the live blocks that aren't found dead
-abbrev pub decreases-loop-found : goal.decreases-loop-found
-decreases-loop-found g l = length l.store.blocks - length l.found.hashes.items
+abbrev pub decreases-loop-side : goal.decreases-loop-side
+decreases-loop-side g l = length l.store.blocks - length l.found.hashes.items

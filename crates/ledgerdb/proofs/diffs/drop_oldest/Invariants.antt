@@ -3,4 +3,4 @@ use Rattle.ledgerdb.proofs.diffs.drop_oldest.Given as goal
 
 -- the newest ones are left
 abbrev pub invariant-loop : goal.invariant-loop
-invariant-loop l = l.diffs ≡ drop l.counter l.fn.diffs
+invariant-loop g l = l.items ≡ drop l.counter l.fn.items

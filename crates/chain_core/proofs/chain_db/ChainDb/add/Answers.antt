@@ -1,13 +1,17 @@
-use Rattle.std.proofs.Common.{◌≡◌, ℕ, List, ◌∷◌, take, refl, ap, subst, ◌∙◌, sym}
+use Rattle.std.proofs.Common.{◌≡◌, ℕ, List, ◌∷◌, ◌++◌, take, refl, ap, subst, ◌∙◌, sym}
+use Rattle.std.specs.Prelude.{IfSome}
 use Rattle.std.specs.List.{AllByRecursion}
 use Rattle.model.specs.Block.{Block}
 use Rattle.ledgerdb.specs.Chains.{without_last, IsPreparedOf}
 use Rattle.ident.specs.Kinds.{BlockHash}
 use Rattle.blockstore.specs.Stored.{Store, blocks_of}
 use Rattle.chainsel.specs.Ready.{IsReady}
+use Rattle.chainsel.specs.Sides.{IsSide}
+use Rattle.chainsel.proofs.ForCallers.{at_hand, if_some}
+use Rattle.ledgerdb.specs.Values.{Database}
 use Rattle.chainsel.specs.Choices.{IsSelected, IsChoice, IsSwitch, IsFoundDead}
 use Rattle.chain_core.specs.declared.chain_db.ChainDb.{ChainDb}
-use Rattle.chain_core.specs.ChainDbs.{IsTakenIn, network_db}
+use Rattle.chain_core.specs.ChainDbs.{IsTakenIn, IsBeside, network_db}
 use Rattle.chain_core.proofs.Adding.{added_kept, added_at_switch, switch_noted}
 use Rattle.chain_core.proofs.chain_db.ChainDb.add.Goals as goal
 
@@ -22,7 +26,16 @@ returns-in-Keep-clause-ok g c =
     let selected = subst (λ (bs : List Block). IsSelected network old.store bs new bs) c.deref.ensures.value choice in
     let found = subst (λ (bs : List Block). AllByRecursion (IsFoundDead network bs (new ∷ blocks_of old.store)) c.in_ok-choice.field-0.invalid.items) c.deref.ensures.value (c.in_ok-choice.ensures.invalid c.args.genesis.now opened ready) in
     let taken = subst (λ (hs : List BlockHash). IsTakenIn old.store new hs c.insert.new.self.store) c.deref-in-Keep.ensures.value c.in_ok-insert-in-Keep.ensures.ok in
-    added_kept network old new c.requires.whole c.requires.ready c.in_ok-choice.field-0.invalid.items found c.insert.new.self (record { back = 0; added = 0 }) taken c.insert.ensures.frame refl refl selected
+    let side = c.in_ok-choice.field-0.side in
+    let inserted : c.keep_side.new.self.store ≡ c.insert.new.self.store = ap (λ (a : ChainDb g.row.S.Denot). a.store) c.keep_side.ensures.frame in
+    let frame : c.keep_side.new.self ≡ record old { store = c.keep_side.new.self.store; db = c.keep_side.new.self.db } =
+    subst (λ (a : ChainDb g.row.S.Denot). c.keep_side.new.self ≡ record a { store = c.keep_side.new.self.store; db = c.keep_side.new.self.db }) c.insert.ensures.frame
+    (subst (λ (x : Store). c.keep_side.new.self ≡ record c.insert.new.self { store = x; db = c.keep_side.new.self.db }) (sym inserted) c.keep_side.ensures.frame) in
+    let one : IfSome side (IsSide network (at_hand old.chain.items old.store new)) = if_some side _ _
+    (λ s all. subst (λ (bs : List Block). IsSide network ((new ∷ blocks_of old.store) ++ bs) s) c.deref.ensures.value (all c.args.genesis.now opened ready)) c.in_ok-choice.ensures.side in
+    let beside = subst (λ (d : Database). IsBeside d side c.keep_side.new.self.db) (ap (λ (a : ChainDb g.row.S.Denot). a.db) c.insert.ensures.frame) c.keep_side.ensures.sides in
+    added_kept network old new c.requires.whole c.requires.ready c.in_ok-choice.field-0.invalid.items found c.keep_side.new.self (record { back = 0; added = 0 }) side
+    (subst (λ (x : Store). IsTakenIn old.store new c.in_ok-choice.field-0.invalid.items x) (sym inserted) taken) frame refl refl selected beside one
 
 pub returns-clause-ok : goal.returns-clause-ok
 returns-clause-ok g c =

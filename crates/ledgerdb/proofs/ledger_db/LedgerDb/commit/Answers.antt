@@ -1,13 +1,13 @@
-use Rattle.std.proofs.Common.{◌≡◌, ◌<◌, ◌≤◌, ◌+◌, ◌-◌, ◌++◌, ℕ, min, Bool, List, length-append, length, drop, take, ap, subst, refl, sym, ◌∙◌, arith}
+use Rattle.std.proofs.Common.{◌≡◌, ◌<◌, ◌≤◌, ◌+◌, ◌-◌, ◌++◌, ℕ, min, Bool, List, [], length-append, length, drop, take, ap, subst, refl, sym, ◌∙◌, arith}
 use Rattle.std.specs.Prelude.{if◌then◌else◌}
 use Rattle.std.proofs.lemmas.List.{length-drop, length-take-le}
 use Rattle.model.specs.Applying.{LedgerState, last_state, IsStateOf}
 use Rattle.model.proofs.AppliedBlocks.{one_state_of}
 use Rattle.ledgerdb.specs.Values.{Database, Prepared}
 use Rattle.ledgerdb.specs.Chains.{without_last, IsDatabaseOf, IsPreparedOf}
-use Rattle.ledgerdb.specs.Inside.{undone_blocks, states_along}
-use Rattle.ledgerdb.proofs.Along.{along_length, back_is, committed_view}
-use Rattle.ledgerdb.proofs.Databases.{committed, back_state, with_states}
+use Rattle.ledgerdb.specs.Inside.{undone_blocks, states_along, database_of}
+use Rattle.ledgerdb.proofs.Along.{along_length, back_is, last_along, newest_is, committed_view}
+use Rattle.ledgerdb.proofs.Databases.{committed, back_state, beside_any, with_states}
 use Rattle.ledgerdb.proofs.ledger_db.LedgerDb.commit.Goals as goal
 
 -- how many are left
@@ -25,8 +25,8 @@ returns-clause-chain c = λ network chain blocks is are.
     let newer = c.prepared.inside.diffs in
     let new = c.prepared.inside.state in
     let kept = c.drop_newest.new.diffs in
-    let left = c.drop_oldest.new.diffs in
-    let late = c.drop_oldest-2.new.diffs in
+    let left = c.drop_oldest.new.items in
+    let late = c.drop_oldest-2.new.items in
     let joined = c.append.new.self in
     let room = c.saturating_sub.result in
     let room_is : room ≡ k - length newer = c.saturating_sub.ensures ∙ ap (λ n. k - n) c.len.ensures.value in
@@ -39,7 +39,7 @@ returns-clause-chain c = λ network chain blocks is are.
     omega (arith, bound, few, more, room_is, length-drop (length kept - room) kept, length-drop (length newer - k) newer) in
     let joined_is : joined ≡ left ++ late = c.append.ensures.items ∙ ap (λ (b : Bool). if b then left ++ late else left) (c.append.ensures.succeeds small) in
     let db : Database = with_states k (undone_blocks ds s) (states_along ds s) in
-    let of : IsDatabaseOf network chain db = subst (IsDatabaseOf network chain) (sym c.self.view_is) is in
+    let of : IsDatabaseOf network chain db = beside_any network chain (database_of inside) [] (subst (IsDatabaseOf network chain) (sym c.self.view_is) is) in
     let for : IsPreparedOf network (without_last back chain) blocks (record { back = back; root = undone_blocks newer new; states = states_along newer new }) =
     subst (λ (p : Prepared). IsPreparedOf network (without_last p.back chain) blocks p) (sym c.prepared.view_is) are in
     let root = undone_blocks (drop (length ds - back) ds) s in
@@ -52,8 +52,9 @@ returns-clause-chain c = λ network chain blocks is are.
     let anchor = last_state (last_state (undone_blocks ds s) (take (length states - (k - length more)) states)) (take (length more - k) more) in
     let told : IsDatabaseOf network (without_last back chain ++ blocks) (with_states k anchor (states_along joined new)) =
     subst (λ (ts : List LedgerState). IsDatabaseOf network (without_last back chain ++ blocks) (with_states k anchor ts)) (sym view.0) whole in
-    subst (λ (p : Prepared). IsDatabaseOf network (without_last p.back chain ++ blocks) (with_states k (undone_blocks joined new) (states_along joined new))) c.prepared.view_is
-    (subst (λ (t : LedgerState). IsDatabaseOf network (without_last back chain ++ blocks) (with_states k t (states_along joined new))) (sym view.1) told)
+    subst (λ (p : Prepared). IsDatabaseOf network (without_last p.back chain ++ blocks) (record (with_states k (undone_blocks joined new) (states_along joined new)) { sides = c.clear.new.self })) c.prepared.view_is
+    (beside_any network (without_last back chain ++ blocks) (with_states k (undone_blocks joined new) (states_along joined new)) c.clear.new.self
+    (subst (λ (t : LedgerState). IsDatabaseOf network (without_last back chain ++ blocks) (with_states k t (states_along joined new))) (sym view.1) told))
 
 pub drop_newest-requires : goal.drop_newest-requires
 drop_newest-requires c =
@@ -68,8 +69,8 @@ returns-clause-depth c =
     let inside = c.self.inside in
     let newer = c.prepared.inside.diffs in
     let kept = c.drop_newest.new.diffs in
-    let left = c.drop_oldest.new.diffs in
-    let late = c.drop_oldest-2.new.diffs in
+    let left = c.drop_oldest.new.items in
+    let late = c.drop_oldest-2.new.items in
     let room = c.saturating_sub.result in
     let room_is : room ≡ inside.k - length newer = c.saturating_sub.ensures ∙ ap (λ n. inside.k - n) c.len.ensures.value in
     let k_is : inside.k ≡ c.args.self.now.k = ap (λ (db : Database). db.k) c.self.view_is in
@@ -87,3 +88,8 @@ returns-clause-depth c =
     let seen = along_length c.append.new.self c.prepared.inside.state in
     seen ∙ count_left inside.k (length inside.diffs) (length newer) c.prepared.inside.back (length kept) (length left) (length late) (length c.append.new.self) room
     c.args.self.now.k (length c.args.self.now.states) (length c.args.prepared.states) c.args.prepared.back room_is k_is old new by within kept_is left_is late_is joined
+
+pub returns-clause-state : goal.returns-clause-state
+returns-clause-state c =
+    sym (newest_is c.append.new.self c.prepared.inside.state)
+    ∙ (sym (last_along c.prepared.inside.diffs c.prepared.inside.state) ∙ ap (λ (p : Prepared). last_state p.root p.states) c.prepared.view_is)
