@@ -31,8 +31,7 @@ const SENDING: usize = 4;
 /// How many clients there are.
 const CLIENTS: usize = 8;
 
-/// The most times that a client submits, asks what is next, and reads the height: each call but the last stays in the
-/// journal.
+/// The most times that a client submits, asks what is next, and reads the height.
 const ROUNDS: u64 = 20_000;
 
 /// How many workers check transactions.
@@ -79,10 +78,8 @@ struct Client<B: Room> {
 
 impl<B: Room> Client<B> {
     /// Submits the payment.
-    fn submit<R: Wait>(&mut self, rt: &R, alloc: Global, shared: &Shared<TestScheme, B>) {
-        let mut bytes = Vec::new(alloc);
-        let _ = bytes.extend_from_slice(&self.payment);
-        if let Ok(SubmitReply::Added) = shared.submit(rt, &mut self.caller, bytes) {
+    fn submit<R: Wait>(&mut self, rt: &R, shared: &Shared<TestScheme, B>) {
+        if let Ok(SubmitReply::Added) = shared.submit(rt, &mut self.caller, &self.payment) {
             self.added = self.added.saturating_add(1);
         }
     }
@@ -110,18 +107,12 @@ impl<B: Room> Client<B> {
     }
 
     /// Makes its calls until it is told to end.
-    fn visit<R: Wait>(
-        &mut self,
-        rt: &R,
-        alloc: Global,
-        shared: &Shared<TestScheme, B>,
-        ended: &AtomicBool,
-    ) {
+    fn visit<R: Wait>(&mut self, rt: &R, shared: &Shared<TestScheme, B>, ended: &AtomicBool) {
         for _ in 0..ROUNDS {
             if ended.load(Ordering::SeqCst) {
                 break;
             }
-            self.submit(rt, alloc, shared);
+            self.submit(rt, shared);
             self.ask(rt, shared);
             self.look(shared);
             self.calls = self.calls.saturating_add(3);
@@ -141,12 +132,11 @@ impl<B: Room> Client<B> {
 /// What a client's thread does: it visits the core until it is told to end.
 fn visited<B: Room, R: Wait>(
     rt: &R,
-    alloc: Global,
     shared: &Shared<TestScheme, B>,
     mut client: Client<B>,
     ended: &AtomicBool,
 ) -> Client<B> {
-    client.visit(rt, alloc, shared, ended);
+    client.visit(rt, shared, ended);
     client
 }
 
@@ -200,7 +190,7 @@ fn run_threads<B: Room + Send + Sync, M: Mailroom + Send + Sync, R: Threads + Wa
         let mut all = true;
         let mut visiting = Vec::new(alloc);
         for client in clients {
-            let visitor = scope.spawn(move || visited(rt, alloc, shared, client, ended));
+            let visitor = scope.spawn(move || visited(rt, shared, client, ended));
             match visitor {
                 Ok(visitor) => all &= visiting.push(visitor).is_ok(),
                 Err(_) => all = false,

@@ -1,17 +1,17 @@
 -- An adder, one step after the other.
-use Rattle.std.proofs.Common.{◌≡◌, ◌≢◌, ◌⊎◌, ℕ, suc, ◌+◌, ◌-◌, ◌*◌, ◌<◌, ◌≤◌, ◌^◌, min, Bool, true, false, true≢false, not, is_some, List, [], ◌∷◌, ◌++◌, length, Option, Some, None, refl, sym, ap, ◌∙◌, subst, inl, inr, ⊎_elim, append_assoc, append-nil, arith}
-use Rattle.std.specs.Prelude.{slice_index, slice_set, IfSome, IfNone}
+use Rattle.std.proofs.Common.{◌≡◌, ◌≢◌, ◌⊎◌, ℕ, suc, ◌+◌, ◌-◌, ◌<◌, ◌≤◌, ◌^◌, min, Bool, true, false, true≢false, not, is_some, List, [], ◌∷◌, ◌++◌, length, Option, Some, None, refl, sym, ap, ◌∙◌, subst, inl, inr, ⊎_elim, append_assoc, append-nil, arith}
+use Rattle.std.specs.Prelude.{slice_index, slice_set, IfNone}
 use Rattle.std.specs.List.{AllByRecursion}
 use Rattle.std.proofs.lemmas.Bool.Decides.{eqb_tells}
 use Rattle.std.proofs.lemmas.List.{length-append, get_or-set_same, get_or-set_other}
 use Rattle.model.proofs.Lists.{all_append}
 use Rattle.model.specs.Ledger.{Network}
-use Rattle.model.specs.Journal.{JournalEntry, Journal, Knowledge, IsCalled}
+use Rattle.model.specs.Journal.{JournalEntry, Journal, Knowledge}
 use Rattle.inbox.specs.Arrivals.{Arrival, SentBy, Intake, peers, came_of, BeginsWith, IsCountOf, IsPeer}
 use Rattle.inbox.specs.Telling.{IsAllThatWasSent}
 use Rattle.inbox.proofs.ForCallers.{came_own, came_other}
 use Rattle.shared.specs.Later.{IsLater, Same, Called, Looked, Met}
-use Rattle.shared.specs.Arrivals.{arrival_in, arrivals_in}
+use Rattle.shared.specs.Arrivals.{arrivals_in}
 use Rattle.shared.specs.Entries.{arrival_by}
 use Rattle.shared.specs.Adding.{Adding, held_in, IsInStep, IsArrival, IsBrought, HasAdded, HasTaken, IsGrownBy, IsAllBrought, IsBroughtCount}
 use Rattle.shared.proofs.Arriving.{arrivals_push}
@@ -63,16 +63,16 @@ taken_on network a b c added none taken =
     }
 
 -- it brings what it holds
-pub brought_of : (network : Network) (before : Adding) (knows : Knowledge) (peer : ℕ) (bytes : List ℕ) → IsInStep before → before.held ≡ Some (record { peer = peer; bytes = bytes }) → IsBrought network before.knows peer bytes knows
+pub brought_of : (network : Network) (before : Adding) (knows : Knowledge) (peer : ℕ) (bytes : List ℕ) → IsInStep before → IsPeer peer → before.held ≡ Some (record { peer = peer; bytes = bytes }) → IsBrought network before.knows peer bytes knows
     → HasAdded network before (record before { knows = knows; held = None })
-brought_of network before knows peer bytes step held is =
+brought_of network before knows peer bytes step from held is =
     let e : JournalEntry = arrival_by before.knows.caller peer bytes is.0 in
     let a : Arrival = record { peer = peer; bytes = bytes } in
     record {
       later = Called before.knows before.knows knows e (Same before.knows) is.1;
       brought = e ∷ [];
       calls = is.1.calls;
-      arrivals = ((a, refl), tt);
+      arrivals = ((a, refl, from), tt);
       taken = begins_same before.intake.taken;
       in_step =
           append-nil (arrivals_in knows.calls) ∙ (ap arrivals_in is.1.calls ∙ (arrivals_push before.knows.calls e
@@ -146,18 +146,32 @@ last_taken a peers none test is all = found a.held (test ∙ ap not is) all
 
 -- ---- on the way
 
--- it holds nothing, and has brought so many since
-pub record IsRunning (network : Network) (before now : Adding) (count : ℕ) : Type 0 where
+-- at most one is held
+held_one : (o : Option Arrival) → length (held_in o) ≤ 1
+held_one None = omega arith
+held_one (Some arrival) = omega arith
+
+-- a take is of at most one
+pub takes_one : (now taken : Adding) → HasTaken now taken → length taken.intake.taken ≤ length now.intake.taken + 1
+takes_one now taken takes =
+    let t = ap length takes.taken in
+    let l = length-append now.intake.taken (held_in taken.held) in
+    let o = held_one taken.held in
+    omega arith
+
+-- it holds nothing, has brought so many since, and has taken at most so many
+pub record IsRunning (network : Network) (before now : Adding) (count turn : ℕ) : Type 0 where
   pub added : HasAdded network before now
   pub none : now.held ≡ None
   pub many : IsGrownBy before.knows.calls now.knows.calls count
+  pub turns : length now.intake.taken ≤ length before.intake.taken + turn
 
 pub grown_of : (a b : Journal) (n : ℕ) → length b ≡ length a + n → IsGrownBy a b n
 grown_of a b n long more is fits = omega arith
 
-pub running_on : (network : Network) (before now taken after : Adding) (count many : ℕ) → IsRunning network before now count → HasTaken now taken → HasAdded network taken after → after.held ≡ None → length after.knows.calls ≡ length taken.knows.calls + many
-    → IsRunning network before after (min (count + many) (2 ^ 64 - 1))
-running_on network before now taken after count many so_far takes added none long =
+pub running_on : (network : Network) (before now taken after : Adding) (count many turn : ℕ) → IsRunning network before now count turn → HasTaken now taken → HasAdded network taken after → after.held ≡ None → length after.knows.calls ≡ length taken.knows.calls + many → after.intake ≡ taken.intake
+    → IsRunning network before after (min (count + many) (2 ^ 64 - 1)) (turn + 1)
+running_on network before now taken after count many turn so_far takes added none long same =
     let before_it = taken_on network before now taken so_far.added so_far.none takes in
     record {
       added = added_on network before taken after before_it added;
@@ -165,4 +179,9 @@ running_on network before now taken after count many so_far takes added none lon
       many = grown_on before.knows.calls taken.knows.calls after.knows.calls count many
           (subst (λ (k : Knowledge). IsGrownBy before.knows.calls k.calls count) (sym takes.knows) so_far.many)
           (longer_calls network before taken before_it) long;
+      turns =
+          let a = ap (λ (i : Intake). length i.taken) same in
+          let t = takes_one now taken takes in
+          let n = so_far.turns in
+          omega arith;
     }

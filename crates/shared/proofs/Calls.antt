@@ -4,25 +4,24 @@ use Rattle.std.proofs.lemmas.List.{map-append}
 use Rattle.model.specs.Signature.{Verifies}
 use Rattle.model.specs.Genesis.{Genesis}
 use Rattle.model.specs.Ledger.{Network, network_of, network_on}
-use Rattle.model.specs.History.{State, Event, Next, Reply, OutOfMemory, Entry, opening, Step, IsLegal}
+use Rattle.model.specs.History.{State, Event, Reply, OutOfMemory, Entry, opening, Step, IsLegal}
 use Rattle.model.specs.Journal.{JournalEntry, Journal, history_of, calls_of, Knowledge, NamesItsPeer, IsLegalJournal, IsCalled, IsLook}
 use Rattle.std.specs.List.{AllByRecursion}
 use Rattle.model.proofs.Lists.{all_push}
-use Rattle.model.proofs.LegalHistories.{opens_nothing, run_length, legal_sound}
-use Rattle.model.proofs.OneReply.{reply_one}
+use Rattle.model.proofs.LegalHistories.{opens_nothing, run_length}
 use Rattle.model.proofs.ToldChains.{run_on}
-use Rattle.chain_core.specs.Held.{Held, Stands, opening_held, network_held}
+use Rattle.chain_core.specs.Held.{Held, Stands, opening_held}
 use Rattle.chain_core.specs.Steps.{Steps, KeepsStart}
 use Rattle.chain_core.specs.Views.{next_reply_of}
 use Rattle.chain_core.specs.declared.follower.Instruction.{Instruction}
 use Rattle.chain_core.specs.declared.follower.NextFault.{NextFault}
 use Rattle.chain_core.specs.declared.follower.NextFault.TheVariants as fault
-use Rattle.chain_core.specs.FollowerCalls.{Peeks}
 use Rattle.chain_core.proofs.ForCallers.{opening_stands as new_stands}
 use Rattle.shared.specs.Heights.{Role, Calls, Spent, SeatView, height_after, KnowsCalls, IsLooked, knowledge_of}
 use Rattle.shared.specs.Sealing.{IsSealed}
 use Rattle.shared.specs.Entries.{call_by}
 use Rattle.shared.specs.Answers.{IsAnswered, IsJournaled}
+use Rattle.shared.specs.Arrivals.{IsOfAPeer}
 use Rattle.shared.specs.Standing.{IsCoreOf}
 
 -- a journal without entries
@@ -88,9 +87,9 @@ call_of verifies genesis number writer e v w own legal sealed =
 -- ---- the core under the lock
 
 -- a step of the core, and the journal with one more call
-pub core_after : (verifies : Verifies) (genesis : Genesis) (journal now : Journal) (held new : Held) (made e : JournalEntry) → IsCoreOf verifies genesis journal held → now ≡ journal → Steps verifies held made.entry.event made.entry.reply new → KeepsStart held new → NamesItsPeer made → e ≡ made
+pub core_after : (verifies : Verifies) (genesis : Genesis) (journal now : Journal) (held new : Held) (made e : JournalEntry) → IsCoreOf verifies genesis journal held → now ≡ journal → Steps verifies held made.entry.event made.entry.reply new → KeepsStart held new → NamesItsPeer made → IsOfAPeer made → e ≡ made
     → IsCoreOf verifies genesis (now ++ e ∷ []) new
-core_after verifies genesis journal now held new made e core same steps start names is =
+core_after verifies genesis journal now held new made e core same steps start names from is =
     let step = steps core.state core.stands in
     let network = network_of genesis verifies in
     let legal = legal_on network journal core.state made step.0 core.legal (subst (λ (n : Network). Step n core.state made.entry.event made.entry.reply step.0) (λ i. network_on (core.genesis_is i) verifies (core.opened_is i)) step.1) in
@@ -100,6 +99,7 @@ core_after verifies genesis journal now held new made e core same steps start na
       state = step.0;
       legal = subst (λ (x : Journal × JournalEntry). IsLegal network (history_of (x.0 ++ x.1 ∷ [])) step.0) (λ i. (sym same i, sym is i)) legal;
       named = subst (λ (x : Journal × JournalEntry). AllByRecursion NamesItsPeer (x.0 ++ x.1 ∷ [])) (λ i. (sym same i, sym is i)) (all_push NamesItsPeer journal made core.named names);
+      peers = subst (λ (x : Journal × JournalEntry). AllByRecursion IsOfAPeer (x.0 ++ x.1 ∷ [])) (λ i. (sym same i, sym is i)) (all_push IsOfAPeer journal made core.peers from);
       stands = step.2;
     }
 
@@ -111,15 +111,6 @@ legal_of verifies key genesis journal seen e held core is same =
 pub height_of_core : (verifies : Verifies) (genesis : Genesis) (journal seen : Journal) (e : JournalEntry) (held : Held) (height : ℕ) → IsCoreOf verifies genesis (journal ++ e ∷ []) held → height ≡ length held.chain → seen ≡ journal → height ≡ height_after (seen ++ e ∷ [])
 height_of_core verifies genesis journal seen e held height core is same =
     is ∙ ap length core.stands.chain ∙ sym (height_of_legal genesis verifies (journal ++ e ∷ []) core.state core.legal) ∙ ap (λ (j : Journal). height_after (j ++ e ∷ [])) (sym same)
-
--- what a follower would be told is what it is told
-pub told_is : (verifies : Verifies) (genesis : Genesis) (journal : Journal) (held new : Held) (id : ℕ) (told answer : Reply) → IsCoreOf verifies genesis journal held → told ≢ OutOfMemory → answer ≢ OutOfMemory → Peeks verifies held id told → Steps verifies held (Next id) answer new → told ≡ answer
-told_is verifies genesis journal held new id told answer core enough enough_too peeks steps =
-    let one = peeks core.state core.stands in
-    let two = steps core.state core.stands in
-    let here : network_held held verifies ≡ network_of genesis verifies = λ i. network_on (core.genesis_is i) verifies (core.opened_is i) in
-    reply_one (network_of genesis verifies) core.state (Next id) told answer one.0 two.0 (legal_sound (network_of genesis verifies) (history_of journal) core.state (opens_nothing genesis verifies) core.legal) enough enough_too
-    (subst (λ (n : Network). Step n core.state (Next id) told one.0) here one.1) (subst (λ (n : Network). Step n core.state (Next id) answer two.0) here two.1)
 
 -- ---- what a call leaves, by an answer that isn't want of memory
 

@@ -7,7 +7,7 @@ use Rattle.model.specs.Block.{Block, block_text}
 use Rattle.model.specs.Ledger.{Network, network_of, network_on}
 use Rattle.model.specs.Chain.{IsOpening, immutable_part, BeginsWith}
 use Rattle.model.specs.History.{State, Entry, opening, IsRun, IsLegal}
-use Rattle.model.specs.Journal.{JournalEntry, Journal, history_of, BeginsWithSeen, IsLegalJournal}
+use Rattle.model.specs.Journal.{JournalEntry, Journal, history_of, BeginsWithSeen}
 use Rattle.model.proofs.Chains.{begins_with_whole, begins_earlier}
 use Rattle.model.proofs.LegalHistories.{opening_sound, run_one, run_goes_on}
 use Rattle.chain_core.specs.Held.{Held}

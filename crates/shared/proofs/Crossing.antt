@@ -14,17 +14,12 @@ use Rattle.atomic_table.proofs.shared.Seat.TheSendSync as seat
 use Rattle.atomic_table.proofs.owned.Table.TheSendSync as table
 use Rattle.genesis.specs.contracts.genesis.Genesis as Genesis
 use Rattle.witness_pool.specs.declared.scheme.SigScheme as scheme
-use Rattle.block.proofs.ForCallers.{CheckedBlock-send}
-use Rattle.mempool.proofs.reply.SubmitReply.TheSendSync as submitted
 use Rattle.chain_core.proofs.ForCallers.{Core-send}
-use Rattle.chain_core.specs.contracts.follower.Instruction as Instruction
 use Rattle.shared.specs.declared.room.Room as room
 use Rattle.shared.specs.contracts.caller.Caller as Caller
 use Rattle.shared.specs.contracts.heights.View as View
 use Rattle.shared.specs.contracts.heights.HeightRule as HeightRule
 use Rattle.shared.specs.contracts.heights.HeightRuleTableRuleUnitViewGenesis.TheImpl as rule
-use Rattle.shared.specs.contracts.call.Call as Call
-use Rattle.shared.specs.contracts.journal_entry.JournalEntry as JournalEntry
 use Rattle.shared.specs.contracts.journal.Journal as Journal
 use Rattle.shared.specs.contracts.desk.Desk as Desk
 use Rattle.shared.specs.contracts.shared.Shared as Shared
@@ -44,21 +39,9 @@ pub Adder-send : (G B M : RattleType) (b : room.Ghosts B.Denot) (m : mailroom.Gh
 Adder-send = adder.the_send
 
 module _ (S : RattleType) (s : scheme.Ghosts S.Denot) where
-  instruction_send : IsSend (Instruction.the_field S s).row
-  instruction_send = let b = CheckedBlock-send S s in search (crosses, sendable) depth 20
-
-  call_send : IsSend (Call.the_field S s).row
-  call_send =
-      let i = instruction_send in
-      let a = submitted.the_field_send in
-      search (crosses, sendable) depth 40 fits 20000
-
-  entry_send : IsSend (JournalEntry.the_field S s).row
-  entry_send = let c = call_send in search (crosses, sendable) depth 20
-
   module _ (B : RattleType) (b : room.Ghosts B.Denot) where
-    journal_send : IsSend (Journal.the_field S B s).row
-    journal_send = let e = entry_send in search (seat.the_send, crosses, sendable) depth 20
+    journal_send : IsSend (Journal.the_field B b).row
+    journal_send = search (seat.the_send, crosses, sendable) depth 20
 
     desk_send : IsSend (Desk.the_field S B s b).row
     desk_send = let c = Core-send S s in let j = journal_send in search (crosses, sendable) depth 20

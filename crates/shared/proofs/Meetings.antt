@@ -5,7 +5,7 @@ use Rattle.std.proofs.lemmas.List.{length-append}
 use Rattle.model.specs.Signature.{Verifies}
 use Rattle.model.specs.Genesis.{Genesis}
 use Rattle.model.specs.Ledger.{network_of}
-use Rattle.model.specs.Journal.{JournalEntry, Journal, Knowledge, BeginsWithSeen, IsLegalJournal, IsMeeting, IsLook, height_of, calls_of}
+use Rattle.model.specs.Journal.{Journal, Knowledge, BeginsWithSeen, IsLegalJournal, IsMeeting, IsLook, height_of}
 use Rattle.shared.specs.Heights.{Role, Calls, SeatView, copy_of, with_copy, longer, with_news, knowledge_of, height_after, IsLooked, IsCompared, KnowsCalls}
 use Rattle.shared.specs.Meeting.{IsTold, IsStillWriter, IsInformed}
 use Rattle.shared.proofs.Calls.{height_of_legal}

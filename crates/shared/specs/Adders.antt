@@ -1,7 +1,6 @@
 -- What an adder of the code stands for.
 use Rattle.std.specs.Prelude.{IfSome}
 use Rattle.inbox.specs.Arrivals.{IsPeer}
-use Rattle.witness_pool.specs.Workers.{AreWorkers}
 use Rattle.shared.specs.Adding.{Adding, IsInStep}
 use Rattle.shared.specs.declared.adder.Adder.TheInside.{Inside}
 

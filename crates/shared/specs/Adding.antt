@@ -8,7 +8,7 @@ use Rattle.model.specs.Ledger.{Network}
 use Rattle.model.specs.History.{Reply}
 use Rattle.model.specs.Journal.{JournalEntry, Journal, Knowledge, IsCalled}
 use Rattle.model.specs.JournalCodes.{coded_knowledge}
-use Rattle.inbox.specs.Arrivals.{Arrival, SentBy, Intake, came_of, BeginsWith, IsCountOf}
+use Rattle.inbox.specs.Arrivals.{Arrival, SentBy, Intake, IsPeer, came_of, BeginsWith, IsCountOf}
 use Rattle.inbox.specs.Codes.{coded_arrival, coded_intake}
 use Rattle.shared.specs.Arrivals.{arrival_in, arrivals_in}
 use Rattle.shared.specs.Entries.{arrival_by}
@@ -35,9 +35,9 @@ held_in (Some arrival) = arrival ∷ []
 abbrev pub IsInStep : Adding → Type 0
 IsInStep a = arrivals_in a.knows.calls ++ held_in a.held ≡ a.intake.taken
 
--- the entry tells of an arrival
+-- the entry tells of an arrival, which came from a peer of the inbox
 abbrev pub IsArrival : JournalEntry → Type 0
-IsArrival e = (arrival : Arrival) × (arrival_in e ≡ arrival ∷ [])
+IsArrival e = (arrival : Arrival) × (arrival_in e ≡ arrival ∷ []) × IsPeer arrival.peer
 
 -- the caller brought bytes that this peer sent, by a locked call
 abbrev pub IsBrought : Network → (before : Knowledge) → (peer : ℕ) → List ℕ → Knowledge → Type 0

@@ -20,20 +20,20 @@ peer_of (Forward id points reply) = None
 peer_of (Close id reply) = None
 
 abbrev pub asked : {S : Type 0} → Call S → Event
-asked (Arrive peer bytes reply) = history.Arrive bytes.items
-asked (Submit bytes reply) = history.Submit bytes.items
+asked (Arrive peer bytes reply) = history.Arrive bytes.now
+asked (Submit bytes reply) = history.Submit bytes.now
 asked (Open reply) = history.Open
 asked (Next id reply) = history.Next id.number
-asked (Forward id points reply) = history.Forward id.number (map point_of points.items)
+asked (Forward id points reply) = history.Forward id.number (map point_of points.now)
 asked (Close id reply) = history.Close id.number
 
 abbrev pub answered : {S : Type 0} → Call S → Reply
-answered (Arrive peer bytes reply) = arrive_reply_of (Ok reply)
-answered (Submit bytes reply) = submit_reply_of (Ok reply)
-answered (Open reply) = open_reply_of reply
-answered (Next id reply) = next_reply_of reply
-answered (Forward id points reply) = forward_reply_of reply
-answered (Close id reply) = close_reply_of reply
+answered (Arrive peer bytes reply) = arrive_reply_of (Ok reply.now)
+answered (Submit bytes reply) = submit_reply_of (Ok reply.now)
+answered (Open reply) = open_reply_of reply.now
+answered (Next id reply) = next_reply_of reply.now
+answered (Forward id points reply) = forward_reply_of reply.now
+answered (Close id reply) = close_reply_of reply.now
 
 -- the caller made this call
 abbrev pub entry_of : {S : Type 0} → ℕ → Call S → JournalEntry

@@ -7,6 +7,7 @@ pub mod Later
 pub mod Entries
 pub mod Answers
 pub mod Standing
+pub mod Wants
 pub mod Callers
 pub mod Desks
 pub mod Copies

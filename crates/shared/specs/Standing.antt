@@ -12,6 +12,7 @@ use Rattle.model.specs.Ledger.{network_of}
 use Rattle.model.specs.History.{State, IsLegal}
 use Rattle.model.specs.Journal.{Journal, history_of, NamesItsPeer}
 use Rattle.chain_core.specs.Held.{Held, Stands}
+use Rattle.shared.specs.Arrivals.{IsOfAPeer}
 use Rattle.shared.specs.Heights.{Deals, SeatView}
 
 -- the word of this name, for this genesis
@@ -19,20 +20,20 @@ abbrev pub IsHeightOf : {S P : Type 0} → TableId → Genesis → Table S SeatV
 IsHeightOf name genesis t =
     (t.shared.table_id ≡ name) × (t.shared.table_id.words ≡ 1) × (t.shared.key ≡ genesis)
 
--- the journal is legal, each arrival names its peer, and the core is the journal's state
+-- the journal is legal, each arrival names its peer, which is one of the inbox's, and the core is the journal's state
 pub record IsCoreOf (verifies : Verifies) (genesis : Genesis) (journal : Journal) (held : Held) : Type 0 where
   pub genesis_is : held.genesis ≡ genesis
   pub opened_is : held.opened ≡ []
   pub state : State
   pub legal : IsLegal (network_of genesis verifies) (history_of journal) state
   pub named : AllByRecursion NamesItsPeer journal
+  pub peers : AllByRecursion IsOfAPeer journal
   pub stands : Stands held state
 
--- the seat is one of this word, has the right to write, and has seen just this journal
-pub record IsWriterOf {S : Type 0} (name : TableId) (seat : Seat S SeatView) (journal : Journal) : Type 0 where
+-- the seat is one of this word, and has the right to write
+pub record IsWriterOf {S : Type 0} (name : TableId) (seat : Seat S SeatView) : Type 0 where
   pub name_is : seat.table_id ≡ name
   pub slots : seat.me.1 ≡ []
   pub right : seat.me.0.writes ≡ true
   pub next : ℕ
   pub role : seat.me.0.role ≡ Deals next
-  pub seen : seat.me.0.seen ≡ journal

@@ -1,6 +1,6 @@
 //! One who adds the blocks that peers sent.
 
-ghost use Rattle.std.specs.Prelude.{◌≡◌, ℕ, ◌+◌, ◌-◌, ◌<◌, [], length, slice_index, slice_set, None, Some, IfOk};
+ghost use Rattle.std.specs.Prelude.{◌≡◌, ℕ, ◌+◌, ◌-◌, ◌<◌, ◌≤◌, [], length, slice_index, slice_set, None, Some, IfOk};
 ghost use Rattle.std.specs.Prelude.{IfNone, OnOk, OnErr, IfErr, IsSome};
 ghost use Rattle.std.specs.List.{AllByRecursion};
 ghost use Rattle.model.specs.Ledger.{network_of};
@@ -153,6 +153,7 @@ impl<G: Gate, B: Room, M: Mailroom> Adder<G, B, M> {
         ensures added { HasAdded (network_of B.genesis S.verifies) self.old self.new }
         ensures many { IfOk result (λ many.
             length self.new.knows.calls ≡ length self.old.knows.calls + many) }
+        ensures intake { self.new.intake ≡ self.old.intake }
         ensures ok { OnOk result (self.new.held ≡ None) }
         ensures err { OnErr result (self.new ≡ self.old) }
         ensures waits { OnErr result (IsSome self.old.held) }
@@ -187,11 +188,13 @@ impl<G: Gate, B: Room, M: Mailroom> Adder<G, B, M> {
         // all that it took just one arrival may not be brought yet.
         ensures added { HasAdded (network_of B.genesis S.verifies) self.old self.new }
         ensures many { IfOk result (λ many. IsGrownBy self.old.knows.calls self.new.knows.calls many) }
+        // It takes at most so many arrivals.
+        ensures turns { length self.new.intake.taken ≤ length self.old.intake.taken + turns }
         ensures ok { OnOk result (self.new.held ≡ None) }
         ensures err { OnErr result (IsSome self.new.held) }
     {
         let mut count = self.bring(rt, shared)?;
-        'turns: for _ in 0..turns {
+        'turns: for _turn in 0..turns {
             self.take(rt);
             count = count.saturating_add(self.bring(rt, shared)?);
         }
@@ -199,13 +202,14 @@ impl<G: Gate, B: Room, M: Mailroom> Adder<G, B, M> {
     }
 
     /// Takes until the inbox is empty, and brings each arrival to the core; first the one that it holds, if it does.
-    /// The peers have ended, and are lent. Where memory runs out for an arrival it stays with the adder, and the next
-    /// call begins with it. Waits for the lock, and for a thread that is in the middle of a step.
+    /// The peers, which are all that the inbox has, have ended, and are lent. Where memory runs out for an arrival it
+    /// stays with the adder, and the next call begins with it. Waits for the lock, and for a thread that is in the
+    /// middle of a step.
     pub fn drain<S: SigScheme + Send, R: Threads + Wait + Sync>(
         &mut self,
         rt: &R,
         shared: &Shared<S, B>,
-        peers: &mut [PeerEnd<M>],
+        peers: &mut [PeerEnd<M>; PEERS],
     ) -> Result<(), AllocError>
         ensures peers { peers.new ≡ peers.old }
         ensures added { HasAdded (network_of B.genesis S.verifies) self.old self.new }
@@ -240,6 +244,7 @@ where
     G: Gate,
     B: Room,
     R: Threads + Wait + Sync,
+    requires peer { IsPeer peer }
     ensures called { OnOk result (IsBrought (network_of B.genesis S.verifies) caller.old peer bytes.items caller.new) }
     ensures caller { OnErr result (caller.new ≡ caller.old) }
     ensures back { IfErr result (λ e. e.bytes ≡ bytes) }

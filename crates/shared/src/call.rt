@@ -7,39 +7,39 @@ use ident::Point;
 use mempool::SubmitReply;
 use witness_pool::SigScheme;
 
-/// What was asked under the lock, with what was answered. An arrival names the peer that it came from; nothing else
-/// comes from a peer.
+/// What was asked under the lock, with what was answered, both lent. An arrival names the peer that it came from;
+/// nothing else comes from a peer.
 #[derive(Drop)]
-pub enum Call<S: SigScheme> {
+pub enum Call<'a, S: SigScheme> {
     /// These bytes of a block arrived, which this peer sent.
     Arrive {
         peer: u64,
-        bytes: Vec<u8>,
-        reply: ArriveReply,
+        bytes: &'a [u8],
+        reply: &'a ArriveReply,
     },
     /// These bytes of a transaction were submitted.
     Submit {
-        bytes: Vec<u8>,
-        reply: SubmitReply,
+        bytes: &'a [u8],
+        reply: &'a SubmitReply,
     },
     /// A follower was to be opened.
     Open {
-        reply: Result<FollowerId, OpenFollowerFault>,
+        reply: &'a Result<FollowerId, OpenFollowerFault>,
     },
     /// A follower was to be told what comes next.
     Next {
         id: FollowerId,
-        reply: Result<Option<Instruction<S>>, NextFault>,
+        reply: &'a Result<Option<Instruction<S>>, NextFault>,
     },
     /// A follower was to be set to the first of these points that is on the selected chain.
     Forward {
         id: FollowerId,
-        points: Vec<Point>,
-        reply: Result<Option<Point>, UnknownFollower>,
+        points: &'a [Point],
+        reply: &'a Result<Option<Point>, UnknownFollower>,
     },
     /// A follower was to be closed.
     Close {
         id: FollowerId,
-        reply: Result<(), UnknownFollower>,
+        reply: &'a Result<(), UnknownFollower>,
     },
 }

@@ -46,8 +46,8 @@ impl<B: Room> CallerSeat<B> {
     }
 
     /// The entry of the journal that this caller made the call.
-    pub fn entry<S: SigScheme>(&self, call: Call<S>) -> JournalEntry<S>
-        ensures { result ≡ entry_of self.now.caller call }
+    pub fn entry<'a, S: SigScheme>(&self, call: Call<'a, S>) -> JournalEntry<'a, S>
+        ensures { result ≡ entry_of self.now.caller call.entry }
     {
         JournalEntry {
             caller: self.number,

@@ -7,17 +7,21 @@ ghost use Rattle.model.specs.Journal.{IsCalled, IsLook, IsMeeting, height_of};
 ghost use Rattle.model.specs.Log.{IsLogBlock};
 ghost use Rattle.std.specs.List.{AllByRecursion};
 ghost use Rattle.ident.specs.PointView.{point_of};
+ghost use Rattle.inbox.specs.Arrivals.{IsPeer};
 ghost use Rattle.chain_core.specs.Views.{arrive_reply_of, submit_reply_of, open_reply_of, next_reply_of};
+ghost use Rattle.chain_core.specs.Views.{forward_reply_of, close_reply_of};
+ghost use Rattle.chain_core.specs.Calls.{IsWantAtSubmission};
 ghost use Rattle.chain_core.specs.declared.follower.NextFault.TheVariants as fault;
 ghost use Rattle.shared.specs.Entries.{call_by, arrival_by};
-ghost use Rattle.shared.specs.Answers.{IsAnswered, IsJournaled, HasSeenAll, forwarded_reply, closed_reply, ComesBack};
+ghost use Rattle.shared.specs.Answers.{IsAnswered, IsJournaled, HasSeenAll};
 ghost use Rattle.chain_core.specs.Reopening.{texts_in};
 ghost use Rattle.shared.specs.Copies.{AreCopiesAfter};
+ghost use Rattle.shared.specs.Wants.{IsWantAtOpening, IsWantAtTelling};
 ghost use Rattle.shared.specs.Standing.{IsHeightOf};
 
 use crate::call::Call;
 use crate::caller_seat::CallerSeat;
-use crate::faults::{CloseFault, NotArrived, NotForwarded, NotSubmitted};
+use crate::faults::NotArrived;
 use crate::heights::Heights;
 use crate::journal::Journal;
 use crate::room::Room;
@@ -34,7 +38,7 @@ use witness_pool::SigScheme;
 /// The core, and the journal of all calls that were made. A contract sees it as its journal.
 pub struct Desk<S: SigScheme, B: Room> {
     pub(crate) core: Core<S>,
-    pub(crate) journal: Journal<S, B>,
+    pub(crate) journal: Journal<B>,
 }
 
 // By hand, so that each exit calls it: the derived one is copied to each exit of each owner.
@@ -59,7 +63,7 @@ impl<S: SigScheme, B: Room> Model for Desk<S, B> {
 
     ghost view = { desk_view };
 
-    ghost invariant = { IsDeskOf S.verifies B.table B.genesis };
+    ghost invariant = { IsDeskOf S.verifies B.genesis };
 }
 
 /// Whether memory ran out for what a follower is to be told.
@@ -69,11 +73,12 @@ fn is_want<S: SigScheme>(answer: &Result<Option<Instruction<S>>, NextFault>) -> 
     matches!(answer, Err(NextFault::OutOfMemory))
 }
 
-// In each call room in the journal is taken first, then the core answers, and unless memory ran out the event and the
-// reply are the journal's last entry. So a call that memory runs out for changes nothing and is in no journal.
+// In each call the core answers first, and unless memory ran out the event and the reply are then the journal's last
+// entry. The journal itself takes no memory. So a call that memory runs out for changes nothing and is in no journal;
+// where its contract says when that may be, the caller's seat is compared with the journal, for proofs alone.
 impl<S: SigScheme, B: Room> Desk<S, B> {
-    /// Bytes of a block arrive that a peer sent; the caller brings them, and has seen what they are. The journal takes
-    /// them; where memory runs out they come back.
+    /// Bytes of a block arrive that a peer sent; the caller brings them, and has seen what they are. Where memory runs
+    /// out they come back.
     pub fn arrive(
         &mut self,
         heights: &Heights<S>,
@@ -83,6 +88,7 @@ impl<S: SigScheme, B: Room> Desk<S, B> {
         seen: Seen<S>,
     ) -> Result<ArriveReply, NotArrived>
         requires heights { IsHeightOf B.table B.genesis heights.now }
+        requires peer { IsPeer peer }
         requires seen { seen ≡ bytes.items }
         // The call is the last entry of the journal, and the caller has seen all of it.
         ensures journal { IfOk result (λ reply. self.new ≡ self.old
@@ -94,43 +100,42 @@ impl<S: SigScheme, B: Room> Desk<S, B> {
         ensures caller { OnErr result (caller.new ≡ caller.old) }
         ensures back { IfErr result (λ e. e.bytes ≡ bytes) }
     {
-        let Ok(()) = self.journal.reserve() else {
-            return Err(NotArrived { bytes });
-        };
         let Ok(reply) = self.core.arrive_seen(seen) else {
             return Err(NotArrived { bytes });
         };
-        let entry = caller.entry(Call::Arrive { peer, bytes, reply });
-        self.journal.write(heights, caller, &self.core, entry);
+        let entry = caller.entry(Call::Arrive {
+            peer,
+            bytes: &bytes,
+            reply: &reply,
+        });
+        self.journal.write(heights, caller, &self.core, &entry);
         Ok(reply)
     }
 
-    /// Bytes of a transaction are submitted by the caller. The journal takes them; where memory runs out they come
-    /// back.
+    /// Bytes of a transaction are submitted by the caller.
     pub fn submit(
         &mut self,
         heights: &Heights<S>,
         caller: &mut CallerSeat<B>,
-        bytes: Vec<u8>,
-    ) -> Result<SubmitReply, NotSubmitted>
+        bytes: &[u8],
+    ) -> Result<SubmitReply, AllocError>
         requires { IsHeightOf B.table B.genesis heights.now }
         ensures journal { IfOk result (λ reply. self.new ≡ self.old
-            ++ call_by caller.old.caller (Submit bytes.items) (submit_reply_of (Ok reply)) ∷ []) }
+            ++ call_by caller.old.caller (Submit bytes.now) (submit_reply_of (Ok reply)) ∷ []) }
         ensures seen { OnOk result (caller.new.seen ≡ self.new) }
         ensures called { IfOk result (λ reply. IsCalled (network_of B.genesis S.verifies) caller.old
-            (call_by caller.old.caller (Submit bytes.items) (submit_reply_of (Ok reply))) caller.new) }
+            (call_by caller.old.caller (Submit bytes.now) (submit_reply_of (Ok reply))) caller.new) }
+        // Where the bytes are the text of a transaction without parts, no memory is asked for.
+        ensures memory { OnErr result (IsWantAtSubmission bytes.now) }
         ensures err { OnErr result (self.new ≡ self.old) }
         ensures caller { OnErr result (caller.new ≡ caller.old) }
-        ensures back { IfErr result (λ e. e.bytes ≡ bytes) }
     {
-        let Ok(()) = self.journal.reserve() else {
-            return Err(NotSubmitted { bytes });
-        };
-        let Ok(reply) = self.core.submit(&bytes) else {
-            return Err(NotSubmitted { bytes });
-        };
-        let entry = caller.entry(Call::Submit { bytes, reply });
-        self.journal.write(heights, caller, &self.core, entry);
+        let reply = self.core.submit(bytes)?;
+        let entry = caller.entry(Call::Submit {
+            bytes,
+            reply: &reply,
+        });
+        self.journal.write(heights, caller, &self.core, &entry);
         Ok(reply)
     }
 
@@ -145,19 +150,20 @@ impl<S: SigScheme, B: Room> Desk<S, B> {
         ensures seen { HasSeenAll (open_reply_of result) self.new caller.new }
         ensures answered { IsAnswered (network_of B.genesis S.verifies) caller.old Open (open_reply_of result)
             caller.new }
+        // Memory is asked for only where a number is free.
+        ensures memory { IsWantAtOpening S.verifies B.genesis caller.old.seen (open_reply_of result) }
     {
-        self.journal.reserve()?;
         let answer = self.core.open();
         if let Err(OpenFollowerFault::OutOfMemory) = answer {
+            self.journal.compare(heights, caller);
             return Err(OpenFollowerFault::OutOfMemory);
         }
-        let entry = caller.entry(Call::Open { reply: answer });
-        self.journal.write(heights, caller, &self.core, entry);
+        let entry = caller.entry(Call::Open { reply: &answer });
+        self.journal.write(heights, caller, &self.core, &entry);
         answer
     }
 
-    /// The caller asks what a follower is told next. The block is shared by the core, the journal and the caller, and
-    /// the caller's share of it is taken before the core moves the follower on.
+    /// The caller asks what a follower is told next. The block is shared by the core and the caller.
     pub fn next(
         &mut self,
         heights: &Heights<S>,
@@ -169,75 +175,63 @@ impl<S: SigScheme, B: Room> Desk<S, B> {
         ensures seen { HasSeenAll (next_reply_of result) self.new caller.new }
         ensures answered { IsAnswered (network_of B.genesis S.verifies) caller.old (Next id.number)
             (next_reply_of result) caller.new }
+        // Memory is asked for only where a block comes next.
+        ensures memory { IsWantAtTelling S.verifies B.genesis caller.old.seen id.number
+            (next_reply_of result) }
     {
-        self.journal.reserve()?;
-        let told = self.core.peek(id);
-        if is_want(&told) {
-            return Err(NextFault::OutOfMemory);
-        }
         let answer = self.core.next(id);
         if is_want(&answer) {
+            self.journal.compare(heights, caller);
             return Err(NextFault::OutOfMemory);
         }
-        let entry = caller.entry(Call::Next { id, reply: answer });
-        self.journal.write(heights, caller, &self.core, entry);
-        told
+        let entry = caller.entry(Call::Next { id, reply: &answer });
+        self.journal.write(heights, caller, &self.core, &entry);
+        answer
     }
 
-    /// The caller has a follower set to the first of the points that is on the selected chain. The journal takes the
-    /// points; where memory runs out they come back.
+    /// The caller has a follower set to the first of the points that is on the selected chain. Takes no memory.
     pub fn forward(
         &mut self,
         heights: &Heights<S>,
         caller: &mut CallerSeat<B>,
         id: FollowerId,
-        points: Vec<Point>,
-    ) -> Result<Option<Point>, NotForwarded>
+        points: &[Point],
+    ) -> Result<Option<Point>, UnknownFollower>
         requires { IsHeightOf B.table B.genesis heights.now }
-        ensures journal { IsJournaled self.old caller.old.caller (Forward id.number (map point_of points.items))
-            (forwarded_reply result) self.new }
-        ensures seen { HasSeenAll (forwarded_reply result) self.new caller.new }
-        ensures answered { IsAnswered (network_of B.genesis S.verifies) caller.old
-            (Forward id.number (map point_of points.items)) (forwarded_reply result) caller.new }
-        ensures back { IfErr result (ComesBack points) }
+        ensures journal { self.new ≡ self.old ++ call_by caller.old.caller
+            (Forward id.number (map point_of points.now)) (forward_reply_of result) ∷ [] }
+        ensures seen { caller.new.seen ≡ self.new }
+        ensures called { IsCalled (network_of B.genesis S.verifies) caller.old (call_by caller.old.caller
+            (Forward id.number (map point_of points.now)) (forward_reply_of result)) caller.new }
     {
-        let Ok(()) = self.journal.reserve() else {
-            return Err(NotForwarded::OutOfMemory { points });
-        };
-        let answer = self.core.forward(id, &points);
+        let answer = self.core.forward(id, points);
         let entry = caller.entry(Call::Forward {
             id,
             points,
-            reply: answer,
+            reply: &answer,
         });
-        self.journal.write(heights, caller, &self.core, entry);
-        match answer {
-            Ok(found) => Ok(found),
-            Err(UnknownFollower {}) => Err(NotForwarded::UnknownFollower),
-        }
+        self.journal.write(heights, caller, &self.core, &entry);
+        answer
     }
 
-    /// The caller has a follower closed.
+    /// The caller has a follower closed. Takes no memory.
     pub fn close(
         &mut self,
         heights: &Heights<S>,
         caller: &mut CallerSeat<B>,
         id: FollowerId,
-    ) -> Result<(), CloseFault>
+    ) -> Result<(), UnknownFollower>
         requires { IsHeightOf B.table B.genesis heights.now }
-        ensures journal { IsJournaled self.old caller.old.caller (Close id.number) (closed_reply result) self.new }
-        ensures seen { HasSeenAll (closed_reply result) self.new caller.new }
-        ensures answered { IsAnswered (network_of B.genesis S.verifies) caller.old (Close id.number)
-            (closed_reply result) caller.new }
+        ensures journal { self.new ≡ self.old
+            ++ call_by caller.old.caller (Close id.number) (close_reply_of result) ∷ [] }
+        ensures seen { caller.new.seen ≡ self.new }
+        ensures called { IsCalled (network_of B.genesis S.verifies) caller.old
+            (call_by caller.old.caller (Close id.number) (close_reply_of result)) caller.new }
     {
-        self.journal.reserve()?;
         let answer = self.core.close(id);
-        let entry = caller.entry(Call::Close { id, reply: answer });
-        self.journal.write(heights, caller, &self.core, entry);
-        match answer {
-            Ok(()) => Ok(()),
-            Err(UnknownFollower {}) => Err(CloseFault::UnknownFollower),
-        }
+        let entry = caller.entry(Call::Close { id, reply: &answer });
+        self.journal.write(heights, caller, &self.core, &entry);
+        answer
     }
 
     /// Copies of the texts of the blocks that are never rolled back, but for the first so many. The caller sees the

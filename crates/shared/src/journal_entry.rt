@@ -4,14 +4,15 @@ use crate::call::Call;
 use std::marker::Model;
 use witness_pool::SigScheme;
 
-/// A call that was made under the lock, and who made it.
+/// A call that was made under the lock, and who made it. It names an entry of the journal for contracts, and is let go
+/// within the call.
 #[derive(Drop)]
-pub struct JournalEntry<S: SigScheme> {
+pub struct JournalEntry<'a, S: SigScheme> {
     pub(crate) caller: u64,
-    pub(crate) call: Call<S>,
+    pub(crate) call: Call<'a, S>,
 }
 
-impl<S: SigScheme> Model for JournalEntry<S> {
+impl<'a, S: SigScheme> Model for JournalEntry<'a, S> {
     ghost use Rattle.model.specs.Journal as model;
     ghost use Rattle.model.specs.JournalCodes.{coded_journal_entry};
 

@@ -35,7 +35,6 @@ mod shared;
 
 pub use adder::Adder;
 pub use caller::Caller;
-pub use faults::{CloseFault, NotForwarded, NotSubmitted};
 pub use open_fault::OpenFault;
 pub use opened::{MAX_CALLERS, Opened};
 pub use room::Room;

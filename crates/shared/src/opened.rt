@@ -137,7 +137,6 @@ impl<S: SigScheme> Opened<S> {
         } = self;
         let all = deal_all(alloc, &heights, &mut seat, callers)?;
         let journal = Journal {
-            entries: Vec::new(alloc),
             writer: seat,
             room: PhantomData,
         };

@@ -57,7 +57,7 @@ pub fn compare<S: SigScheme>(heights: &Heights<S>, seat: &mut HeightSeat) -> u64
 fn store<S: SigScheme, E: Written>(
     heights: &Heights<S>,
     seat: &mut HeightSeat,
-    entry: &JournalEntry<S>,
+    entry: &JournalEntry<'_, S>,
     height: u64,
 )
     requires named { E.entry ≡ entry.now }
@@ -80,7 +80,7 @@ pub fn seal<S: SigScheme>(
     heights: &Heights<S>,
     writer: &mut HeightSeat,
     seat: &mut HeightSeat,
-    entry: &JournalEntry<S>,
+    entry: &JournalEntry<'_, S>,
     height: u64,
 )
     requires word { heights.now.shared.table_id.words ≡ 1 }

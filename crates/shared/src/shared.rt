@@ -7,21 +7,27 @@ ghost use Rattle.model.specs.History.{Submit, Open, Next, Forward, Close};
 ghost use Rattle.model.specs.Journal.{IsCalled, IsLook, IsMeeting};
 ghost use Rattle.model.specs.Log.{IsLogBlock};
 ghost use Rattle.ident.specs.PointView.{point_of};
+ghost use Rattle.inbox.specs.Arrivals.{IsPeer};
 ghost use Rattle.chain_core.specs.Views.{arrive_reply_of, submit_reply_of, open_reply_of, next_reply_of};
-ghost use Rattle.shared.specs.Answers.{IsAnswered, forwarded_reply, closed_reply, ComesBack};
+ghost use Rattle.chain_core.specs.Views.{forward_reply_of, close_reply_of};
+ghost use Rattle.chain_core.specs.Calls.{IsWantAtSubmission};
+ghost use Rattle.shared.specs.Answers.{IsAnswered};
 ghost use Rattle.chain_core.specs.Reopening.{texts_in};
 ghost use Rattle.shared.specs.Copies.{AreCopiesAfter};
+ghost use Rattle.shared.specs.Wants.{IsWantAtOpening, IsWantAtTelling};
 ghost use Rattle.shared.specs.Standing.{IsHeightOf};
 ghost use Rattle.shared.specs.Entries.{call_by, arrival_by};
 
 use crate::caller::Caller;
 use crate::caller_seat::CallerSeat;
 use crate::desk::Desk;
-use crate::faults::{CloseFault, NotArrived, NotForwarded, NotSubmitted};
+use crate::faults::NotArrived;
 use crate::heights::Heights;
 use crate::room::Room;
 use block::Seen;
-use chain_core::{ArriveReply, FollowerId, Instruction, NextFault, OpenFollowerFault};
+use chain_core::{
+    ArriveReply, FollowerId, Instruction, NextFault, OpenFollowerFault, UnknownFollower,
+};
 use ident::Point;
 use mempool::SubmitReply;
 use std::alloc::AllocError;
@@ -33,8 +39,8 @@ use witness_pool::SigScheme;
 ///
 /// What a contract says of a call it says of the caller: the journal that it has then seen is legal, begins with all
 /// that it had seen before, and ends with this call and its reply. A call that is refused stands in the journal too,
-/// but where memory runs out: then it is in no journal, and nothing changes. Each call takes room for its entry first,
-/// and that and the core's own want are all the memory that it asks for.
+/// but where memory runs out: then it is in no journal, and nothing changes. The journal is for contracts alone and
+/// takes no memory: a call asks for what the core asks for, and what was said is not kept.
 pub struct Shared<S: SigScheme, B: Room> {
     pub(crate) heights: Heights<S>,
     pub(crate) desk: Mutex<Desk<S, B>>,
@@ -62,18 +68,19 @@ impl<S: SigScheme, B: Room> Shared<S, B> {
     }
 
     /// Bytes of a transaction are submitted by this caller. The call stands in the journal with its reply, whatever
-    /// that is, and the journal takes the bytes; where memory runs out it doesn't, nothing changes, and the bytes come
-    /// back. Waits for the lock. Costs what the submission costs the core, and copies no bytes beside.
+    /// that is; where memory runs out it doesn't, and nothing changes. Waits for the lock. Costs what the submission
+    /// costs the core, and copies no bytes beside.
     pub fn submit<R: Wait>(
         &self,
         rt: &R,
         caller: &mut Caller<B>,
-        bytes: Vec<u8>,
-    ) -> Result<SubmitReply, NotSubmitted>
+        bytes: &[u8],
+    ) -> Result<SubmitReply, AllocError>
         ensures called { IfOk result (λ reply. IsCalled (network_of B.genesis S.verifies) caller.old
-            (call_by caller.old.caller (Submit bytes.items) (submit_reply_of (Ok reply))) caller.new) }
+            (call_by caller.old.caller (Submit bytes.now) (submit_reply_of (Ok reply))) caller.new) }
+        // Where the bytes are the text of a transaction without parts, no memory is asked for.
+        ensures memory { OnErr result (IsWantAtSubmission bytes.now) }
         ensures err { OnErr result (caller.new ≡ caller.old) }
-        ensures back { IfErr result (λ e. e.bytes ≡ bytes) }
     {
         let mut desk = self.desk.lock(rt);
         desk.submit(&self.heights, &mut caller.seat, bytes)
@@ -89,7 +96,10 @@ impl<S: SigScheme, B: Room> Shared<S, B> {
     ) -> Result<FollowerId, OpenFollowerFault>
         // Unless memory ran out, the caller has then seen a legal journal that begins with all that it had seen and
         // ends with this call and its reply.
-        ensures { IsAnswered (network_of B.genesis S.verifies) caller.old Open (open_reply_of result) caller.new }
+        ensures answered { IsAnswered (network_of B.genesis S.verifies) caller.old Open (open_reply_of result)
+            caller.new }
+        // Memory is asked for only where a number is free.
+        ensures memory { IsWantAtOpening S.verifies B.genesis caller.old.seen (open_reply_of result) }
     {
         let mut desk = self.desk.lock(rt);
         desk.open(&self.heights, &mut caller.seat)
@@ -97,50 +107,51 @@ impl<S: SigScheme, B: Room> Shared<S, B> {
 
     /// What the follower of this number is told next: to go back, a block, or nothing. That no such follower is open
     /// stands in the journal as the call's reply; where memory runs out nothing does, and nothing changes. Waits for
-    /// the lock. In constant time: the block is shared with the journal, and none of its bytes are copied.
+    /// the lock. In constant time: the block is shared with the core, and none of its bytes are copied.
     pub fn next<R: Wait>(
         &self,
         rt: &R,
         caller: &mut Caller<B>,
         id: FollowerId,
     ) -> Result<Option<Instruction<S>>, NextFault>
-        ensures { IsAnswered (network_of B.genesis S.verifies) caller.old (Next id.number) (next_reply_of result)
-            caller.new }
+        ensures answered { IsAnswered (network_of B.genesis S.verifies) caller.old (Next id.number)
+            (next_reply_of result) caller.new }
+        // Memory is asked for only where a block comes next.
+        ensures memory { IsWantAtTelling S.verifies B.genesis caller.old.seen id.number
+            (next_reply_of result) }
     {
         let mut desk = self.desk.lock(rt);
         desk.next(&self.heights, &mut caller.seat, id)
     }
 
     /// Sets the follower of this number to the first of the points that is on the selected chain, and answers that
-    /// point, or that none is. The call stands in the journal with its reply, also where no such follower is open, and
-    /// the journal takes the points; where memory runs out nothing changes, and the points come back. Waits for the
-    /// lock. A look-up by number for each point.
+    /// point, or that none is. The call stands in the journal with its reply, also where no such follower is open.
+    /// Waits for the lock. A look-up by number for each point; takes no memory, and so it can't run out.
     pub fn forward<R: Wait>(
         &self,
         rt: &R,
         caller: &mut Caller<B>,
         id: FollowerId,
-        points: Vec<Point>,
-    ) -> Result<Option<Point>, NotForwarded>
-        ensures answered { IsAnswered (network_of B.genesis S.verifies) caller.old
-            (Forward id.number (map point_of points.items)) (forwarded_reply result) caller.new }
-        ensures back { IfErr result (ComesBack points) }
+        points: &[Point],
+    ) -> Result<Option<Point>, UnknownFollower>
+        ensures { IsCalled (network_of B.genesis S.verifies) caller.old (call_by caller.old.caller
+            (Forward id.number (map point_of points.now)) (forward_reply_of result)) caller.new }
     {
         let mut desk = self.desk.lock(rt);
         desk.forward(&self.heights, &mut caller.seat, id, points)
     }
 
     /// Closes the follower of this number, which may then be given again. The call stands in the journal with its
-    /// reply, also where no such follower is open; where memory runs out it doesn't, and nothing changes. Waits for the
-    /// lock. In constant time.
+    /// reply, also where no such follower is open. Waits for the lock. In constant time; takes no memory, and so it
+    /// can't run out.
     pub fn close<R: Wait>(
         &self,
         rt: &R,
         caller: &mut Caller<B>,
         id: FollowerId,
-    ) -> Result<(), CloseFault>
-        ensures { IsAnswered (network_of B.genesis S.verifies) caller.old (Close id.number) (closed_reply result)
-            caller.new }
+    ) -> Result<(), UnknownFollower>
+        ensures { IsCalled (network_of B.genesis S.verifies) caller.old
+            (call_by caller.old.caller (Close id.number) (close_reply_of result)) caller.new }
     {
         let mut desk = self.desk.lock(rt);
         desk.close(&self.heights, &mut caller.seat, id)
@@ -179,7 +190,8 @@ impl<S: SigScheme, B: Room> Shared<S, B> {
         bytes: Vec<u8>,
         seen: Seen<S>,
     ) -> Result<ArriveReply, NotArrived>
-        requires { seen ≡ bytes.items }
+        requires peer { IsPeer peer }
+        requires seen { seen ≡ bytes.items }
         ensures called { IfOk result (λ reply. IsCalled (network_of B.genesis S.verifies) caller.old
             (arrival_by caller.old.caller peer bytes.items (arrive_reply_of (Ok reply))) caller.new) }
         ensures err { OnErr result (caller.new ≡ caller.old) }

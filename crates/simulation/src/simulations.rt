@@ -220,7 +220,7 @@ fn summed_up<B: Room, M: Mailroom, R: Threads + Wait + Sync>(
     alloc: Global,
     shared: &Shared<TestScheme, B>,
     adder: &mut Adder<OpenGate, B, M>,
-    peers: &mut [PeerEnd<M>],
+    peers: &mut [PeerEnd<M>; PEERS],
     first: &mut Client<B>,
     others: &mut [Client<B>],
 ) -> Result<Summary, AllocError>
@@ -250,9 +250,12 @@ fn summary_of<B: Room, M: Mailroom, R: Threads + Wait + Sync>(
 {
     let Ended {
         mut adder,
-        mut peers,
+        peers,
         mut clients,
     } = ended;
+    let Ok(mut peers) = <[PeerEnd<M>; PEERS]>::try_from(peers) else {
+        return Err(AllocError);
+    };
     match clients.split_first_mut() {
         Some((first, others)) => {
             summed_up(rt, alloc, shared, &mut adder, &mut peers, first, others)

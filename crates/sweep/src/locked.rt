@@ -2,7 +2,7 @@
 
 ghost use Rattle.std.specs.Prelude.{◌≡◌};
 
-use crate::locked_calls::{Call, forward, make_call, submit};
+use crate::locked_calls::{Call, close, forward, make_call, submit};
 use crate::network::{bytes_of, genesis, names, points_of, text_of};
 use crate::told::Told;
 use ident::Point;
@@ -139,14 +139,14 @@ impl<B: Room, M: Mailroom> Parts<B, M> {
             points,
         } = given;
         self.bring(rt, first, told);
-        submit(rt, &self.shared.shared, &mut self.caller, tx, told);
+        submit(rt, &self.shared.shared, &mut self.caller, &tx, told);
         make_call(rt, &self.shared.shared, &mut self.caller, Call::Open, told);
         make_call(rt, &self.shared.shared, &mut self.caller, Call::Next, told);
         make_call(rt, &self.shared.shared, &mut self.caller, Call::Next, told);
         self.bring(rt, second, told);
-        forward(rt, &self.shared.shared, &mut self.caller, points, told);
+        forward(rt, &self.shared.shared, &mut self.caller, &points, told);
         make_call(rt, &self.shared.shared, &mut self.caller, Call::Next, told);
-        make_call(rt, &self.shared.shared, &mut self.caller, Call::Close, told);
+        close(rt, &self.shared.shared, &mut self.caller, told);
     }
 }
 

@@ -1,26 +1,26 @@
-//! Calls of a caller of a shared core, each once more where it was refused memory.
+//! Calls of a caller of a shared core, each once more where it was refused memory, if it takes any.
 
 use crate::told::Told;
-use chain_core::{FollowerId, Instruction, NextFault, OpenFollowerFault};
+use chain_core::{FollowerId, Instruction, NextFault, OpenFollowerFault, UnknownFollower};
 use ident::Point;
-use shared::{Caller, CloseFault, NotForwarded, NotSubmitted, Room, Shared};
+use shared::{Caller, Room, Shared};
 use std::sync::Wait;
 use witness_pool::TestScheme;
 
-/// The caller submits bytes, and it is told what is answered. Where memory ran out they come back.
+/// The caller submits bytes, and it is told what is answered. Answers whether there was memory.
 fn submits<B: Room, R: Wait>(
     rt: &R,
     shared: &Shared<TestScheme, B>,
     caller: &mut Caller<B>,
-    bytes: Vec<u8>,
+    bytes: &[u8],
     told: &mut Told,
-) -> Option<Vec<u8>> {
+) -> bool {
     match shared.submit(rt, caller, bytes) {
         Ok(reply) => {
             let _ = write!(told.text(), "{reply}");
-            None
+            true
         }
-        Err(NotSubmitted { bytes }) => Some(bytes),
+        Err(_) => false,
     }
 }
 
@@ -29,27 +29,28 @@ pub fn submit<B: Room, R: Wait>(
     rt: &R,
     shared: &Shared<TestScheme, B>,
     caller: &mut Caller<B>,
-    bytes: Vec<u8>,
+    bytes: &[u8],
     told: &mut Told,
 ) {
     told.put("submit Stays: ");
-    if let Some(back) = submits(rt, shared, caller, bytes, told) {
+    if !submits(rt, shared, caller, bytes, told) {
         told.refused();
-        if submits(rt, shared, caller, back, told).is_some() {
+        if !submits(rt, shared, caller, bytes, told) {
             told.put("out of memory");
         }
     }
     told.put("\n");
 }
 
-/// The caller sets its follower, and it is told to which block. Where memory ran out the points come back.
-fn forwards<B: Room, R: Wait>(
+/// The caller sets its follower, and it is told to which block. That takes no memory.
+pub fn forward<B: Room, R: Wait>(
     rt: &R,
     shared: &Shared<TestScheme, B>,
     caller: &mut Caller<B>,
-    points: Vec<Point>,
+    points: &[Point],
     told: &mut Told,
-) -> Option<Vec<Point>> {
+) {
+    told.put("forward 0 A1: ");
     let id = FollowerId { number: 0 };
     match shared.forward(rt, caller, id, points) {
         Ok(Some(point)) => {
@@ -57,26 +58,23 @@ fn forwards<B: Room, R: Wait>(
             let _ = write!(told.text(), "block {number}");
         }
         Ok(None) => told.put("none"),
-        Err(NotForwarded::UnknownFollower) => told.put("unknown follower"),
-        Err(NotForwarded::OutOfMemory { points }) => return Some(points),
+        Err(UnknownFollower {}) => told.put("unknown follower"),
     }
-    None
+    told.put("\n");
 }
 
-/// The same, once more where it was refused memory.
-pub fn forward<B: Room, R: Wait>(
+/// The caller closes its follower. That takes no memory.
+pub fn close<B: Room, R: Wait>(
     rt: &R,
     shared: &Shared<TestScheme, B>,
     caller: &mut Caller<B>,
-    points: Vec<Point>,
     told: &mut Told,
 ) {
-    told.put("forward 0 A1: ");
-    if let Some(back) = forwards(rt, shared, caller, points, told) {
-        told.refused();
-        if forwards(rt, shared, caller, back, told).is_some() {
-            told.put("out of memory");
-        }
+    told.put("close 0: ");
+    let id = FollowerId { number: 0 };
+    match shared.close(rt, caller, id) {
+        Ok(()) => told.put("closed"),
+        Err(UnknownFollower {}) => told.put("unknown follower"),
     }
     told.put("\n");
 }
@@ -119,22 +117,6 @@ fn is_next<B: Room, R: Wait>(
     true
 }
 
-/// The caller closes its follower. Answers whether there was memory.
-fn closes<B: Room, R: Wait>(
-    rt: &R,
-    shared: &Shared<TestScheme, B>,
-    caller: &mut Caller<B>,
-    told: &mut Told,
-) -> bool {
-    let id = FollowerId { number: 0 };
-    match shared.close(rt, caller, id) {
-        Ok(()) => told.put("closed"),
-        Err(CloseFault::UnknownFollower) => told.put("unknown follower"),
-        Err(CloseFault::OutOfMemory) => return false,
-    }
-    true
-}
-
 /// Makes a call of this kind.
 fn calls<B: Room, R: Wait>(
     rt: &R,
@@ -146,7 +128,6 @@ fn calls<B: Room, R: Wait>(
     match call {
         Call::Open => opens(rt, shared, caller, told),
         Call::Next => is_next(rt, shared, caller, told),
-        Call::Close => closes(rt, shared, caller, told),
     }
 }
 
@@ -169,12 +150,11 @@ pub fn make_call<B: Room, R: Wait>(
     told.put("\n");
 }
 
-/// A call that hands in nothing.
+/// A call that hands in nothing, and may run out of memory.
 #[derive(Clone, Copy)]
 pub enum Call {
     Open,
     Next,
-    Close,
 }
 
 impl Call {
@@ -183,7 +163,6 @@ impl Call {
         match self {
             Call::Open => "open",
             Call::Next => "next 0",
-            Call::Close => "close 0",
         }
     }
 }

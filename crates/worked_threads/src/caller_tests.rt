@@ -3,7 +3,7 @@
 ghost use Rattle.std.specs.Prelude.{◌≡◌};
 
 use super::fixture::{
-    MEMORY, Parts, adds, bytes_of, copy, names_of, next_of, open, parts_of, same, sends,
+    MEMORY, Parts, adds, bytes_of, names_of, next_of, open, parts_of, same, sends,
 };
 use chain_core::{Instruction, NextFault};
 use ident::Point;
@@ -25,7 +25,7 @@ fn submits<B: Room, R: Wait + Abort + AllocGlobal>(
     bytes: &[u8],
     want: SubmitReply,
 ) {
-    let reply = shared.submit(rt, caller, copy(rt, bytes));
+    let reply = shared.submit(rt, caller, bytes);
     assert!(rt; reply.is_ok_and(|reply| reply == want));
 }
 
@@ -45,8 +45,9 @@ fn follows<B: Room, R: Wait + Abort + AllocGlobal>(
     };
     assert!(rt; told);
     assert!(rt; matches!(shared.next(rt, caller, id), Ok(None)));
-    let genesis = vec![in rt.alloc(); Point::genesis()].expect(rt, MEMORY);
-    let found = shared.forward(rt, caller, id, genesis).expect(rt, MEMORY);
+    let found = shared
+        .forward(rt, caller, id, &[Point::genesis()])
+        .expect(rt, "a follower");
     assert!(rt; found == Some(Point::genesis()));
     assert!(rt; shared.close(rt, caller, id).is_ok());
     assert!(rt; matches!(shared.next(rt, caller, id), Err(NextFault::UnknownFollower)));

@@ -172,7 +172,7 @@ fn submits<B: Room, R: Wait + Abort>(
     payment: Vec<u8>,
 ) {
     assert!(rt; crossing.has_begun());
-    let reply = shared.submit(rt, caller, payment);
+    let reply = shared.submit(rt, caller, &payment);
     assert!(rt; reply.is_ok_and(|reply| reply == SubmitReply::Added));
     crossing.answer();
 }

@@ -1,6 +1,6 @@
-use Rattle.std.proofs.Common.{◌≡◌, ◌+◌, ◌++◌, ◌∷◌, [], ℕ, suc, List, refl, sym, ap, ◌∙◌, arith}
+use Rattle.std.proofs.Common.{◌≡◌, ◌+◌, ◌++◌, ◌∷◌, [], ℕ, suc, List, ap, ◌∙◌, arith}
 use Rattle.model.specs.Journal.{Journal, Knowledge}
-use Rattle.shared.specs.Heights.{SeatView, Deals, next_role, first_view, has_dealt, new_caller, knowledge_of}
+use Rattle.shared.specs.Heights.{SeatView, Deals, first_view, has_dealt, new_caller, knowledge_of}
 use Rattle.shared.specs.Opening.{newcomer, newcomers}
 use Rattle.shared.proofs.opened.deal_all.Goals as goal
 

@@ -1,15 +1,20 @@
-use Rattle.std.proofs.Common.{◌≡◌, ℕ, List, None, Some, sym, ap, ◌∙◌, subst}
-use Rattle.std.specs.Prelude.{Option, Vec}
+use Rattle.std.proofs.Common.{◌≡◌, ℕ, List, Some, sym, ap, ◌∙◌, subst}
+use Rattle.std.specs.Prelude.{Option, Vec, IfSome}
 use Rattle.std.specs.Global.{Global}
 use Rattle.model.specs.Journal.{Knowledge}
 use Rattle.model.specs.Ledger.{network_of}
-use Rattle.inbox.specs.Arrivals.{Arrival}
+use Rattle.inbox.specs.Arrivals.{Arrival, IsPeer}
 use Rattle.shared.specs.Adding.{Adding, HasAdded}
 use Rattle.shared.proofs.Adders.{added_none, brought_of}
 use Rattle.shared.proofs.adder.Adder.bring.Goals as goal
 
 abbrev arrived : ℕ → List ℕ → Arrival
 arrived peer bytes = record { peer = peer; bytes = bytes }
+
+-- what is held came from a peer
+pub bring_bytes-requires-clause-peer : goal.bring_bytes-requires-clause-peer
+bring_bytes-requires-clause-peer g c κs within =
+    subst (λ (o : Option Arrival). IfSome o (λ x. IsPeer x.peer)) (sym c.take.ensures.value ∙ (c.in-Some.is ∙ ap Some (sym c.arrival.view_is))) c.self.invariant.peer
 
 pub returns-in_default-clause-added : goal.returns-in_default-clause-added
 returns-in_default-clause-added g c =
@@ -26,7 +31,7 @@ returns-in-Ok-clause-added g c =
     let held : c.self.inside.held ≡ Some (record { peer = c.arrival.inside.peer; bytes = c.arrival.inside.bytes.items }) =
     sym c.take.ensures.value ∙ (c.in-Some.is ∙ ap Some (sym c.arrival.view_is)) in
     subst (λ (x : Adding × Option Arrival). HasAdded network x.0 (record v { knows = c.bring_bytes.new.caller; held = x.1 })) (λ i. (c.self.view_is i, sym c.take.ensures.after i))
-    (brought_of network v c.bring_bytes.new.caller c.arrival.inside.peer c.arrival.inside.bytes.items c.self.invariant.in_step held c.in-Ok.ensures.called)
+    (brought_of network v c.bring_bytes.new.caller c.arrival.inside.peer c.arrival.inside.bytes.items c.self.invariant.in_step (subst (λ (o : Option Arrival). IfSome o (λ x. IsPeer x.peer)) held c.self.invariant.peer) held c.in-Ok.ensures.called)
 
 pub returns-in-Err-clause-added : goal.returns-in-Err-clause-added
 returns-in-Err-clause-added g c =

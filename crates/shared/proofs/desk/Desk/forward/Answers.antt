@@ -1,10 +1,8 @@
-use Rattle.std.proofs.Common.{List, sym, subst, map}
+use Rattle.std.proofs.Common.{refl, sym, subst, map}
 use Rattle.ident.specs.PointView.{point_of}
-use Rattle.ident.specs.declared.point.Point.{Point}
 use Rattle.model.specs.History.{Forward}
 use Rattle.model.specs.Journal.{Journal}
 use Rattle.chain_core.specs.Views.{forward_reply_of}
-use Rattle.chain_core.specs.Steps.{Steps}
 use Rattle.shared.specs.Entries.{call_by}
 use Rattle.shared.specs.Standing.{IsCoreOf}
 use Rattle.shared.proofs.Calls.{core_after}
@@ -12,12 +10,12 @@ use Rattle.shared.proofs.desk.Desk.forward.Goals as goal
 
 pub write-requires-clause-core : goal.write-requires-clause-core
 write-requires-clause-core g c =
-    core_after g.S.SigScheme.verifies g.B.Room.genesis c.self.inside.journal.entries.items c.reserve.new.self.entries.items c.self.inside.core c.forward-answer.new.self (call_by c.args.caller.now.caller (Forward c.args.id.number (map point_of c.args.points.items)) (forward_reply_of c.forward-answer.result)) c.entry-entry.result c.self.invariant.core c.reserve.ensures.same
-    (subst (λ (ps : List Point). Steps g.S.SigScheme.verifies c.self.inside.core (Forward c.args.id.number (map point_of ps)) (forward_reply_of c.forward-answer.result) c.forward-answer.new.self) c.deref.ensures.value c.forward-answer.ensures.step) c.forward-answer.ensures.start tt c.entry-entry.ensures
+    core_after g.S.SigScheme.verifies g.B.Room.genesis c.self.inside.journal c.self.inside.journal c.self.inside.core c.forward-answer.new.self (call_by c.args.caller.now.caller (Forward c.args.id.number (map point_of c.args.points.now)) (forward_reply_of c.forward-answer.result)) c.entry-entry.result c.self.invariant refl
+    c.forward-answer.ensures.step c.forward-answer.ensures.start tt tt c.entry-entry.ensures
 
-pub invariant_of-self-2 : goal.invariant_of-self-2
-invariant_of-self-2 g c =
+pub invariant_of-self : goal.invariant_of-self
+invariant_of-self g c =
     let core =
-    core_after g.S.SigScheme.verifies g.B.Room.genesis c.self.inside.journal.entries.items c.reserve.new.self.entries.items c.self.inside.core c.forward-answer.new.self (call_by c.args.caller.now.caller (Forward c.args.id.number (map point_of c.args.points.items)) (forward_reply_of c.forward-answer.result)) c.entry-entry.result c.self.invariant.core c.reserve.ensures.same
-    (subst (λ (ps : List Point). Steps g.S.SigScheme.verifies c.self.inside.core (Forward c.args.id.number (map point_of ps)) (forward_reply_of c.forward-answer.result) c.forward-answer.new.self) c.deref.ensures.value c.forward-answer.ensures.step) c.forward-answer.ensures.start tt c.entry-entry.ensures in
-    record { core = subst (λ (j : Journal). IsCoreOf g.S.SigScheme.verifies g.B.Room.genesis j c.forward-answer.new.self) (sym c.write.ensures.entries) core; writer = c.write.ensures.writer }
+    core_after g.S.SigScheme.verifies g.B.Room.genesis c.self.inside.journal c.self.inside.journal c.self.inside.core c.forward-answer.new.self (call_by c.args.caller.now.caller (Forward c.args.id.number (map point_of c.args.points.now)) (forward_reply_of c.forward-answer.result)) c.entry-entry.result c.self.invariant refl
+    c.forward-answer.ensures.step c.forward-answer.ensures.start tt tt c.entry-entry.ensures in
+    subst (λ (j : Journal). IsCoreOf g.S.SigScheme.verifies g.B.Room.genesis j c.forward-answer.new.self) (sym c.write.ensures.entries) core

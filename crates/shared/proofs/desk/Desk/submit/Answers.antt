@@ -1,8 +1,7 @@
-use Rattle.std.proofs.Common.{ℕ, List, Ok, sym, subst}
+use Rattle.std.proofs.Common.{refl, Ok, sym, subst}
 use Rattle.model.specs.History.{Submit}
 use Rattle.model.specs.Journal.{Journal}
 use Rattle.chain_core.specs.Views.{submit_reply_of}
-use Rattle.chain_core.specs.Steps.{Steps}
 use Rattle.shared.specs.Entries.{call_by}
 use Rattle.shared.specs.Standing.{IsCoreOf}
 use Rattle.shared.proofs.Calls.{core_after}
@@ -10,12 +9,12 @@ use Rattle.shared.proofs.desk.Desk.submit.Goals as goal
 
 pub write-requires-clause-core : goal.write-requires-clause-core
 write-requires-clause-core g c =
-    core_after g.S.SigScheme.verifies g.B.Room.genesis c.self.inside.journal.entries.items c.reserve.new.self.entries.items c.self.inside.core c.submit.new.self (call_by c.args.caller.now.caller (Submit c.args.bytes.items) (submit_reply_of (Ok c.in-Ok-submit.reply))) c.entry-entry.result c.self.invariant.core c.reserve.ensures.same
-    (subst (λ (bs : List ℕ). Steps g.S.SigScheme.verifies c.self.inside.core (Submit bs) (submit_reply_of (Ok c.in-Ok-submit.reply)) c.submit.new.self) c.deref.ensures.value c.in-Ok-submit.ensures.step) c.submit.ensures.start tt c.entry-entry.ensures
+    core_after g.S.SigScheme.verifies g.B.Room.genesis c.self.inside.journal c.self.inside.journal c.self.inside.core c.submit.new.self (call_by c.args.caller.now.caller (Submit c.args.bytes.now) (submit_reply_of (Ok c.in_ok-reply.reply))) c.entry-entry.result c.self.invariant refl
+    c.in_ok-reply.ensures.step c.submit.ensures.start tt tt c.entry-entry.ensures
 
 pub invariant_of-self-2 : goal.invariant_of-self-2
 invariant_of-self-2 g c =
     let core =
-    core_after g.S.SigScheme.verifies g.B.Room.genesis c.self.inside.journal.entries.items c.reserve.new.self.entries.items c.self.inside.core c.submit.new.self (call_by c.args.caller.now.caller (Submit c.args.bytes.items) (submit_reply_of (Ok c.in-Ok-submit.reply))) c.entry-entry.result c.self.invariant.core c.reserve.ensures.same
-    (subst (λ (bs : List ℕ). Steps g.S.SigScheme.verifies c.self.inside.core (Submit bs) (submit_reply_of (Ok c.in-Ok-submit.reply)) c.submit.new.self) c.deref.ensures.value c.in-Ok-submit.ensures.step) c.submit.ensures.start tt c.entry-entry.ensures in
-    record { core = subst (λ (j : Journal). IsCoreOf g.S.SigScheme.verifies g.B.Room.genesis j c.submit.new.self) (sym c.write.ensures.entries) core; writer = c.write.ensures.writer }
+    core_after g.S.SigScheme.verifies g.B.Room.genesis c.self.inside.journal c.self.inside.journal c.self.inside.core c.submit.new.self (call_by c.args.caller.now.caller (Submit c.args.bytes.now) (submit_reply_of (Ok c.in_ok-reply.reply))) c.entry-entry.result c.self.invariant refl
+    c.in_ok-reply.ensures.step c.submit.ensures.start tt tt c.entry-entry.ensures in
+    subst (λ (j : Journal). IsCoreOf g.S.SigScheme.verifies g.B.Room.genesis j c.submit.new.self) (sym c.write.ensures.entries) core

@@ -1,9 +1,11 @@
 use Rattle.model.specs.Ledger.{network_of}
 use Rattle.model.specs.History.{Close}
-use Rattle.shared.specs.Answers.{closed_reply}
-use Rattle.shared.proofs.Arriving.{quiet_answered}
+use Rattle.chain_core.specs.Views.{close_reply_of}
+use Rattle.shared.specs.Entries.{call_by}
+use Rattle.std.proofs.Common.{refl}
+use Rattle.shared.proofs.Arriving.{quiet_called}
 use Rattle.shared.proofs.shared.Shared.close.Goals as goal
 
 pub invariant_of-caller : goal.invariant_of-caller
 invariant_of-caller g c =
-    quiet_answered (network_of g.B.Room.genesis g.S.SigScheme.verifies) c.caller.inside.seat (Close c.args.id.number) (closed_reply c.close.result) c.close.new.caller c.close.ensures.answered c.caller.invariant
+    quiet_called (network_of g.B.Room.genesis g.S.SigScheme.verifies) c.caller.inside.seat c.close.new.caller (call_by c.caller.inside.seat.caller (Close c.args.id.number) (close_reply_of c.close.result)) c.close.ensures.called refl c.caller.invariant

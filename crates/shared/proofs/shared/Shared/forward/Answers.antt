@@ -1,11 +1,12 @@
-use Rattle.std.proofs.Common.{map}
+use Rattle.std.proofs.Common.{refl, map}
 use Rattle.ident.specs.PointView.{point_of}
 use Rattle.model.specs.Ledger.{network_of}
 use Rattle.model.specs.History.{Forward}
-use Rattle.shared.specs.Answers.{forwarded_reply}
-use Rattle.shared.proofs.Arriving.{quiet_answered}
+use Rattle.chain_core.specs.Views.{forward_reply_of}
+use Rattle.shared.specs.Entries.{call_by}
+use Rattle.shared.proofs.Arriving.{quiet_called}
 use Rattle.shared.proofs.shared.Shared.forward.Goals as goal
 
 pub invariant_of-caller : goal.invariant_of-caller
 invariant_of-caller g c =
-    quiet_answered (network_of g.B.Room.genesis g.S.SigScheme.verifies) c.caller.inside.seat (Forward c.args.id.number (map point_of c.args.points.items)) (forwarded_reply c.forward.result) c.forward.new.caller c.forward.ensures.answered c.caller.invariant
+    quiet_called (network_of g.B.Room.genesis g.S.SigScheme.verifies) c.caller.inside.seat c.forward.new.caller (call_by c.caller.inside.seat.caller (Forward c.args.id.number (map point_of c.args.points.now)) (forward_reply_of c.forward.result)) c.forward.ensures.called refl c.caller.invariant

@@ -7,4 +7,4 @@ use Rattle.shared.proofs.shared.Shared.submit.Goals as goal
 
 pub invariant_of-caller : goal.invariant_of-caller
 invariant_of-caller g c =
-    quiet_if (network_of g.B.Room.genesis g.S.SigScheme.verifies) c.caller.inside.seat c.submit.new.caller (Submit c.args.bytes.items) (λ r. submit_reply_of (Ok r)) c.submit.result c.submit.ensures.called c.submit.ensures.caller c.caller.invariant
+    quiet_if (network_of g.B.Room.genesis g.S.SigScheme.verifies) c.caller.inside.seat c.submit.new.caller (Submit c.args.bytes.now) (λ r. submit_reply_of (Ok r)) c.submit.result c.submit.ensures.called c.submit.ensures.caller c.caller.invariant
