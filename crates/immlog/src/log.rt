@@ -1,6 +1,6 @@
 //! The immutable log.
 
-ghost use Rattle.std.specs.Prelude.{◌≡◌, ◌↔◌, ◌<◌, ◌≤◌, List, ℕ, [], ◌++◌, length, true, false};
+ghost use Rattle.std.specs.Prelude.{◌≡◌, ◌≢◌, ◌↔◌, ◌<◌, ◌≤◌, List, ℕ, [], ◌++◌, length, true, false};
 ghost use Rattle.std.specs.Prelude.{IsErrOf, IsOk, IfOk, IfErr, OnOk};
 ghost use Rattle.std.specs.List.{AllByRecursion};
 ghost use Rattle.model.specs.Disk.{Leaves, LeavesSince, one_more};
@@ -87,6 +87,9 @@ impl<D: Disk> Log<D> {
             refused.0 ≡ OpenLogFault.Damaged place → IsDamaged (D.reads disk) place) }
         ensures failed { IfErr result (λ refused.
             refused.0 ≡ OpenLogFault.DiskFault → D.failures refused.1 ≡ one_more (D.failures disk)) }
+        // Where it isn't the disk that failed, a read gives what it gave.
+        ensures stays { IfErr result (λ refused.
+            refused.0 ≢ OpenLogFault.DiskFault → D.reads refused.1 ≡ D.reads disk) }
         ensures sound { IfOk result (λ log. log.broken ≡ false) }
         // A crash then leaves just the durable blocks.
         ensures left { IfOk result (λ log. Leaves (λ bytes. Opens bytes log.blocks) (D.moment log.disk)) }

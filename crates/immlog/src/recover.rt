@@ -1,6 +1,6 @@
 //! A disk that a crash may have left is made ready for more blocks.
 
-ghost use Rattle.std.specs.Prelude.{◌≡◌, ◌+◌, ◌<◌, ◌≤◌, ℕ, List, ◌∷◌, ◌++◌, length, take, slice_get};
+ghost use Rattle.std.specs.Prelude.{◌≡◌, ◌≢◌, ◌+◌, ◌<◌, ◌≤◌, ℕ, List, ◌∷◌, ◌++◌, length, take, slice_get};
 ghost use Rattle.std.specs.Prelude.{IfOk, IfErr, IsErrOf, OnOk, true, false};
 ghost use Rattle.model.specs.Disk.{settled, Leaves, HoldsSince, LeavesSince, IsCounted, one_more};
 ghost use Rattle.model.specs.Log.{Opens, IsDamaged, records, at_rest, IsLogOf};
@@ -144,6 +144,8 @@ pub fn recover<D: Disk, R: Threads + Sync>(
         Leaves (IsLogOf least blocks) (D.moment disk.old) → IsBeginningOf least blocks (lists_of found.0.items)) }
     ensures damaged { (place : ℕ) → IsErrOf result (OpenLogFault.Damaged place) → IsDamaged (D.reads disk.old) place }
     ensures failed { IsErrOf result OpenLogFault.DiskFault → D.failures disk.new ≡ one_more (D.failures disk.old) }
+    ensures stays { (fault : OpenLogFault) → IsErrOf result fault → fault ≢ OpenLogFault.DiskFault →
+        D.reads disk.new ≡ D.reads disk.old }
 {
     // A gate whose write or sync failed is settled before anything is decided by what is read.
     let Ok(()) = disk.sync() else {
