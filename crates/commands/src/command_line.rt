@@ -169,7 +169,9 @@ fn job_of<'a>(matches: &ArgMatches<'a>) -> Option<Job<'a>>
     None
 }
 
-/// What the words of a command line, the first of which names the program, ask for.
+/// What the words of a command line, the first of which names the program, ask for: the job that the subcommand names,
+/// with the paths and the number of its options, as clap matches them. Err where clap refuses the words, where they ask
+/// for help or the version, or where memory runs out. Takes time and memory in proportion to the words.
 pub fn job<'a>(alloc: Global, words: &'a [String]) -> Result<Job<'a>, Error>
     ensures { IfOk result (IsJobOf (subcommand_of node_app (map string_bytes words.entry.now))) }
 {

@@ -9,5 +9,8 @@ mod jobs;
 mod log_runs;
 mod program;
 
+pub use command_line::job;
 pub use descriptors::hold_descriptors;
+pub use genesis_file::{MAX_GENESIS_SIZE, NoGenesis, read_genesis};
+pub use jobs::Job;
 pub use program::start;
