@@ -82,8 +82,8 @@ impl<S: SigScheme> PlacedBlock<S> {
         place
     }
 
-    /// Whether a way leads to the block, which follows a block that turned to this: it has no mark, and if that one
-    /// isn't reached, it follows the root.
+    /// Whether a way leads to the block, which follows a place to which one leads (`reached`) or none does: it has no
+    /// mark, and in the second case follows the root.
     fn is_led(&self, root: Option<Tip>, reached: bool) -> bool
         ensures { IsTrue result ↔ IsLed (option_map tip_of root) reached self.now.stored }
     {
@@ -91,8 +91,8 @@ impl<S: SigScheme> PlacedBlock<S> {
             && (reached || root.is_some_and(|root| root.precedes(self.stored.block())))
     }
 
-    /// Notes that a way leads to the block, or that none does, if it follows this place, to which one leads, or none
-    /// does. Answers whether that is new.
+    /// Turns the note to `reached`, if it says otherwise, the block follows this place, and it is then right. Answers
+    /// whether it turned.
     pub fn turn(&mut self, before: &Tip, root: Option<Tip>, reached: bool) -> bool
         ensures stored { self.new.stored ≡ self.old.stored }
         ensures turned { IsTrue result → HasTurned (tip_of before.now) (option_map tip_of root) reached self.old.stored

@@ -122,16 +122,16 @@ impl<S: SigScheme> BlockStore<S> {
     }
 
     /// Whether a way leads to this block, which need not be live: live blocks without marks, each following the one
-    /// before it, the first of them following the place that chains go through. Where none does, no chain of live
-    /// blocks without marks leads from that place to it.
+    /// before it, the first of them, or the block itself where there are none, following the place that chains go
+    /// through. Where none does, no chain of live blocks without marks leads from that place to it.
     pub fn connects(&self, block: &CheckedBlock<S>) -> bool
         ensures { IsTrue result ↔ HasWay self.now.root self.now.blocks block.now }
     {
         self.blocks.connects(&self.root, block)
     }
 
-    /// Whether a live block has a number past this one: where none has, none goes on from a block with this number. Looks
-    /// at the newest of them alone.
+    /// Whether a live block has a number past this one: where none has, none goes on from a block with this number.
+    /// Looks at the one with the greatest number alone.
     pub fn goes_past(&self, number: u64) -> bool
         ensures { IsTrue result ↔ HasPast number self.now.blocks }
     {
@@ -183,7 +183,8 @@ impl<S: SigScheme> BlockStore<S> {
 
     /// Takes out all blocks with a number up to that of this place, which all chains go through from then on: the
     /// immutable tip of the selected one. Takes look-ups for each that goes, and for each that hangs on another of them
-    /// than the one at the place. Where no way led to the place, it takes look-ups for all. Takes no memory.
+    /// than the one at the place. Where no way led to the place, and it isn't the one before, it takes look-ups for
+    /// all. Takes no memory.
     pub fn drop_up_to(&mut self, root: Tip)
         ensures cut { IsCutTo self.old root.number self.new }
         ensures root { self.new.root ≡ tip_of root }

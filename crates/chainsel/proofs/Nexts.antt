@@ -3,11 +3,12 @@ use Rattle.std.proofs.Common.{◌≡◌, ◌↔◌, ℕ, List, [], ◌∷◌, �
 use Rattle.std.proofs.lemmas.List.Elements.{Contains-append_left, Contains-append_right, Contains-append_cases, Contains-push, Contains-push_cases}
 use Rattle.model.specs.Block.{Block, block_hash_of}
 use Rattle.model.specs.Chain.{tip_at, Follows}
-use Rattle.model.proofs.Lists.{contains_first, contains_cases, nothing_contained}
+use Rattle.std.specs.List.{AllByRecursion}
+use Rattle.model.proofs.Lists.{contains_first, contains_cases, nothing_contained, all_from_members}
 use Rattle.ident.specs.Kinds.{BlockHash}
 use Rattle.blockstore.specs.Stored.{Stored, Store}
 use Rattle.blockstore.specs.Answers.{AreSuccessors}
-use Rattle.chainsel.specs.Paths.{IsFit}
+use Rattle.chainsel.specs.Paths.{IsFit, IsOnPath}
 use Rattle.chainsel.specs.Ends.{AreNext}
 
 -- the block of one of these against which nothing is known, and that follows the end
@@ -85,6 +86,14 @@ module _ (store : Store) (invalid : List BlockHash) where
           | inr nowhere ↦ absurd (nothing_contained next_one.end nowhere)
         ]),
   )
+
+  -- nothing follows no ends
+  pub next_none : AreNext store invalid [] []
+  next_none b = ((λ member. absurd (nothing_contained b member)), (λ one. absurd (nothing_contained one.end one.member)))
+
+  -- what follows ends is what paths are made of
+  pub next_steps : (new : Block) (ends next : List Block) → AreNext store invalid ends next → AllByRecursion (IsOnPath store invalid new) next
+  next_steps new ends next are = all_from_members (IsOnPath store invalid new) next (λ b member. inr ((are b).0 member).live)
 
   -- what follows one end more comes behind
   pub next_more : (ends next : List Block) (end : Block) (more : List Block) → AreNext store invalid ends next → AreNext store invalid (end ∷ []) more → AreNext store invalid (ends ++ end ∷ []) (next ++ more)

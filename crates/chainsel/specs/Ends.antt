@@ -1,5 +1,5 @@
 -- Where the paths end that go on from a block.
-use Rattle.std.specs.Prelude.{◌≡◌, ◌≢◌, ◌↔◌, ℕ, ◌≤◌, List, [], length, Contains}
+use Rattle.std.specs.Prelude.{◌≡◌, ◌≢◌, ◌↔◌, ℕ, ◌≤◌, List, [], length, map, drop, Contains}
 use Rattle.std.specs.List.{AllByRecursion}
 use Rattle.std.specs.Ordering.{nat_cmp}
 use Rattle.std.specs.declared.cmp.Ordering.TheVariants.{Greater}
@@ -9,6 +9,7 @@ use Rattle.model.specs.Chain.{tip_at, Follows}
 use Rattle.ident.specs.Kinds.{BlockHash}
 use Rattle.blockstore.specs.Stored.{Store}
 use Rattle.chainsel.specs.Paths.{IsFitLive, Descends}
+use Rattle.chainsel.specs.declared.furthest.Walk.{Walk}
 
 -- the block goes on from another by so many blocks
 pub record DescendsBy (store : Store) (invalid : List BlockHash) (new : Block) (n : ℕ) (b : Block) : Type 0 where
@@ -41,3 +42,7 @@ pub record AreFurthest (store : Store) (invalid : List BlockHash) (new : Block) 
 abbrev pub HasLeastHash : List Block → Block → Type 0
 HasLeastHash blocks least =
     AllByRecursion (λ b. slice_cmp nat_cmp (block_hash_of least) (block_hash_of b) ≢ Greater) blocks
+
+-- those of a walk's blocks that go on furthest
+abbrev pub ends_of : {S : Type 0} → Walk S → List Block
+ends_of walk = map (λ x. x.now) (drop walk.furthest walk.blocks.items)

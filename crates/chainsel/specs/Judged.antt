@@ -47,8 +47,8 @@ pub record GainsFound (store : Store) (found more : List BlockHash) : Type 0 whe
   pub stays : AreFound store found → AreFound store more
   pub longer : length found ≤ length more
 
--- where the block that came is applied, live blocks may be found dead, and else it is itself
-abbrev pub IsNoted : Store → (new : Block) → (applied : Bool) → (found more : List BlockHash) → Type 0
-IsNoted store new true found more = GainsFound store found more
-IsNoted store new false found more =
+-- where the block that came isn't found dead, live blocks may be, and else it is, and it alone
+abbrev pub FindsDead : Store → (new : Block) → (stays : Bool) → (found more : List BlockHash) → Type 0
+FindsDead store new true found more = GainsFound store found more
+FindsDead store new false found more =
     (hash : BlockHash) × (hash.bytes ≡ block_hash_of new) × (more ≡ found ++ hash ∷ [])

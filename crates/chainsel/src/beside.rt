@@ -16,8 +16,8 @@ use ledgerdb::{ForkFault, LedgerDb};
 use std::alloc::AllocError;
 use witness_pool::SigScheme;
 
-/// The place of the block with this hash, if it is there.
-fn place_of<S: SigScheme>(blocks: &[CheckedBlock<S>], hash: BlockHash) -> Option<usize>
+/// The index of the block with this hash, if it is there.
+fn index_of<S: SigScheme>(blocks: &[CheckedBlock<S>], hash: BlockHash) -> Option<usize>
     ensures { IfSome result (λ place.
         (b : Block) × (slice_get blocks.now place ≡ Some b) × (block_hash_of b ≡ hash.bytes)) }
 {
@@ -61,6 +61,6 @@ pub fn side_of<S: SigScheme>(
     requires dead { dead ≤ length way.now }
     ensures { IfOk result (λ side. IfSome side (IsSideOf S.verifies db.now way.now)) }
 {
-    let first = place_of(way, new.hash()).unwrap_or(dead).min(dead);
+    let first = index_of(way, new.hash()).unwrap_or(dead).min(dead);
     state_on(db, back, &way[..first])
 }

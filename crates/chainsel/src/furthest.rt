@@ -1,13 +1,14 @@
 //! What goes on furthest from a block, by links alone.
 
-ghost use Rattle.std.specs.Prelude.{◌≡◌, ◌≢◌, ◌↔◌, ℕ, ◌<◌, ◌^◌, ◌++◌, List, [], ◌∷◌, map, Contains, IsTrue, IfOk, OnOk};
+ghost use Rattle.std.specs.Prelude.{◌≡◌, ◌≢◌, ◌↔◌, ℕ, ◌<◌, ◌^◌, ◌++◌, List, [], ◌∷◌, map, drop, Contains};
+ghost use Rattle.std.specs.Prelude.{IsTrue, IfOk, OnOk};
 ghost use Rattle.std.specs.List.{AllByRecursion};
 ghost use Rattle.std.specs.Ordering.{nat_cmp};
 ghost use Rattle.std.specs.declared.cmp.Ordering.TheVariants.{Less};
 ghost use Rattle.std.specs.Cmp.Lexicographic.{slice_cmp};
 ghost use Rattle.model.specs.Block.{Block, block_hash_of};
-ghost use Rattle.chainsel.specs.Paths.{Descends, IsBest};
-ghost use Rattle.chainsel.specs.Ends.{AreEnds, AreNext, AreFurthest, HasLeastHash};
+ghost use Rattle.chainsel.specs.Paths.{IsOnPath, Descends, IsBest};
+ghost use Rattle.chainsel.specs.Ends.{AreEnds, AreNext, AreFurthest, HasLeastHash, ends_of};
 
 use crate::found::Found;
 use crate::links::{follows, is_fit};
@@ -17,68 +18,90 @@ use ident::BlockHash;
 use std::alloc::{AllocError, Global};
 use witness_pool::SigScheme;
 
-/// Puts the live blocks against which nothing is known and that follow this one to the end of the others.
+/// What goes on furthest from a block, by links alone.
+#[derive(Drop)]
+pub struct Best<'a, S: SigScheme> {
+    /// The last block there, of several the one with the least hash: the block itself, where none goes on from it.
+    pub end: &'a CheckedBlock<S>,
+    /// The block itself and what goes on from it, each behind the one that it follows. None where nothing can go on.
+    pub walked: Vec<&'a CheckedBlock<S>>,
+}
+
+/// A block and all that goes on from it, each behind the one that it follows.
+#[derive(Drop)]
+struct Walk<'a, S: SigScheme> {
+    blocks: Vec<&'a CheckedBlock<S>>,
+    /// From this place on stand those that go on furthest.
+    furthest: usize,
+}
+
+/// Puts the live blocks against which nothing is known and that follow this one behind those that were walked.
 fn push_next<'a, S: SigScheme>(
     store: &'a BlockStore<S>,
     found: &Found,
     end: &CheckedBlock<S>,
-    next: &mut Vec<&'a CheckedBlock<S>>,
+    walked: &mut Vec<&'a CheckedBlock<S>>,
 ) -> Result<(), AllocError>
     ensures { OnOk result ((more : List Block)
-        × (map (λ x. x.now) next.new.items ≡ map (λ x. x.now) next.old.items ++ more)
+        × (map (λ x. x.now) walked.new.items ≡ map (λ x. x.now) walked.old.items ++ more)
         × AreNext store.now found.now.hashes.items (end.now ∷ []) more
         × AllByRecursion (λ b. b.header.number < 2 ^ 64) more) }
 {
     let successors = store.successors(Some(end.hash()))?;
     for stored in &successors {
         if is_fit(found, stored) && follows(end, stored.block()) {
-            next.push(stored.block())?;
+            walked.push(stored.block())?;
         }
     }
     Ok(())
 }
 
-/// The live blocks against which nothing is known that follow one of these. Takes a look-up of successors for each.
-fn next_ends<'a, S: SigScheme>(
-    alloc: Global,
+/// Puts the live blocks against which nothing is known and that follow one from this place on behind those that were
+/// walked. Takes a look-up of successors for each from there on.
+fn walk_on<'a, S: SigScheme>(
     store: &'a BlockStore<S>,
     found: &Found,
-    ends: &[&'a CheckedBlock<S>],
-) -> Result<Vec<&'a CheckedBlock<S>>, AllocError>
-    ensures all { IfOk result (λ next.
-        AreNext store.now found.now.hashes.items (map (λ x. x.now) ends.now) (map (λ x. x.now) next.items)) }
-    ensures range { IfOk result (λ next.
-        AllByRecursion (λ b. b.header.number < 2 ^ 64) (map (λ x. x.now) next.items)) }
+    walked: &mut Vec<&'a CheckedBlock<S>>,
+    from: usize,
+) -> Result<(), AllocError>
+    ensures { OnOk result ((more : List Block)
+        × (map (λ x. x.now) walked.new.items ≡ map (λ x. x.now) walked.old.items ++ more)
+        × AreNext store.now found.now.hashes.items (drop from (map (λ x. x.now) walked.old.items)) more
+        × AllByRecursion (λ b. b.header.number < 2 ^ 64) more) }
 {
-    let mut next = Vec::new(alloc);
-    for end in ends {
-        push_next(store, found, end, &mut next)?;
+    for place in from..walked.len() {
+        let end = walked[place];
+        push_next(store, found, end, walked)?;
     }
-    Ok(next)
+    Ok(())
 }
 
-/// The blocks that go on furthest from the new one, itself where none does.
-fn furthest_ends<'a, S: SigScheme>(
+/// The new block and all that goes on from it.
+fn walk_through<'a, S: SigScheme>(
     alloc: Global,
     store: &'a BlockStore<S>,
     found: &Found,
     new: &'a CheckedBlock<S>,
-) -> Result<Vec<&'a CheckedBlock<S>>, AllocError>
-    ensures all { IfOk result (λ ends.
-        (n : ℕ) × AreEnds store.now found.now.hashes.items new.now n (map (λ x. x.now) ends.items)) }
-    ensures some { IfOk result (λ ends. map (λ x. x.now) ends.items ≢ []) }
-    ensures furthest { IfOk result (λ ends. 0 < new.now.header.number →
-        AreFurthest store.now found.now.hashes.items new.now (map (λ x. x.now) ends.items)) }
+) -> Result<Walk<'a, S>, AllocError>
+    ensures steps { IfOk result (λ walk.
+        AllByRecursion (IsOnPath store.now found.now.hashes.items new.now) (map (λ x. x.now) walk.blocks.items)) }
+    ensures all { IfOk result (λ walk.
+        (n : ℕ) × AreEnds store.now found.now.hashes.items new.now n (ends_of walk)) }
+    ensures some { IfOk result (λ walk. ends_of walk ≢ []) }
+    ensures furthest { IfOk result (λ walk. 0 < new.now.header.number →
+        AreFurthest store.now found.now.hashes.items new.now (ends_of walk)) }
 {
-    let mut ends = vec![in alloc; new]?;
+    let mut blocks = vec![in alloc; new]?;
+    let mut furthest = 0;
     for _ in 0..u64::MAX {
-        let next = next_ends(alloc, store, found, &ends)?;
-        if next.is_empty() {
-            return Ok(ends);
+        let walked = blocks.len();
+        walk_on(store, found, &mut blocks, furthest)?;
+        if blocks.len() == walked {
+            return Ok(Walk { blocks, furthest });
         }
-        ends = next;
+        furthest = walked;
     }
-    Ok(ends)
+    Ok(Walk { blocks, furthest })
 }
 
 /// Whether the one hash is less than the other, compared as bytes.
@@ -105,21 +128,26 @@ fn least<'a, S: SigScheme>(
     least
 }
 
-/// The block that goes on furthest from the new one, itself where none does; of several the one with the least hash.
-/// Takes a look-up of successors for it, where a live block has a greater number, and for each that goes on from it.
+/// What goes on furthest from the new block. Takes a look-up of successors for it, where a live block has a greater
+/// number, and for each that goes on from it.
 pub fn furthest<'a, S: SigScheme>(
     alloc: Global,
     store: &'a BlockStore<S>,
     found: &Found,
     new: &'a CheckedBlock<S>,
-) -> Result<&'a CheckedBlock<S>, AllocError>
-    ensures descends { IfOk result (λ best. Descends store.now found.now.hashes.items new.now best.now) }
+) -> Result<Best<'a, S>, AllocError>
+    ensures descends { IfOk result (λ best. Descends store.now found.now.hashes.items new.now best.end.now) }
     ensures best { IfOk result (λ best.
-        0 < new.now.header.number → IsBest store.now found.now.hashes.items new.now best.now) }
+        0 < new.now.header.number → IsBest store.now found.now.hashes.items new.now best.end.now) }
+    ensures walked { IfOk result (λ best.
+        AllByRecursion (IsOnPath store.now found.now.hashes.items new.now) (map (λ x. x.now) best.walked.items)) }
 {
     if !store.goes_past(new.number()) {
-        return Ok(new);
+        let walked = Vec::new(alloc);
+        return Ok(Best { end: new, walked });
     }
-    let ends = furthest_ends(alloc, store, found, new)?;
-    Ok(least(new, &ends))
+    let walk = walk_through(alloc, store, found, new)?;
+    let end = least(new, &walk.blocks[walk.furthest..]);
+    let walked = walk.blocks;
+    Ok(Best { end, walked })
 }

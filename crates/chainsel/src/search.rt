@@ -22,8 +22,9 @@ use witness_pool::SigScheme;
 /// ones, of which these were found dead by now.
 ///
 /// Takes a look-up of successors for each block that goes on from the new one, a look-up for each block on the way to
-/// it, and the time to judge the longest path. Where a block of that is dead, all that goes on from the new one is
-/// judged, each block once, and all of the above is done once more. Err where memory runs out.
+/// the new one, and the time to judge the longest path. Where a block of that is dead, the blocks before it are judged
+/// once more, for the state before it, and so is all that goes on from the new one, each block once; then all of the
+/// above is done once more. Err where memory runs out.
 pub fn search<S: SigScheme>(
     alloc: Global,
     store: &BlockStore<S>,
@@ -41,11 +42,11 @@ pub fn search<S: SigScheme>(
     let mut found = found;
     let mut side = None;
     loop {
-        let end = furthest(alloc, store, &found, new)?;
-        if end.number() <= chain.len() as u64 {
+        let best = furthest(alloc, store, &found, new)?;
+        if best.end.number() <= chain.len() as u64 {
             return Ok(keep(found, side));
         }
-        let Some(way) = way_to(alloc, store, &found, chain, immutable, new, end)? else {
+        let Some(way) = way_to(alloc, store, &found, chain, immutable, new, best)? else {
             return Ok(keep(found, side));
         };
         let back = chain.len() - way.keep;

@@ -71,11 +71,12 @@ fn stays_by_links<S: SigScheme>(
 /// Links are looked at first and the ledger last. Where no way leads to the block from the immutable tip, or nothing
 /// goes on from it and it is no longer than the chain, a few look-ups in the store are all that it takes. Where it
 /// comes next after a state that is kept beside the chain, it is judged on that, and so is all that goes on from it:
-/// each block once, and no time goes into the fork before it. Else, or where it is applied there, it takes a look-up of
-/// successors for each block that goes on from it. Where none of these is longer than the chain no block is judged, and
-/// where one is, it takes a look-up for each block on the way to it, and the time to judge the longest path. Where a
-/// block of that path is dead, the blocks before it are judged once more, and so is all that goes on from the new one,
-/// each block once; then the search begins again. A block that is found dead is told, so that it is never judged again.
+/// each block once, and where it is refused no time goes into the fork before it. Else, or where it is applied there,
+/// it takes a look-up of successors for each block that goes on from it. Where none of these is longer than the chain
+/// no other block is judged, and where one is, it takes a look-up for each block on the way to the new one, and the
+/// time to judge the longest path. Where a block of that path is dead, the blocks before it are judged once more, and
+/// so is all that goes on from the new one, each block once; then the search begins again. A block that is found dead
+/// is told, so that it is never judged again.
 ///
 /// Where the answer is Err, memory ran out.
 pub fn select<S: SigScheme>(

@@ -35,6 +35,6 @@ pub struct Selection<S: SigScheme> {
     pub invalid: Vec<BlockHash>,
     /// Where a block was found dead on a fork that isn't taken, the state before it, or before the block that came, if
     /// that comes first on the fork: for [`ledgerdb::LedgerDb::keep_side`], so that the next block there is judged on
-    /// it. None where nothing was, or where it was judged on such a state.
+    /// it. None where the chain changes, where no block was found dead, or where it was judged on such a state.
     pub side: Option<LedgerState>,
 }

@@ -8,7 +8,7 @@ ghost use Rattle.model.specs.Chain.{tip_at, Follows};
 ghost use Rattle.blockstore.specs.Stored.{blocks_of};
 ghost use Rattle.chainsel.specs.Paths.{IsFitLive};
 ghost use Rattle.chainsel.specs.Choices.{AreDead};
-ghost use Rattle.chainsel.specs.Judged.{IsStateAt, StaysSifted, GainsFound, IsNoted};
+ghost use Rattle.chainsel.specs.Judged.{IsStateAt, StaysSifted, GainsFound, FindsDead};
 ghost use Rattle.chainsel.specs.Sides.{IsSide};
 
 use crate::found::Found;
@@ -104,7 +104,7 @@ fn judge_on<'a, S: SigScheme>(
     new: &'a CheckedBlock<S>,
 ) -> Result<bool, AllocError>
     requires { Follows state.now.tip new.now }
-    ensures found { IfOk result (λ applied. IsNoted store.now new.now applied
+    ensures found { IfOk result (λ stays. FindsDead store.now new.now stays
         found.old.hashes.items found.new.hashes.items) }
     ensures dead { OnOk result ((genesis : Genesis) (opened chain : List Block)
         → IsSide (network_on genesis S.verifies opened) ((new.now ∷ blocks_of store.now) ++ chain) state.now
@@ -134,7 +134,7 @@ pub fn sift<'a, S: SigScheme>(
     state: Option<&LedgerState>,
     new: &'a CheckedBlock<S>,
 ) -> Result<bool, AllocError>
-    ensures found { IfOk result (λ applied. IsNoted store.now new.now applied
+    ensures found { IfOk result (λ stays. FindsDead store.now new.now stays
         found.old.hashes.items found.new.hashes.items) }
     ensures dead { OnOk result ((genesis : Genesis) (opened chain : List Block)
         → IfSome state.entry (λ s.

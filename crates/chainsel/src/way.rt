@@ -1,12 +1,14 @@
 //! How a block hangs on the selected chain.
 
-ghost use Rattle.std.specs.Prelude.{◌∷◌, ◌≤◌, length, MatchOption, IfOk};
+ghost use Rattle.std.specs.Prelude.{◌≡◌, ◌∷◌, ◌++◌, ◌≤◌, List, length, map, Contains, MatchOption, IfSome, IfOk};
+ghost use Rattle.std.specs.List.{AllByRecursion};
 ghost use Rattle.model.specs.Block.{Block};
 ghost use Rattle.model.specs.Chain.{genesis_tip, tip_at, Follows, IsLinked, HaveDistinctHashes};
 ghost use Rattle.blockstore.specs.Stored.{blocks_of};
 ghost use Rattle.chainsel.specs.Paths.{IsFitLive, IsOnPath, IsWay, HasNoWay};
 
 use crate::found::Found;
+use crate::furthest::Best;
 use crate::links::{follows, follows_chain, is_fit};
 use block::CheckedBlock;
 use blockstore::BlockStore;
@@ -39,42 +41,72 @@ fn live_parent<'a, S: SigScheme>(
     }
 }
 
-/// The block before this one: the new one, or a live one against which nothing is known.
+/// The last of these blocks that the other follows. It and those behind it are taken out: who goes back by blocks that
+/// stand behind the ones that they follow looks at each of them once.
+fn walked_parent<'a, S: SigScheme>(
+    walked: &mut Vec<&'a CheckedBlock<S>>,
+    block: &CheckedBlock<S>,
+) -> Option<&'a CheckedBlock<S>>
+    ensures front { (rest : List Block)
+        × (map (λ x. x.now) walked.old.items ≡ map (λ x. x.now) walked.new.items ++ rest) }
+    ensures parent { IfSome result (λ before. Contains (map (λ x. x.now) walked.old.items) before.now
+        × Follows (tip_at before.now) block.now) }
+{
+    while let Some(before) = walked.pop() {
+        if follows(before, block) {
+            return Some(before);
+        }
+    }
+    None
+}
+
+/// The block before this one: one of those that were walked, the new one, or a live one against which nothing is known.
 fn parent<'a, S: SigScheme>(
     store: &'a BlockStore<S>,
     found: &Found,
     new: &'a CheckedBlock<S>,
+    walked: &mut Vec<&'a CheckedBlock<S>>,
     block: &CheckedBlock<S>,
 ) -> Option<&'a CheckedBlock<S>>
-    ensures { MatchOption result
+    requires { AllByRecursion (IsOnPath store.now found.now.hashes.items new.now) (map (λ x. x.now) walked.old.items) }
+    ensures walked { AllByRecursion (IsOnPath store.now found.now.hashes.items new.now)
+        (map (λ x. x.now) walked.new.items) }
+    ensures parent { MatchOption result
         (HaveDistinctHashes (blocks_of store.now) → (b : Block) → IsOnPath store.now found.now.hashes.items new.now b
         → Follows (tip_at b) block.now → ⊥)
         (λ before. IsOnPath store.now found.now.hashes.items new.now before.now
         × Follows (tip_at before.now) block.now) }
 {
-    if follows(new, block) {
-        Some(new)
-    } else {
-        live_parent(store, found, block)
+    if let Some(before) = walked_parent(walked, block) {
+        return Some(before);
     }
+    if follows(new, block) {
+        return Some(new);
+    }
+    live_parent(store, found, block)
 }
 
-/// The way to a block from the selected chain, past its first `immutable` blocks, if there is one. Takes a look-up in
-/// the store for each block of the way.
-pub fn way_to<S: SigScheme>(
+/// The way to a block from the selected chain, past its first `immutable` blocks, if there is one. Of the way, what was
+/// walked is found there; takes a look-up in the store for each other block.
+pub fn way_to<'a, S: SigScheme>(
     alloc: Global,
-    store: &BlockStore<S>,
+    store: &'a BlockStore<S>,
     found: &Found,
     chain: &[CheckedBlock<S>],
     immutable: usize,
-    new: &CheckedBlock<S>,
-    end: &CheckedBlock<S>,
+    new: &'a CheckedBlock<S>,
+    best: Best<'a, S>,
 ) -> Result<Option<Way<S>>, AllocError>
+    requires { AllByRecursion (IsOnPath store.now found.now.hashes.items new.now)
+        (map (λ x. x.now) best.walked.items) }
     ensures { IfOk result (λ way. MatchOption way
         (HaveDistinctHashes (new.now ∷ blocks_of store.now) → IsLinked genesis_tip chain.now →
-        immutable ≤ length chain.now → HasNoWay store.now found.now.hashes.items chain.now immutable new.now end.now)
-        (λ way. IsWay store.now found.now.hashes.items chain.now immutable new.now end.now way.keep way.blocks.items)) }
+        immutable ≤ length chain.now →
+        HasNoWay store.now found.now.hashes.items chain.now immutable new.now best.entry.end.now)
+        (λ way. IsWay store.now found.now.hashes.items chain.now immutable new.now best.entry.end.now way.keep
+        way.blocks.items)) }
 {
+    let Best { end, mut walked } = best;
     let mut way = Vec::new(alloc); // the newest first
     let mut first = end;
     for keep in (immutable..end.number() as usize).rev() {
@@ -83,7 +115,7 @@ pub fn way_to<S: SigScheme>(
             way.reverse();
             return Ok(Some(Way { keep, blocks: way }));
         }
-        let Some(before) = parent(store, found, new, first) else {
+        let Some(before) = parent(store, found, new, &mut walked, first) else {
             return Ok(None);
         };
         first = before;

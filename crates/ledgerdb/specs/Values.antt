@@ -5,7 +5,7 @@ use Rattle.model.specs.Applying.{LedgerState, last_state}
 use Rattle.model.specs.Codes.{coded_ledger_state}
 
 -- the anchor and the states of the blocks after it, the oldest first, of which at most k are kept; and states beside
--- this chain, of other chains, the oldest first
+-- these, of whatever chains, the oldest first
 pub record Database : Type 0 where
   pub k : ℕ
   pub anchor : LedgerState

@@ -21,8 +21,9 @@ const MOST_SIDES: usize = 8;
 /// judged without applying the chain anew (the Consensus and Storage Layer report, ledger database). One state is
 /// whole, the newest; those before it are had by undoing. Each block takes memory for what it changed.
 ///
-/// Beside these it keeps up to eight states of other chains, until the next commit: those on which blocks were judged
-/// and refused, so that the next block there is judged without applying the whole fork once more.
+/// Beside these it keeps up to eight states of chains, the selected one or a beginning of it among them, until the next
+/// commit: those on which blocks were judged and refused, so that the next block there is judged without applying the
+/// whole fork once more.
 #[derive(Drop)]
 pub struct LedgerDb {
     alloc: Global,
@@ -201,7 +202,7 @@ impl LedgerDb {
         self.state = prepared.state;
     }
 
-    /// The state beside the chain that the block may come next after, if one is kept: the oldest such. Takes no memory.
+    /// The state beside the chain that the block may come next after, if one is kept. Takes no memory.
     pub fn side_before<S: SigScheme>(&self, block: &CheckedBlock<S>) -> Option<&LedgerState>
         ensures { MatchOption result
             (AllByRecursion (λ s. Follows s.tip block.now → ⊥) self.now.sides)

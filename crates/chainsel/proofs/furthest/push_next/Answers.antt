@@ -24,17 +24,17 @@ loop-stored-preserved g c =
     let stored = c.stored-item.result in
     let b = stored.now.block in
     let found = map (λ x. x.now) (take i items) in
-    let old = map (λ x. x.now) c.args.next.now.items in
+    let old = map (λ x. x.now) c.args.walked.now.items in
     let before = c.loop-stored.invariant in
     let one_more : map (λ x. x.now) (take (i + 1) items) ≡ found ++ stored.now ∷ [] = map_one_more (λ x. x.now) items i stored c.loop-stored-test.true c.stored-item.is in
     elim c.if-is_fit.branch [
       | then-is_fit+then-follows+in_ok-push w ↦
           let follows : Follows (tip_at end) b = subst (Follows (tip_at end)) w.block.ensures (w.if-follows.ensures.next.0 refl) in
           let block = w.block-then-follows.result in
-          let behind : w.push.new.self.items ≡ c.loop-stored.next.items ++ block ∷ [] = w.in_ok-push.ensures.items in (
+          let behind : w.push.new.self.items ≡ c.loop-stored.walked.items ++ block ∷ [] = w.in_ok-push.ensures.items in (
             before.0 ++ b ∷ [],
-            ap (λ (v : Vec _). map (λ x. x.now) v.items) w.next-is
-                ∙ pushed (λ x. x.now) w.push.new.self.items c.loop-stored.next.items block b old before.0 behind w.block-then-follows.ensures before.1,
+            ap (λ (v : Vec _). map (λ x. x.now) v.items) w.walked-is
+                ∙ pushed (λ x. x.now) w.push.new.self.items c.loop-stored.walked.items block b old before.0 behind w.block-then-follows.ensures before.1,
             subst (λ (ss : List Stored). AreTaken invalid end ss (before.0 ++ b ∷ [])) (sym one_more) (taken_more invalid end found stored.now before.0 before.2 (w.if-is_fit.ensures.0 refl) follows),
             all_push (λ c. c.header.number < 2 ^ 64) before.0 b before.3 (subst (λ (d : Block). d.header.number < 2 ^ 64) w.block.ensures w.follows.ensures.range),
           )
@@ -45,7 +45,7 @@ loop-stored-preserved g c =
             | else-is_fit-via-else-is_fit v ↦ λ fit follows. let e : false ≡ true = v.if-is_fit.ensures.1 fit in cc
           ] in (
             before.0,
-            ap (λ (v : Vec _). map (λ x. x.now) v.items) w.next-is ∙ before.1,
+            ap (λ (v : Vec _). map (λ x. x.now) v.items) w.walked-is ∙ before.1,
             subst (λ (ss : List Stored). AreTaken invalid end ss before.0) (sym one_more) (taken_past invalid end found stored.now before.0 before.2 refused),
             before.3,
           )

@@ -19,7 +19,7 @@ use Rattle.chainsel.proofs.Answering.{kept_by_number, kept_by_way, kept_by_death
 use Rattle.chainsel.proofs.Founds.{one_found, found_fewer, way_fit}
 use Rattle.chainsel.proofs.Sides.{if_some, side_at_hand, sifted_dead}
 use Rattle.chainsel.specs.Sides.{IsSideOf}
-use Rattle.chainsel.specs.Judged.{IsNoted}
+use Rattle.chainsel.specs.Judged.{FindsDead}
 use Rattle.chainsel.specs.declared.found.Found.{Found}
 use Rattle.chainsel.proofs.search.search.Given as given
 use Rattle.chainsel.proofs.search.search.Goals as goal
@@ -29,19 +29,19 @@ pub returns-then-number-chain : goal.returns-then-number-chain
 returns-then-number-chain g c =
     kept_by_number g.S.SigScheme.verifies c.args.chain.now c.args.store.now c.args.db.now c.args.new.now c.keep.result c.loop-side.found.hashes.items c.keep.ensures.choice c.keep.ensures.invalid c.loop-side.invariant.dead
     (subst (λ o. IfSome o (IsSideInAll g.S.SigScheme.verifies c.args.chain.now c.args.store.now c.args.db.now c.args.new.now)) (sym c.keep.ensures.side) c.loop-side.invariant.beside)
-    c.in_ok-end.end.now c.in_ok-end.ensures.best (let e = c.number.ensures in let le = c.if-number-chain.true in omega arith)
+    c.in_ok-best.best.end.now c.in_ok-best.ensures.best (let e = c.number.ensures in let le = c.if-number-chain.true in omega arith)
 
 pub returns-in_default : goal.returns-in_default
 returns-in_default g c =
     kept_by_way g.S.SigScheme.verifies c.args.chain.now c.args.store.now c.args.db.now c.args.new.now c.keep-in_default.result c.loop-side.found.hashes.items c.keep-in_default.ensures.choice c.keep-in_default.ensures.invalid
     c.loop-side.invariant.dead
     (subst (λ o. IfSome o (IsSideInAll g.S.SigScheme.verifies c.args.chain.now c.args.store.now c.args.db.now c.args.new.now)) (sym c.keep-in_default.ensures.side) c.loop-side.invariant.beside)
-    c.args.immutable c.in_ok-end.end.now c.requires.immutable c.in_ok-end.ensures.descends (match_none _ _ c.in_ok-way.field-0 c.in_ok-way.ensures c.in_default.is)
+    c.args.immutable c.in_ok-best.best.end.now c.requires.immutable c.in_ok-best.ensures.descends (match_none _ _ c.in_ok-way.field-0 c.in_ok-way.ensures c.in_default.is)
 
 -- a way leads there, past the chain
-led : (g : given.Over) (c : In-Some g) → IsLed c.args.chain.now c.args.store.now c.args.db.now c.args.new.now c.loop-side.found.hashes.items c.in_ok-end.end.now c.args.immutable c.in-Some.way.keep c.in-Some.way.blocks.items
+led : (g : given.Over) (c : In-Some g) → IsLed c.args.chain.now c.args.store.now c.args.db.now c.args.new.now c.loop-side.found.hashes.items c.in_ok-best.best.end.now c.args.immutable c.in-Some.way.keep c.in-Some.way.blocks.items
 led g c = record {
-  best = c.in_ok-end.ensures.best;
+  best = c.in_ok-best.ensures.best;
   longer = let e = c.number.ensures in let not = c.if-number-chain.false in omega arith;
   immutable_at = c.requires.immutable;
   way = match_some _ _ c.in_ok-way.field-0 c.in-Some.way c.in_ok-way.ensures c.in-Some.is;
@@ -53,14 +53,14 @@ returns-in-Ok g c =
     let keep = c.in-Some.way.keep in
     let blocks = c.in-Some.way.blocks in
     let back = length chain - keep in
-    switched g.S.SigScheme.verifies chain c.args.store.now c.args.db.now c.args.new.now c.loop-side.found.hashes.items c.loop-side.invariant.dead c.in_ok-end.end.now c.args.immutable keep blocks.items (led g (goal.at.returns-in-Ok g c).In-Some)
+    switched g.S.SigScheme.verifies chain c.args.store.now c.args.db.now c.args.new.now c.loop-side.found.hashes.items c.loop-side.invariant.dead c.in_ok-best.best.end.now c.args.immutable keep blocks.items (led g (goal.at.returns-in-Ok g c).In-Some)
     c.into_hashes.result (record { back = back; blocks = blocks; prepared = c.in-Ok.prepared }) c.into_hashes.ensures refl refl c.in-Ok.ensures.back (c.in-Ok.ensures.count ∙ ap length c.deref.ensures.value)
     (λ genesis opened database. subst (λ (bs : List Block). IsPreparedOf (network_on genesis g.S.SigScheme.verifies opened) (without_last back chain) bs c.in-Ok.prepared) c.deref.ensures.value (c.in-Ok.ensures.chain genesis opened chain database))
 
 -- ---- a block of the way isn't applied
 
 -- it is dead, beside those that were
-dead_now : (g : given.Over) (c : In_ok-push-in-Err-Refused g) → IsLed c.args.chain.now c.args.store.now c.args.db.now c.args.new.now c.loop-side.found.hashes.items c.in_ok-end.end.now c.args.immutable c.in-Some.way.keep c.in-Some.way.blocks.items
+dead_now : (g : given.Over) (c : In_ok-push-in-Err-Refused g) → IsLed c.args.chain.now c.args.store.now c.args.db.now c.args.new.now c.loop-side.found.hashes.items c.in_ok-best.best.end.now c.args.immutable c.in-Some.way.keep c.in-Some.way.blocks.items
     → AreDeadInAll g.S.SigScheme.verifies c.args.chain.now c.args.store.now c.args.db.now c.args.new.now c.push.new.self.hashes.items
 dead_now g c is_led =
     let chain = c.args.chain.now in
@@ -70,7 +70,7 @@ dead_now g c is_led =
     let keep = c.in-Some.way.keep in
     let blocks = c.in-Some.way.blocks.items in
     subst (AreDeadInAll g.S.SigScheme.verifies chain store db new) (sym c.in_ok-push-in-Err-Refused.ensures)
-    (one_dead g.S.SigScheme.verifies chain store db new c.loop-side.found.hashes.items c.loop-side.invariant.dead c.in_ok-end.end.now c.args.immutable keep blocks is_led c.in-Err-Refused.index c.in-Err-Refused.field-0-1 c.index.result.now c.hash-dead.result
+    (one_dead g.S.SigScheme.verifies chain store db new c.loop-side.found.hashes.items c.loop-side.invariant.dead c.in_ok-best.best.end.now c.args.immutable keep blocks is_led c.in-Err-Refused.index c.in-Err-Refused.field-0-1 c.index.result.now c.hash-dead.result
     (λ genesis opened database.
     let network = network_on genesis g.S.SigScheme.verifies opened in
     subst (IsFaultOnChain network (without_last (length chain - keep) chain) blocks) c.in-Err-Refused.field-0-is
@@ -78,7 +78,7 @@ dead_now g c is_led =
     (sym c.index.ensures) c.hash-dead.ensures)
 
 -- the state before it is one of blocks at hand
-beside_now : (g : given.Over) (c : In_ok-side-in-Err-Refused g) → IsLed c.args.chain.now c.args.store.now c.args.db.now c.args.new.now c.loop-side.found.hashes.items c.in_ok-end.end.now c.args.immutable c.in-Some.way.keep c.in-Some.way.blocks.items
+beside_now : (g : given.Over) (c : In_ok-side-in-Err-Refused g) → IsLed c.args.chain.now c.args.store.now c.args.db.now c.args.new.now c.loop-side.found.hashes.items c.in_ok-best.best.end.now c.args.immutable c.in-Some.way.keep c.in-Some.way.blocks.items
     → IfSome c.in_ok-side-in-Err-Refused.side (IsSideInAll g.S.SigScheme.verifies c.args.chain.now c.args.store.now c.args.db.now c.args.new.now)
 beside_now g c is_led =
     let verifies = g.S.SigScheme.verifies in
@@ -89,7 +89,7 @@ beside_now g c is_led =
     let way = c.deref-in-Err-Refused.result.now in
     if_some c.in_ok-side-in-Err-Refused.side (IsSideOf verifies db way) (IsSideInAll verifies chain store db new)
     (λ s is genesis opened ready.
-    let there = way_there verifies chain store db new c.loop-side.found.hashes.items c.loop-side.invariant.dead c.in_ok-end.end.now c.args.immutable c.in-Some.way.keep c.in-Some.way.blocks.items is_led genesis opened ready in
+    let there = way_there verifies chain store db new c.loop-side.found.hashes.items c.loop-side.invariant.dead c.in_ok-best.best.end.now c.args.immutable c.in-Some.way.keep c.in-Some.way.blocks.items is_led genesis opened ready in
     side_at_hand (network_on genesis verifies opened) chain store new way s (subst (AllByRecursion (Contains (new ∷ blocks_of store))) (sym c.deref-in-Err-Refused.ensures.value) there)
     (is genesis opened chain ready.settled.database))
     c.in_ok-side-in-Err-Refused.ensures
@@ -117,19 +117,19 @@ returns-then-eq g c =
       | then-eq-via-else-eq+in_ok-sift-in-Err-Refused+then-not-branch w ↦
           let old = c.push.new.self.hashes.items in
           let more = w.sift.new.found.hashes.items in
-          let noted = subst (λ (applied : Bool). IsNoted store new applied old more) w.if-not-branch.true w.in_ok-sift-in-Err-Refused.ensures.found in
+          let noted = subst (λ (stays : Bool). FindsDead store new stays old more) w.if-not-branch.true w.in_ok-sift-in-Err-Refused.ensures.found in
           let among : Contains more noted.0 = subst (λ (hashes : List BlockHash). Contains hashes noted.0) (sym noted.2) (Contains-append_right old (noted.0 ∷ []) noted.0 (contains_first noted.0 [])) in
           kept_by_death verifies chain store db new c.keep-then-eq.result more c.keep-then-eq.ensures.choice (c.keep-then-eq.ensures.invalid ∙ ap (λ (f : Found). f.hashes.items) w.found-is)
           (sifted_dead verifies chain store db new c.in_ok-side-in-Err-Refused.side w.as_ref.result old more w.as_ref.ensures.value beside w.in_ok-sift-in-Err-Refused.ensures.dead all_dead) still noted.0 among noted.1
     ]
 
 -- what was named is fit, and named once
-found_now : (g : given.Over) (c : goal.After-drop-way-in-loop-side g) → IsLed c.args.chain.now c.args.store.now c.args.db.now c.args.new.now c.loop-side.found.hashes.items c.in_ok-end.end.now c.args.immutable c.in-Some.way.keep c.in-Some.way.blocks.items
+found_now : (g : given.Over) (c : goal.After-drop-way-in-loop-side g) → IsLed c.args.chain.now c.args.store.now c.args.db.now c.args.new.now c.loop-side.found.hashes.items c.in_ok-best.best.end.now c.args.immutable c.in-Some.way.keep c.in-Some.way.blocks.items
     → AreFound c.args.store.now c.push.new.self.hashes.items
 found_now g c is_led =
     let store = c.args.store.now in
     let new = c.args.new.now in
-    let end = c.in_ok-end.end.now in
+    let end = c.in_ok-best.best.end.now in
     let keep = c.in-Some.way.keep in
     let blocks = c.in-Some.way.blocks.items in
     let old = c.loop-side.found.hashes.items in
@@ -137,7 +137,7 @@ found_now g c is_led =
     let stops = subst (IsForkFault g.S.SigScheme.verifies (state_back c.args.db.now (length c.args.chain.now - keep)) blocks) c.in-Err-Refused.field-0-is
     (subst (λ (bs : List Block). IsForkFault g.S.SigScheme.verifies (state_back c.args.db.now (length c.args.chain.now - keep)) bs c.in-Err-Refused.field-0) c.deref.ensures.value c.in-Err-Refused.ensures.refused) in
     let other : block_hash_of b ≢ block_hash_of new = λ same. let e : false ≡ true = c.if-eq.ensures ∙ (bytes_eq-Decides c.hash-dead.result.bytes c.hash.result.bytes).1 (c.hash-dead.ensures ∙ (same ∙ sym c.hash.ensures)) in cc in
-    let fit = way_fit store old c.args.chain.now c.args.immutable new end keep blocks is_led.way c.in_ok-end.ensures.descends b (c.in-Err-Refused.index, stops.within, sym c.index.ensures) other in
+    let fit = way_fit store old c.args.chain.now c.args.immutable new end keep blocks is_led.way c.in_ok-best.ensures.descends b (c.in-Err-Refused.index, stops.within, sym c.index.ensures) other in
     subst (AreFound store) (sym c.in_ok-push-in-Err-Refused.ensures) (one_found store old b c.hash-dead.result c.loop-side.invariant.found fit c.hash-dead.ensures)
 
 pub loop-side-preserved : goal.loop-side-preserved
@@ -152,7 +152,7 @@ loop-side-preserved g c =
     let beside = beside_now g (goal.at.loop-side-preserved g c).In_ok-side-in-Err-Refused is_led in
     let old = c.push.new.self.hashes.items in
     let more = c.sift.new.found.hashes.items in
-    let gains = subst (λ (applied : Bool). IsNoted store new applied old more) c.if-not-branch.false c.in_ok-sift-in-Err-Refused.ensures.found in
+    let gains = subst (λ (stays : Bool). FindsDead store new stays old more) c.if-not-branch.false c.in_ok-sift-in-Err-Refused.ensures.found in
     record {
       found = gains.stays (found_now g c is_led);
       dead = sifted_dead verifies chain store db new c.in_ok-side-in-Err-Refused.side c.as_ref.result old more c.as_ref.ensures.value beside c.in_ok-sift-in-Err-Refused.ensures.dead dead;
@@ -163,7 +163,7 @@ pub loop-side-smaller : goal.loop-side-smaller
 loop-side-smaller g c =
     let old = c.push.new.self.hashes.items in
     let more = c.sift.new.found.hashes.items in
-    let gains = subst (λ (applied : Bool). IsNoted c.args.store.now c.args.new.now applied old more) c.if-not-branch.false c.in_ok-sift-in-Err-Refused.ensures.found in
+    let gains = subst (λ (stays : Bool). FindsDead c.args.store.now c.args.new.now stays old more) c.if-not-branch.false c.in_ok-sift-in-Err-Refused.ensures.found in
     let most = found_fewer c.args.store.now more (gains.stays (found_now g c (led g (goal.at.loop-side-smaller g c).In-Some))) in
     let longer = gains.longer in
     let long : length old ≡ length c.loop-side.found.hashes.items + 1 = ap length c.in_ok-push-in-Err-Refused.ensures ∙ length-append c.loop-side.found.hashes.items (c.hash-dead.result ∷ []) in

@@ -5,7 +5,7 @@ use Rattle.model.specs.Ledger.{network_on}
 use Rattle.model.proofs.Lists.{contains_first}
 use Rattle.ident.specs.Kinds.{BlockHash}
 use Rattle.chainsel.specs.Choices.{AreDead, AreDeadInAll, IsSideInAll}
-use Rattle.chainsel.specs.Judged.{IsNoted}
+use Rattle.chainsel.specs.Judged.{FindsDead}
 use Rattle.chainsel.proofs.Answering.{kept_apart, kept_short, kept_by_death}
 use Rattle.chainsel.proofs.Sides.{beside_ready}
 use Rattle.chainsel.proofs.selecting.select.Given as given
@@ -46,7 +46,7 @@ returns-then-not-branch g c =
     let new = c.args.new.now in
     let old = c.new-found.result.hashes.items in
     let more = c.sift.new.found.hashes.items in
-    let noted = subst (λ (applied : Bool). IsNoted store new applied old more) c.if-not-branch.true c.in_ok-sift.ensures.found in
+    let noted = subst (λ (stays : Bool). FindsDead store new stays old more) c.if-not-branch.true c.in_ok-sift.ensures.found in
     let among : Contains more noted.0 = subst (λ (hashes : List BlockHash). Contains hashes noted.0) (sym noted.2) (Contains-append_right old (noted.0 ∷ []) noted.0 (contains_first noted.0 [])) in
     let beside = subst (λ o. IfSome o (IsSideInAll verifies chain store db new)) (sym c.keep-then-not-branch.ensures.side) tt in
     kept_by_death verifies chain store db new c.keep-then-not-branch.result more c.keep-then-not-branch.ensures.choice c.keep-then-not-branch.ensures.invalid

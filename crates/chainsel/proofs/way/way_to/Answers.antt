@@ -20,9 +20,9 @@ returns-then-follows_chain g c =
     let number : keep + 1 ≡ first.header.number = let is = c.loop-keep.invariant.number in let more = c.loop-keep-test.true in omega arith in
     let walked : reverse c.push.new.self.items ≡ first ∷ reverse c.loop-keep.way.items =
     reversed c.push.new.self.items c.loop-keep.way.items c.in_ok-try_clone.field-0 first c.in_ok-push.ensures.items c.in_ok-try_clone.ensures.same in
-    let IsWayBy : List Block → Type 0 = IsWay c.args.store.now c.args.found.now.hashes.items chain c.args.immutable c.args.new.now c.args.end.now keep in
+    let IsWayBy : List Block → Type 0 = IsWay c.args.store.now c.args.found.now.hashes.items chain c.args.immutable c.args.new.now c.args.best.end.now keep in
     subst IsWayBy (sym {A = List Block} c.reverse.ensures.items) (subst IsWayBy (sym walked)
-    (way_found c.args.store.now c.args.found.now.hashes.items chain c.args.immutable c.args.new.now c.args.end.now first (reverse c.loop-keep.way.items) keep c.loop-keep.invariant.walk number low c.if-keep-chain.true (c.if-follows_chain.ensures.0 refl)))
+    (way_found c.args.store.now c.args.found.now.hashes.items chain c.args.immutable c.args.new.now c.args.best.end.now first (reverse c.loop-keep.way.items) keep c.loop-keep.invariant.walk number low c.if-keep-chain.true (c.if-follows_chain.ensures.0 refl)))
 
 pub returns-in_default : goal.returns-in_default
 returns-in_default g c =
@@ -36,8 +36,8 @@ returns-in_default g c =
       | else-keep-chain-via-else-keep-chain w ↦ λ within follows. let past = w.if-keep-chain.false in omega arith
     ] in
     λ distinct linked within before members path.
-    no_way_further c.args.store.now c.args.found.now.hashes.items chain c.args.immutable c.args.new.now c.args.end.now first (reverse c.loop-keep.way.items) keep c.loop-keep.invariant.walk number refused
-    (λ apart. c.in_default.ensures apart.1) before (record { distinct = distinct; chain_linked = linked; within = within; members = members; linked = path })
+    no_way_further c.args.store.now c.args.found.now.hashes.items chain c.args.immutable c.args.new.now c.args.best.end.now first (reverse c.loop-keep.way.items) keep c.loop-keep.invariant.walk number refused
+    (λ apart. c.in_default.ensures.parent apart.1) before (record { distinct = distinct; chain_linked = linked; within = within; members = members; linked = path })
 
 pub loop-keep-preserved : goal.loop-keep-preserved
 loop-keep-preserved g c =
@@ -50,15 +50,16 @@ loop-keep-preserved g c =
       | else-keep-chain-via-then-keep-chain+else-follows_chain w ↦ λ within follows. let e : false ≡ true = w.if-follows_chain.ensures.1 follows in cc
       | else-keep-chain-via-else-keep-chain w ↦ λ within follows. let past = w.if-keep-chain.false in omega arith
     ] in
-    let walk = walk_step c.args.store.now c.args.found.now.hashes.items chain c.args.immutable c.args.new.now c.args.end.now first c.in-Some.before.now (reverse c.loop-keep.way.items) keep c.loop-keep.invariant.walk number refused c.in-Some.ensures.0 c.in-Some.ensures.1 in
+    let walk = walk_step c.args.store.now c.args.found.now.hashes.items chain c.args.immutable c.args.new.now c.args.best.end.now first c.in-Some.before.now (reverse c.loop-keep.way.items) keep c.loop-keep.invariant.walk number refused c.in-Some.ensures.parent.0 c.in-Some.ensures.parent.1 in
     record {
-      walk = subst (IsWalk c.args.store.now c.args.found.now.hashes.items chain c.args.immutable c.args.new.now c.args.end.now c.in-Some.before.now)
+      walk = subst (IsWalk c.args.store.now c.args.found.now.hashes.items chain c.args.immutable c.args.new.now c.args.best.end.now c.in-Some.before.now)
           (sym (reversed c.push.new.self.items c.loop-keep.way.items c.in_ok-try_clone.field-0 first c.in_ok-push.ensures.items c.in_ok-try_clone.ensures.same)) walk;
-      number = let next = c.in-Some.ensures.1.number in omega arith;
+      number = let next = c.in-Some.ensures.parent.1.number in omega arith;
+      walked = c.in-Some.ensures.walked;
     }
 
 pub returns : goal.returns
 returns g c = λ distinct linked within before members path.
     let low : c.loop-keep.first.now.header.number ≤ c.args.immutable = let is = c.loop-keep.invariant.number in let end = c.loop-keep-test.false in omega arith in
-    no_way_lower c.args.store.now c.args.found.now.hashes.items c.args.chain.now c.args.immutable c.args.new.now c.args.end.now c.loop-keep.first.now (reverse c.loop-keep.way.items) c.loop-keep.invariant.walk low
+    no_way_lower c.args.store.now c.args.found.now.hashes.items c.args.chain.now c.args.immutable c.args.new.now c.args.best.end.now c.loop-keep.first.now (reverse c.loop-keep.way.items) c.loop-keep.invariant.walk low
     before (record { distinct = distinct; chain_linked = linked; within = within; members = members; linked = path })

@@ -1,5 +1,5 @@
 use Rattle.std.proofs.Common.{◌≤◌, length}
-use Rattle.chainsel.proofs.beside.place_of.Given as goal
+use Rattle.chainsel.proofs.beside.index_of.Given as goal
 
 -- none of the blocks so far
 abbrev pub invariant-loop-place : goal.invariant-loop-place

@@ -1,7 +1,7 @@
 use Rattle.std.proofs.Common.{length, refl, sym, ◌∙◌}
 use Rattle.std.proofs.lemmas.Option.{slice_get_read}
 use Rattle.std.proofs.lemmas.Slice.Eq.{bytes_eq-Decides}
-use Rattle.chainsel.proofs.beside.place_of.Goals as goal
+use Rattle.chainsel.proofs.beside.index_of.Goals as goal
 
 pub returns-then-eq : goal.returns-then-eq
 returns-then-eq g c =
