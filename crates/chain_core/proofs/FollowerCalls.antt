@@ -10,7 +10,7 @@ use Rattle.model.specs.Block.{Block}
 use Rattle.model.specs.Chain.{Point as Place', genesis_tip, tip_point, IsLinked}
 use Rattle.model.specs.Transaction.{Transaction}
 use Rattle.model.specs.Limits.{follower_limit}
-use Rattle.model.specs.Follower.{Followers, follower_of, free_id, with_opened, standing_at, IsFirstOn, IsOn}
+use Rattle.model.specs.Follower.{Follower, Followers, follower_of, free_id, with_opened, standing_at, IsFirstOn, IsOn}
 use Rattle.model.specs.History.{State, Open, Next, Forward, Close, Step, HasDue}
 use Rattle.model.proofs.Chains.{tip_number}
 use Rattle.ident.specs.PointView.{point_of}
@@ -49,6 +49,16 @@ none_open places id false says is = by_place (follower_of places id) refl
     by_place : (o : Option Place) → follower_of places id ≡ o → follower_of places id ≡ None
     by_place None none = none
     by_place (Some place) some = absurd (let e : false ≡ true = says.1 (place, some) in cc)
+
+-- what the test says of the place of a number it says of the follower
+pub open_beside : (selected : List Block) (places : Places) (fs : Followers) (id : ℕ) (answer : Bool) → ArePlacesOf selected places fs → IsTrue answer ↔ ((place : Place) × (follower_of places id ≡ Some place)) → IsTrue answer ↔ ((f : Follower) × (follower_of fs id ≡ Some f))
+open_beside selected places fs id true are says =
+    let place = says.0 refl in
+    let there = the_lengths.is_open selected places fs id place.0 are place.1 in
+    (λ is. (there.0, there.1), λ follower. refl)
+open_beside selected places fs id false are says =
+    let none : follower_of fs id ≡ None = the_lengths.nobody selected places fs id are (none_open places id false says refl) in
+    (λ is. absurd (let e : false ≡ true = is in cc), λ follower. absurd (let e : None ≡ Some follower.0 = sym none ∙ follower.1 in cc))
 
 module _ (verifies : Verifies) (genesis : Genesis) (opened_on live chain : List Block) (txs : List Transaction) where
   -- what stands for a state stands for it with other followers, once these stand there

@@ -8,6 +8,7 @@ pub mod Arrivals
 pub mod Runs
 pub mod Reached
 pub mod OpenedOn
+pub mod ReadAgain
 pub mod ForgedTexts
 pub mod CopiedTexts
 pub mod Points

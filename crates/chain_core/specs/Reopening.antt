@@ -3,10 +3,12 @@ use Rattle.std.specs.Prelude.{◌≡◌, ℕ, ◌+◌, List, [], ◌∷◌, ◌+
 use Rattle.std.specs.Global.{Vec}
 use Rattle.model.specs.Signature.{Verifies}
 use Rattle.model.specs.Block.{Block}
-use Rattle.model.specs.Ledger.{Network}
-use Rattle.model.specs.Chain.{IsValidChain}
+use Rattle.model.specs.Ledger.{Network, network_on}
+use Rattle.model.specs.Chain.{IsValidChain, immutable_part}
 use Rattle.model.specs.Applying.{LedgerState, BlockFault, HasFault}
+use Rattle.model.specs.History.{State, Entry, IsLegal}
 use Rattle.block.specs.Read.{IsRead}
+use Rattle.chain_core.specs.Immutable.{texts_of}
 use Rattle.chain_core.specs.declared.reopening.ReopenFault.{ReopenFault}
 use Rattle.chain_core.specs.declared.reopening.ReopenFault.TheVariants.{InvalidBlock, OutOfMemory}
 
@@ -24,6 +26,17 @@ AreRead bs more = ⊥
 pub record IsChainOf (network : Network) (texts : List (List ℕ)) (chain : List Block) : Type 0 where
   pub read : AreRead chain texts
   pub valid : IsValidChain network chain
+
+-- A node had these as the texts of the first of its blocks that no rollback reaches: after some legal history, before
+-- which it was opened on blocks that were read, or on none.
+pub record WereImmutable (network : Network) (texts : List (List ℕ)) : Type 0 where
+  pub opened : List Block
+  pub read : IsChainOf network (texts_of opened) opened
+  pub history : List Entry
+  pub state : State
+  pub legal : IsLegal (network_on network.genesis network.verifies opened) history state
+  pub later : List (List ℕ)
+  pub are : texts_of (immutable_part (network_on network.genesis network.verifies opened) state.chain) ≡ texts ++ later
 
 -- Those before the one of this number, counted from 1, are the bytes of a valid chain, and its bytes are read as no
 -- block that may come next on it.

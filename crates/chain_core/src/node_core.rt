@@ -72,17 +72,19 @@ impl<S: SigScheme> Model for Core<S> {
 
 impl<S: SigScheme> Core<S> {
     ghost use Rattle.std.specs.Prelude.{◌≡◌, ◌≤◌, ◌+◌, ℕ, List, [], length, None, Some, IfOk, IfErr, OnErr, map};
-    ghost use Rattle.std.specs.Prelude.{MatchOption, drop};
+    ghost use Rattle.std.specs.Prelude.{MatchOption, drop, option_map, IsTrue, ◌↔◌};
     ghost use Rattle.std.specs.List.{AllByRecursion};
     ghost use Rattle.model.specs.Transaction.{SpellsTransaction};
     ghost use Rattle.model.specs.Utxo.{coin_of, outputs_of};
     ghost use Rattle.model.specs.Block.{Block as Plain, SpellsBlock, block_text};
-    ghost use Rattle.model.specs.Chain.{tip_point, immutable_length, immutable_part, BeginsWith};
+    ghost use Rattle.model.specs.Chain.{genesis_tip, tip_after, tip_point, immutable_length, immutable_part};
+    ghost use Rattle.model.specs.Chain.{BeginsWith};
     ghost use Rattle.model.specs.Applying.{IsStateOf};
     ghost use Rattle.model.specs.Genesis.{supply_of};
     ghost use Rattle.model.specs.Ledger.{Ledger, ledger_of, network_of, network_on};
     ghost use Rattle.model.specs.Limits.{block_size_limit};
     ghost use Rattle.model.specs.Log.{IsLogBlock};
+    ghost use Rattle.model.specs.Follower.{Follower, follower_of};
     ghost use Rattle.model.specs.Forging.{ArrivesNext};
     ghost use Rattle.model.specs.History as history;
     ghost use Rattle.model.specs.History.{State, Entry, Arrive, Submit, Open, Next, Forward, Close, IsRun, Applies};
@@ -100,7 +102,8 @@ impl<S: SigScheme> Core<S> {
     ghost use Rattle.chain_core.specs.Held.{opening_held, network_held, Stands};
     ghost use Rattle.chain_core.specs.Numbers.{block_numbered};
     ghost use Rattle.chain_core.specs.Immutable.{immutable_texts};
-    ghost use Rattle.chain_core.specs.Reopening.{IsChainOf, IsReopenFault, texts_in};
+    ghost use Rattle.chain_core.specs.Reopening.{IsChainOf, IsReopenFault, WereImmutable, texts_in};
+    ghost use Rattle.chain_core.specs.declared.reopening.ReopenFault.TheVariants as reopen;
 
     /// A core before anything arrived: the selected chain is empty, and the unspent outputs are those of the genesis.
     /// Err where memory runs out for these. Takes one insertion for each of them.
@@ -135,6 +138,9 @@ impl<S: SigScheme> Core<S> {
             × (core ≡ opening_held genesis chain)) }
         // Else it is the first block that is none or can't come next, or memory ran out.
         ensures fault { IfErr result (IsReopenFault (network_of genesis S.verifies) (texts_in blocks.now)) }
+        // No block is told of the blocks that a node kept of those that no rollback reaches.
+        ensures again { IfErr result (λ fault. WereImmutable (network_of genesis S.verifies) (texts_in blocks.now)
+            → fault ≡ reopen.OutOfMemory) }
     {
         let on = read_chain(alloc, &genesis, blocks)?;
         Ok(Core::on(alloc, genesis, on)?)
@@ -381,6 +387,15 @@ impl<S: SigScheme> Core<S> {
         self.followers.close(id)
     }
 
+    /// Whether a follower of this number is open. In constant time; takes no memory.
+    pub fn is_open(&self, id: FollowerId) -> bool
+        // One is in every state of the definitions that the core stands for, or in none.
+        ensures { (s : State) → Stands self.now s →
+            IsTrue result ↔ ((f : Follower) × (follower_of s.followers id.number ≡ Some f)) }
+    {
+        self.followers.is_open(id)
+    }
+
     /// Answers one event, by the call of its kind, and costs what that costs. A fault of the call stands in the
     /// reply.
     pub fn answer(&mut self, event: &RawEvent) -> Reply<S>
@@ -437,6 +452,13 @@ impl<S: SigScheme> Core<S> {
         end_of(&self.chain_db.chain)
     }
 
+    /// The slot of the selected chain's last block, and 0 where it has none. In constant time; takes no memory.
+    pub fn slot(&self) -> u64
+        ensures { result ≡ (tip_after genesis_tip self.now.chain).slot }
+    {
+        self.chain_db.state().slot()
+    }
+
     /// How many blocks the selected chain has. In constant time; takes no memory.
     pub fn height(&self) -> u64
         ensures { result ≡ length self.now.chain }
@@ -452,6 +474,14 @@ impl<S: SigScheme> Core<S> {
         ensures opened { BeginsWith (immutable_part (network_held self.now S.verifies) self.now.chain) self.now.opened }
     {
         self.chain_db.immutable() as u64
+    }
+
+    /// The block of this number of the selected chain, from 1 to [`Core::height`], and else None: the one that the core
+    /// keeps, which `try_clone` shares. In constant time; copies nothing, and takes no memory.
+    pub fn checked_block(&self, number: u64) -> Option<&CheckedBlock<S>>
+        ensures { option_map (λ b. b.now) result ≡ block_numbered self.now.chain number }
+    {
+        block_at(&self.chain_db.chain, number)
     }
 
     /// The text of the block of this number of the selected chain, from 1 to [`Core::height`], and else None. It has
