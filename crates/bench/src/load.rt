@@ -284,7 +284,7 @@ fn run_core<B: Room + Send + Sync, R: Threads + Wait + Clock + Sync>(
     inbox: inbox::Opened,
 ) -> Option<(Work, u64)>
     requires table { opened.table ≡ B.table }
-    requires genesis { opened.genesis ≡ B.genesis }
+    requires start { opened.start ≡ B.start }
 {
     let (shared, callers) = opened.named::<B>().ok()?;
     run_inbox::<B, Brand, R>(rt, alloc, &shared, callers, inbox)

@@ -2,4 +2,4 @@
 -- first of its immutable ones; and a log without blocks has the first of whatever blocks.
 pub use Rattle.flushing.proofs.Opened.{begins_on_opened, begins_with_none}
 -- The same beside a core that threads share.
-pub use Rattle.flushing.proofs.Beside.{nothing_begins}
+pub use Rattle.flushing.proofs.Beside.{nothing_begins, opened_begins}

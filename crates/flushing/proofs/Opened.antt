@@ -4,14 +4,20 @@ use Rattle.std.proofs.lemmas.List.{map-append, take-append-drop}
 use Rattle.model.specs.Signature.{Verifies}
 use Rattle.model.specs.Block.{Block, block_text}
 use Rattle.model.specs.Genesis.{Genesis}
-use Rattle.model.specs.Ledger.{Network}
+use Rattle.model.specs.Ledger.{Network, network_of}
 use Rattle.model.specs.Chain.{BeginsWith, immutable_part}
 use Rattle.model.proofs.BlockTexts.{block_text_is}
 use Rattle.std.specs.Prelude.{Result, Ok, Err, IfOk}
 use Rattle.chain_core.specs.Held.{Held, network_held, opening_held}
 use Rattle.chain_core.specs.declared.reopening.ReopenFault.{ReopenFault}
-use Rattle.chain_core.specs.Reopening.{AreRead, IsChainOf}
+use Rattle.chain_core.specs.declared.reopening.ReopenFault.TheVariants.{InvalidBlock, OutOfMemory}
+use Rattle.chain_core.specs.Reopening.{AreRead, IsChainOf, IsReopenFault}
 use Rattle.chain_core.specs.Immutable.{texts_of, immutable_texts}
+use Rattle.shared.specs.Opening.{AreCallers, IsOpenFault}
+use Rattle.shared.specs.Starts.{IsUntouched}
+use Rattle.shared.specs.declared.open_fault.OpenFault.{OpenFault}
+use Rattle.shared.specs.declared.open_fault.OpenFault.TheVariants as opening
+use Rattle.flushing.specs.Beginning.{IsSharedOnFault, reopening_fault, opening_fault}
 use Rattle.flushing.specs.Texts.{Begins}
 
 -- blocks that are read of texts have these
@@ -48,3 +54,24 @@ opened_chain network genesis (Err e) texts blocks opened same = tt
 -- nothing is the first of whatever blocks
 pub begins_with_none : (first all : List (List ℕ)) → first ≡ [] → Begins first all
 begins_with_none first all none = record { later = all; are = ap (λ (f : List (List ℕ)). f ++ all) (sym none) }
+
+-- ---- a shared core
+
+-- nothing came to a core that was opened on them
+pub untouched_of : (verifies : Verifies) (genesis : Genesis) (core : Held) (texts : List (List ℕ)) → core ≡ opening_held genesis core.opened → IsChainOf (network_of genesis verifies) texts core.opened → IsUntouched verifies core
+untouched_of verifies genesis core texts is chain =
+    let same : genesis ≡ core.genesis = sym (ap (λ (h : Held). h.genesis) is) in
+    record {
+      new = is ∙ ap (λ (g : Genesis). opening_held g core.opened) same;
+      texts = texts;
+      chain = subst (λ (g : Genesis). IsChainOf (network_of g verifies) texts core.opened) same chain;
+    }
+
+-- where none is opened, for a number of callers that may be
+pub not_opened : (network : Network) (texts : List (List ℕ)) (callers : ℕ) (fault : ReopenFault) → AreCallers callers → IsReopenFault network texts fault → IsSharedOnFault network texts callers (reopening_fault fault)
+not_opened network texts callers (InvalidBlock number) are is = (are, is)
+not_opened network texts callers OutOfMemory are is = are
+
+pub not_shared : (network : Network) (texts : List (List ℕ)) (callers : ℕ) (fault : OpenFault) → IsOpenFault callers fault → IsSharedOnFault network texts callers (opening_fault fault)
+not_shared network texts callers opening.BadCallers is = is
+not_shared network texts callers opening.OutOfMemory is = is

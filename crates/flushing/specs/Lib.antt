@@ -1,3 +1,4 @@
 pub mod Texts
 pub mod Sharing
+pub mod Beginning
 pub mod Courses

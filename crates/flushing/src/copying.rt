@@ -7,7 +7,8 @@ ghost use Rattle.model.specs.Log.{IsLogBlock, Opens, OpensToBeginning, IsLogOf};
 ghost use Rattle.immlog.specs.Views.{lists_of};
 ghost use Rattle.model.specs.Ledger.{network_of};
 ghost use Rattle.chain_core.specs.Held.{opening_held};
-ghost use Rattle.chain_core.specs.Reopening.{IsChainOf, IsReopenFault};
+ghost use Rattle.chain_core.specs.Reopening.{IsChainOf, IsReopenFault, WereImmutable};
+ghost use Rattle.chain_core.specs.declared.reopening.ReopenFault.TheVariants as reopen;
 ghost use Rattle.chain_core.specs.Immutable.{texts_of, immutable_texts};
 ghost use Rattle.flushing.specs.Texts.{Begins};
 
@@ -28,6 +29,9 @@ pub fn core_on<D: Disk, S: SigScheme>(
     ensures chain { IfOk result (λ core. IsChainOf (network_of genesis S.verifies) log.now.blocks core.opened) }
     ensures blocks { IfOk result (λ core. texts_of core.opened ≡ log.now.blocks) }
     ensures fault { IfErr result (IsReopenFault (network_of genesis S.verifies) log.now.blocks) }
+    // Of blocks that a node put there, of those that no rollback reaches, none is told as invalid.
+    ensures again { IfErr result (λ fault. WereImmutable (network_of genesis S.verifies) log.now.blocks
+        → fault ≡ reopen.OutOfMemory) }
 {
     Core::reopen(alloc, genesis, log.blocks())
 }

@@ -2,10 +2,12 @@
 
 ghost use Rattle.std.specs.Prelude.{ℕ, List};
 ghost use Rattle.model.specs.Signature.{Verifies};
-ghost use Rattle.model.specs.History.{State, Event, Reply};
+ghost use Rattle.model.specs.History.{State, Event, Reply, Entry, IsLegal};
+ghost use Rattle.model.specs.Ledger.{network_of};
 ghost use Rattle.model.specs.Log.{OpensToBeginning};
-ghost use Rattle.chain_core.specs.Held.{Held, Stands};
-ghost use Rattle.chain_core.specs.Immutable.{immutable_texts};
+ghost use Rattle.chain_core.specs.Held.{Held, Stands, network_held};
+ghost use Rattle.chain_core.specs.Immutable.{texts_of, immutable_texts};
+ghost use Rattle.chain_core.specs.Reopening.{IsChainOf, WereImmutable};
 ghost use Rattle.chain_core.specs.Steps.{Steps, KeepsStart};
 ghost use Rattle.flushing.specs.Courses.{Act, IsCourse};
 ghost use Rattle.flushing.specs.Texts.{Begins};
@@ -34,4 +36,14 @@ pub fn immutable_blocks_grow()
         (log left : List (List ℕ)) (least : ℕ) (bytes : List ℕ) → Stands before state
         → IsCourse verifies before log acts after left → OpensToBeginning least (immutable_texts verifies before) bytes
         → OpensToBeginning least (immutable_texts verifies after) bytes }
+{}
+
+/// What [`crate::flush`] puts onto a log can be opened again: [`crate::core_on`] tells no block of it as invalid.
+pub fn flushed_blocks_open_again()
+    // Of a core that was opened on blocks that were read, or on none, and that stands for what a legal history left, the
+    // first of its blocks that are never rolled back are such.
+    ensures { (verifies : Verifies) (core : Held) (history : List Entry) (state : State) (log : List (List ℕ))
+        → IsChainOf (network_of core.genesis verifies) (texts_of core.opened) core.opened
+        → IsLegal (network_held core verifies) history state → Stands core state
+        → Begins log (immutable_texts verifies core) → WereImmutable (network_of core.genesis verifies) log }
 {}

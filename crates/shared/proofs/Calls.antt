@@ -2,13 +2,14 @@
 use Rattle.std.proofs.Common.{◌≡◌, ◌≢◌, List, [], ◌∷◌, ◌++◌, length, refl, sym, ap, ◌∙◌, subst, ℕ, Option, Result, Ok, Err}
 use Rattle.std.proofs.lemmas.List.{map-append}
 use Rattle.model.specs.Signature.{Verifies}
-use Rattle.model.specs.Genesis.{Genesis}
-use Rattle.model.specs.Ledger.{Network, network_of, network_on}
+use Rattle.model.specs.Ledger.{Network, network_on}
+use Rattle.shared.specs.Starts.{Start, network_from, start_of}
+use Rattle.model.specs.Chain.{IsOpening}
 use Rattle.model.specs.History.{State, Event, Reply, OutOfMemory, Entry, opening, Step, IsLegal}
 use Rattle.model.specs.Journal.{JournalEntry, Journal, history_of, calls_of, Knowledge, NamesItsPeer, IsLegalJournal, IsCalled, IsLook}
 use Rattle.std.specs.List.{AllByRecursion}
 use Rattle.model.proofs.Lists.{all_push}
-use Rattle.model.proofs.LegalHistories.{opens_nothing, run_length}
+use Rattle.model.proofs.LegalHistories.{run_length}
 use Rattle.model.proofs.ToldChains.{run_on}
 use Rattle.chain_core.specs.Held.{Held, Stands, opening_held}
 use Rattle.chain_core.specs.Steps.{Steps, KeepsStart}
@@ -28,11 +29,11 @@ use Rattle.shared.specs.Standing.{IsCoreOf}
 pub nothing_legal : (network : Network) → IsLegalJournal network []
 nothing_legal network = record { state = opening network; legal = refl; named = tt }
 
--- a new core stands for the opening state
-pub opening_stands : (verifies : Verifies) (held : Held) → held ≡ opening_held held.genesis [] → Stands held (opening (network_of held.genesis verifies))
-opening_stands verifies held new =
-    let network = network_of held.genesis verifies in
-    subst (λ (h : Held). Stands h (opening network)) (sym new) (new_stands network (opens_nothing held.genesis verifies))
+-- a core to which nothing came stands for the opening state
+pub opening_stands : (verifies : Verifies) (held : Held) → held ≡ opening_held held.genesis held.opened → IsOpening (network_from (start_of held) verifies) → Stands held (opening (network_from (start_of held) verifies))
+opening_stands verifies held new opens =
+    let network = network_from (start_of held) verifies in
+    subst (λ (h : Held). Stands h (opening network)) (sym new) (new_stands network opens)
 
 -- one more entry, which is a step from where the journal ends
 pub legal_on : (network : Network) (journal : Journal) (s : State) (e : JournalEntry) (t : State) → IsLegal network (history_of journal) s → Step network s e.entry.event e.entry.reply t
@@ -42,23 +43,23 @@ legal_on network journal s e t legal step =
     (run_on network (opening network) (history_of journal) s e.entry t legal step)
 
 -- the height is the length of the chain
-pub height_of_legal : (genesis : Genesis) (verifies : Verifies) (journal : Journal) (s : State) → IsLegal (network_of genesis verifies) (history_of journal) s → height_after journal ≡ length s.chain
-height_of_legal genesis verifies journal s legal = let network = network_of genesis verifies in sym (run_length network (opening network) (history_of journal) s legal)
+pub height_of_legal : (start : Start) (verifies : Verifies) (journal : Journal) (s : State) → IsLegal (network_from start verifies) (history_of journal) s → height_after start journal ≡ length s.chain
+height_of_legal start verifies journal s legal = let network = network_from start verifies in sym (run_length network (opening network) (history_of journal) s legal)
 
 -- ---- a look
 
 pub serves_calls : (number : ℕ) (role : Role) → role ≡ Calls number → role ≡ Spent → ⊥
 serves_calls number role calls spent = let e : Calls number ≡ Spent = sym calls ∙ spent in absurd (cc)
 
-pub look_of : (verifies : Verifies) (genesis : Genesis) (number : ℕ) (v : SeatView) (found : ℕ) (w : SeatView) → v.genesis ≡ genesis → v.role ≡ Calls number → IsLooked verifies v found w
-    → IsLook (network_of genesis verifies) (knowledge_of number v) found (knowledge_of number w)
-look_of verifies genesis number v found w is role looked =
-    let legal : IsLegalJournal (network_of genesis verifies) w.seen = subst (λ (g : Genesis). IsLegalJournal (network_of g verifies) w.seen) is looked.legal in
+pub look_of : (verifies : Verifies) (start : Start) (number : ℕ) (v : SeatView) (found : ℕ) (w : SeatView) → v.start ≡ start → v.role ≡ Calls number → IsLooked verifies v found w
+    → IsLook (network_from start verifies) (knowledge_of number v) found (knowledge_of number w)
+look_of verifies start number v found w is role looked =
+    let legal : IsLegalJournal (network_from start verifies) w.seen = subst (λ (g : Start). IsLegalJournal (network_from g verifies) w.seen) is looked.legal in
     let calls : v.calls ≡ w.calls = sym (ap (λ (u : SeatView). u.calls) looked.same) in
     record {
       seen = looked.seen;
       legal = legal;
-      height_is = looked.height_is ∙ height_of_legal genesis verifies w.seen legal.state legal.legal;
+      height_is = looked.height_is ∙ (ap (λ (x : Start). height_after x w.seen) is ∙ height_of_legal start verifies w.seen legal.state legal.legal);
       loads = ap (λ (u : SeatView). u.loads) looked.same;
       last = ap (λ (u : SeatView). u.last) looked.same;
       caller = refl;
@@ -68,34 +69,34 @@ look_of verifies genesis number v found w is role looked =
 
 -- ---- a call
 
-pub call_of : (verifies : Verifies) (genesis : Genesis) (number : ℕ) (writer : SeatView) (e : JournalEntry) (v w : SeatView) → e.caller ≡ number → IsLegalJournal (network_of genesis verifies) (writer.seen ++ e ∷ []) → IsSealed writer e v w
-    → IsCalled (network_of genesis verifies) (knowledge_of number v) e (knowledge_of number w)
-call_of verifies genesis number writer e v w own legal sealed =
+pub call_of : (verifies : Verifies) (start : Start) (number : ℕ) (writer : SeatView) (e : JournalEntry) (v w : SeatView) → v.start ≡ start → e.caller ≡ number → IsLegalJournal (network_from start verifies) (writer.seen ++ e ∷ []) → IsSealed writer e v w
+    → IsCalled (network_from start verifies) (knowledge_of number v) e (knowledge_of number w)
+call_of verifies start number writer e v w here own legal sealed =
     let seen : w.seen ≡ writer.seen ++ e ∷ [] = ap (λ (u : SeatView). u.seen) sealed.same in
     record {
       own = own;
       between = sealed.begins.0;
       seen = seen ∙ ap (λ (j : Journal). j ++ e ∷ []) sealed.begins.1;
-      legal = subst (IsLegalJournal (network_of genesis verifies)) (sym seen) legal;
+      legal = subst (IsLegalJournal (network_from start verifies)) (sym seen) legal;
       calls = ap (λ (u : SeatView). u.calls) sealed.same;
       each_once = subst (λ (c : ℕ). calls_of c w.seen ≡ w.calls) own sealed.calls;
       caller = refl;
       loads = ap (λ (u : SeatView). u.loads) sealed.same;
-      last = ap (λ (u : SeatView). u.last) sealed.same ∙ ap height_after sealed.begins.1;
+      last = ap (λ (u : SeatView). u.last) sealed.same ∙ (λ i. height_after (here i) (sealed.begins.1 i));
     }
 
 -- ---- the core under the lock
 
 -- a step of the core, and the journal with one more call
-pub core_after : (verifies : Verifies) (genesis : Genesis) (journal now : Journal) (held new : Held) (made e : JournalEntry) → IsCoreOf verifies genesis journal held → now ≡ journal → Steps verifies held made.entry.event made.entry.reply new → KeepsStart held new → NamesItsPeer made → IsOfAPeer made → e ≡ made
-    → IsCoreOf verifies genesis (now ++ e ∷ []) new
-core_after verifies genesis journal now held new made e core same steps start names from is =
+pub core_after : (verifies : Verifies) (start : Start) (journal now : Journal) (held new : Held) (made e : JournalEntry) → IsCoreOf verifies start journal held → now ≡ journal → Steps verifies held made.entry.event made.entry.reply new → KeepsStart held new → NamesItsPeer made → IsOfAPeer made → e ≡ made
+    → IsCoreOf verifies start (now ++ e ∷ []) new
+core_after verifies start journal now held new made e core same steps keeps names from is =
     let step = steps core.state core.stands in
-    let network = network_of genesis verifies in
-    let legal = legal_on network journal core.state made step.0 core.legal (subst (λ (n : Network). Step n core.state made.entry.event made.entry.reply step.0) (λ i. network_on (core.genesis_is i) verifies (core.opened_is i)) step.1) in
+    let network = network_from start verifies in
+    let legal = legal_on network journal core.state made step.0 core.legal (subst (λ (n : Network). Step n core.state made.entry.event made.entry.reply step.0) (λ i. network_from (core.start_is i) verifies) step.1) in
     record {
-      genesis_is = start.genesis ∙ core.genesis_is;
-      opened_is = start.opened ∙ core.opened_is;
+      start_is = (λ i. record { genesis = keeps.genesis i; opened = keeps.opened i }) ∙ core.start_is;
+      opens = core.opens;
       state = step.0;
       legal = subst (λ (x : Journal × JournalEntry). IsLegal network (history_of (x.0 ++ x.1 ∷ [])) step.0) (λ i. (sym same i, sym is i)) legal;
       named = subst (λ (x : Journal × JournalEntry). AllByRecursion NamesItsPeer (x.0 ++ x.1 ∷ [])) (λ i. (sym same i, sym is i)) (all_push NamesItsPeer journal made core.named names);
@@ -104,13 +105,13 @@ core_after verifies genesis journal now held new made e core same steps start na
     }
 
 -- what a seat that has seen all but the last call may store
-pub legal_of : (verifies : Verifies) (key genesis : Genesis) (journal seen : Journal) (e : JournalEntry) (held : Held) → IsCoreOf verifies genesis (journal ++ e ∷ []) held → key ≡ genesis → seen ≡ journal → IsLegalJournal (network_of key verifies) (seen ++ e ∷ [])
-legal_of verifies key genesis journal seen e held core is same =
-    subst (λ (x : Genesis × Journal). IsLegalJournal (network_of x.0 verifies) (x.1 ++ e ∷ [])) (λ i. (sym is i, sym same i)) (record { state = core.state; legal = core.legal; named = core.named })
+pub legal_of : (verifies : Verifies) (key start : Start) (journal seen : Journal) (e : JournalEntry) (held : Held) → IsCoreOf verifies start (journal ++ e ∷ []) held → key ≡ start → seen ≡ journal → IsLegalJournal (network_from key verifies) (seen ++ e ∷ [])
+legal_of verifies key start journal seen e held core is same =
+    subst (λ (x : Start × Journal). IsLegalJournal (network_from x.0 verifies) (x.1 ++ e ∷ [])) (λ i. (sym is i, sym same i)) (record { state = core.state; legal = core.legal; named = core.named })
 
-pub height_of_core : (verifies : Verifies) (genesis : Genesis) (journal seen : Journal) (e : JournalEntry) (held : Held) (height : ℕ) → IsCoreOf verifies genesis (journal ++ e ∷ []) held → height ≡ length held.chain → seen ≡ journal → height ≡ height_after (seen ++ e ∷ [])
-height_of_core verifies genesis journal seen e held height core is same =
-    is ∙ ap length core.stands.chain ∙ sym (height_of_legal genesis verifies (journal ++ e ∷ []) core.state core.legal) ∙ ap (λ (j : Journal). height_after (j ++ e ∷ [])) (sym same)
+pub height_of_core : (verifies : Verifies) (start : Start) (journal seen : Journal) (e : JournalEntry) (held : Held) (height : ℕ) → IsCoreOf verifies start (journal ++ e ∷ []) held → height ≡ length held.chain → seen ≡ journal → height ≡ height_after start (seen ++ e ∷ [])
+height_of_core verifies start journal seen e held height core is same =
+    is ∙ ap length core.stands.chain ∙ sym (height_of_legal start verifies (journal ++ e ∷ []) core.state core.legal) ∙ ap (λ (j : Journal). height_after start (j ++ e ∷ [])) (sym same)
 
 -- ---- what a call leaves, by an answer that isn't want of memory
 

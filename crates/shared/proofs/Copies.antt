@@ -2,9 +2,9 @@
 use Rattle.std.proofs.Common.{◌≡◌, ℕ, List, [], ◌∷◌, ◌++◌, length, drop, refl, sym, ap, ◌∙◌, subst}
 use Rattle.std.proofs.lemmas.List.{map-append, take-append-drop}
 use Rattle.model.specs.Signature.{Verifies}
-use Rattle.model.specs.Genesis.{Genesis}
 use Rattle.model.specs.Block.{Block, block_text}
-use Rattle.model.specs.Ledger.{Network, network_of, network_on}
+use Rattle.model.specs.Ledger.{Network, network_on}
+use Rattle.shared.specs.Starts.{Start, network_from}
 use Rattle.model.specs.Chain.{IsOpening, immutable_part, BeginsWith}
 use Rattle.model.specs.History.{State, Entry, opening, IsRun, IsLegal}
 use Rattle.model.specs.Journal.{JournalEntry, Journal, history_of, BeginsWithSeen}
@@ -16,16 +16,16 @@ use Rattle.shared.specs.Standing.{IsCoreOf}
 use Rattle.shared.specs.Copies.{AreImmutableAfter, AreCopiesAfter}
 
 -- what a core copies, said of its journal
-pub copies_of : (verifies : Verifies) (genesis : Genesis) (journal seen : Journal) (held : Held) (from : ℕ) (copies : List (List ℕ)) → IsCoreOf verifies genesis journal held → seen ≡ journal → copies ≡ drop from (immutable_texts verifies held)
-    → AreCopiesAfter (network_of genesis verifies) seen from copies
-copies_of verifies genesis journal seen held from copies core same rest =
-    let after : AreImmutableAfter (network_of genesis verifies) journal (immutable_texts verifies held) = record {
+pub copies_of : (verifies : Verifies) (start : Start) (journal seen : Journal) (held : Held) (from : ℕ) (copies : List (List ℕ)) → IsCoreOf verifies start journal held → seen ≡ journal → copies ≡ drop from (immutable_texts verifies held)
+    → AreCopiesAfter (network_from start verifies) seen from copies
+copies_of verifies start journal seen held from copies core same rest =
+    let after : AreImmutableAfter (network_from start verifies) journal (immutable_texts verifies held) = record {
       legal = record { state = core.state; legal = core.legal; named = core.named };
-      texts_are = λ i. texts_of (immutable_part (network_on (core.genesis_is i) verifies (core.opened_is i)) (core.stands.chain i));
+      texts_are = λ i. texts_of (immutable_part (network_from (core.start_is i) verifies) (core.stands.chain i));
     } in
     record {
       texts = immutable_texts verifies held;
-      are = subst (λ (j : Journal). AreImmutableAfter (network_of genesis verifies) j (immutable_texts verifies held)) (sym same) after;
+      are = subst (λ (j : Journal). AreImmutableAfter (network_from start verifies) j (immutable_texts verifies held)) (sym same) after;
       rest = rest;
     }
 

@@ -12,14 +12,14 @@ use Rattle.std.specs.contracts.alloc.Global as Global
 use Rattle.std.specs.contracts.impls.GlobalAllocator.TheImpl as allocator
 use Rattle.atomic_table.proofs.shared.Seat.TheSendSync as seat
 use Rattle.atomic_table.proofs.owned.Table.TheSendSync as table
-use Rattle.genesis.specs.contracts.genesis.Genesis as Genesis
+use Rattle.chain_core.specs.contracts.node_core.Core as Core
 use Rattle.witness_pool.specs.declared.scheme.SigScheme as scheme
 use Rattle.chain_core.proofs.ForCallers.{Core-send}
 use Rattle.shared.specs.declared.room.Room as room
 use Rattle.shared.specs.contracts.caller.Caller as Caller
 use Rattle.shared.specs.contracts.heights.View as View
 use Rattle.shared.specs.contracts.heights.HeightRule as HeightRule
-use Rattle.shared.specs.contracts.heights.HeightRuleTableRuleUnitViewGenesis.TheImpl as rule
+use Rattle.shared.specs.contracts.heights.HeightRuleTableRuleUnitViewCore.TheImpl as rule
 use Rattle.shared.specs.contracts.journal.Journal as Journal
 use Rattle.shared.specs.contracts.desk.Desk as Desk
 use Rattle.shared.specs.contracts.shared.Shared as Shared
@@ -50,7 +50,7 @@ module _ (S : RattleType) (s : scheme.Ghosts S.Denot) where
     pub Shared-sync : IsSync (Shared.the_field S B b s).row
     Shared-sync =
         struct_sync (shape (Shared.the_type S B b s)) (
-          table.the_field_sync unit View.the_row Genesis.the_row (HeightRule.the_row S) Global.the_row
+          table.the_field_sync unit View.the_row (Core.the_row S s) (HeightRule.the_row S) Global.the_row
               (rule.ghosts S s rule.no_dict) allocator.ghosts unit_send heap.send heap.sync heap.frees,
           (mutex.the_sync (Desk.the_row S B s b) desk_send, tt),
         )

@@ -1,9 +1,12 @@
+pub mod Starts
 pub mod Journals
 pub mod Views
 pub mod Moves
 pub mod Calls
 pub mod Meetings
 pub mod Copies
+pub mod Asking
+pub mod Forging
 pub mod Later
 pub mod Arriving
 pub mod Adders

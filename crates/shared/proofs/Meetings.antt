@@ -3,8 +3,7 @@ use Rattle.std.proofs.Common.{◌≡◌, ◌≤◌, ℕ, ◌+◌, ◌++◌, [], 
 use Rattle.std.proofs.lemmas.Bool.{le-ltb}
 use Rattle.std.proofs.lemmas.List.{length-append}
 use Rattle.model.specs.Signature.{Verifies}
-use Rattle.model.specs.Genesis.{Genesis}
-use Rattle.model.specs.Ledger.{network_of}
+use Rattle.shared.specs.Starts.{Start, network_from}
 use Rattle.model.specs.Journal.{Journal, Knowledge, BeginsWithSeen, IsLegalJournal, IsMeeting, IsLook, height_of}
 use Rattle.shared.specs.Heights.{Role, Calls, SeatView, copy_of, with_copy, longer, with_news, knowledge_of, height_after, IsLooked, IsCompared, KnowsCalls}
 use Rattle.shared.specs.Meeting.{IsTold, IsStillWriter, IsInformed}
@@ -54,11 +53,11 @@ told_of verifies writer v first same news w last found begins first_is still lea
     learned ∙ ((λ i. with_news (still i) (copy_of first)) ∙ ap (λ (j : Journal). record v { seen = j; before = v.seen }) (ap (λ (j : Journal). longer v.seen j) first_is ∙ longer_all writer.seen v.seen begins)) in
     let seen : w.seen ≡ writer.seen =
     begins_both w.seen writer.seen (subst (λ (j : Journal). BeginsWithSeen w.seen j) (ap (λ (u : SeatView). u.seen) told) looked.seen) (subst (λ (j : Journal). BeginsWithSeen j w.seen) last_is back) in
-    let height : found ≡ height_after writer.seen = looked.height_is ∙ ap height_after seen in
+    let height : found ≡ height_after v.start writer.seen = looked.height_is ∙ (λ i. height_after ((ap (λ (u : SeatView). u.start) told) i) (seen i)) in
     record {
       same = looked.same ∙ ((λ i. record (told i) { seen = seen i; loads = (told i).loads + 1; last = height i }));
       begins = begins;
-      legal = subst (λ (x : Genesis × Journal). IsLegalJournal (network_of x.0 verifies) x.1) (λ i. (ap (λ (u : SeatView). u.genesis) told i, seen i)) looked.legal;
+      legal = subst (λ (x : Start × Journal). IsLegalJournal (network_from x.0 verifies) x.1) (λ i. (ap (λ (u : SeatView). u.start) told i, seen i)) looked.legal;
       calls = subst (λ (x : SeatView × Journal). KnowsCalls x.0.role x.1 x.0.calls) (λ i. (told i, seen i)) looked.calls;
     }
 
@@ -70,21 +69,21 @@ still_on a b c d one same two =
       seen = two.seen ∙ (ap (λ (u : SeatView). u.seen) same ∙ one.seen);
     }
 
-pub informed_of : (verifies : Verifies) (genesis : Genesis) (number : ℕ) (writer v w : SeatView) (journal : Journal) → IsTold verifies writer v w → v.genesis ≡ genesis → v.role ≡ Calls number → writer.seen ≡ journal
-    → IsInformed (network_of genesis verifies) journal (knowledge_of number v) (knowledge_of number w)
-informed_of verifies genesis number writer v w journal told here role all =
+pub informed_of : (verifies : Verifies) (start : Start) (number : ℕ) (writer v w : SeatView) (journal : Journal) → IsTold verifies writer v w → v.start ≡ start → v.role ≡ Calls number → writer.seen ≡ journal
+    → IsInformed (network_from start verifies) journal (knowledge_of number v) (knowledge_of number w)
+informed_of verifies start number writer v w journal told here role all =
     let seen : w.seen ≡ journal = ap (λ (u : SeatView). u.seen) told.same ∙ all in
-    let legal : IsLegalJournal (network_of genesis verifies) w.seen =
-    subst (λ (x : Genesis × Journal). IsLegalJournal (network_of x.0 verifies) x.1) (λ i. (here i, (all ∙ sym seen) i)) told.legal in
-    let height : height_of (network_of genesis verifies) journal ≡ height_after w.seen = ap height_after (sym seen) in
+    let legal : IsLegalJournal (network_from start verifies) w.seen =
+    subst (λ (x : Start × Journal). IsLegalJournal (network_from x.0 verifies) x.1) (λ i. (here i, (all ∙ sym seen) i)) told.legal in
+    let height : height_of (network_from start verifies) journal ≡ height_after start w.seen = ap (height_after start) (sym seen) in
     let calls : w.calls ≡ v.calls = ap (λ (u : SeatView). u.calls) told.same in
     record {
       look = record {
         seen = subst (λ (j : Journal). BeginsWithSeen j v.seen) (all ∙ sym seen) told.begins;
         legal = legal;
-        height_is = height ∙ height_of_legal genesis verifies w.seen legal.state legal.legal;
+        height_is = height ∙ height_of_legal start verifies w.seen legal.state legal.legal;
         loads = ap (λ (u : SeatView). u.loads) told.same;
-        last = ap (λ (u : SeatView). u.last) told.same ∙ ap height_after all;
+        last = ap (λ (u : SeatView). u.last) told.same ∙ (λ i. height_after (here i) (all i));
         caller = refl;
         calls = calls;
         each_once = subst (λ (x : Role × Journal). KnowsCalls x.0 x.1 v.calls) (λ i. (role i, (all ∙ sym seen) i)) told.calls ∙ sym calls;
@@ -92,11 +91,11 @@ informed_of verifies genesis number writer v w journal told here role all =
       seen = seen;
     }
 
-pub met_of : (verifies : Verifies) (genesis : Genesis) (journal now : Journal) (a b a' b' : Knowledge) → IsInformed (network_of genesis verifies) journal a a' → IsInformed (network_of genesis verifies) now b b' → now ≡ journal → IsMeeting (network_of genesis verifies) a b a' b'
-met_of verifies genesis journal now a b a' b' one other still =
+pub met_of : (verifies : Verifies) (start : Start) (journal now : Journal) (a b a' b' : Knowledge) → IsInformed (network_from start verifies) journal a a' → IsInformed (network_from start verifies) now b b' → now ≡ journal → IsMeeting (network_from start verifies) a b a' b'
+met_of verifies start journal now a b a' b' one other still =
     record {
-      height = height_of (network_of genesis verifies) journal;
+      height = height_of (network_from start verifies) journal;
       one = one.look;
-      other = subst (λ (j : Journal). IsLook (network_of genesis verifies) b (height_of (network_of genesis verifies) j) b') still other.look;
+      other = subst (λ (j : Journal). IsLook (network_from start verifies) b (height_of (network_from start verifies) j) b') still other.look;
       same = one.seen ∙ sym (other.seen ∙ still);
     }

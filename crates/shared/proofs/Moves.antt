@@ -7,8 +7,7 @@ use lib.ListN.{get_elem?}
 use Rattle.atomic_table.specs.Table.{Me, Allows, Splits, Joins, opening, keeps}
 use Rattle.atomic_table.proofs.Lists.{at_set}
 use Rattle.model.specs.Signature.{Verifies}
-use Rattle.model.specs.Genesis.{Genesis}
-use Rattle.model.specs.Ledger.{network_of}
+use Rattle.shared.specs.Starts.{Start, network_from}
 use Rattle.model.specs.Journal.{JournalEntry, Journal, calls_of, BeginsWithSeen, IsLegalJournal}
 use Rattle.shared.specs.Heights.{height_after, Role, Deals, Calls, Carries, Spent, SeatView, first_view, without_right, note_of, with_note, copy_of, with_copy, with_news, spent_view, next_role, has_dealt, dealt_role, new_caller, FitsRole, Fits, IsKept, KnowsCalls, IsLooked, IsCompared, with_entry, IsWritten}
 use Rattle.shared.proofs.Journals.{begins_all, begins_nothing, begins_longer, begins_longer_of, calls_own, calls_other, seat_stays, seat_last, seat_below, one_seat}
@@ -16,9 +15,9 @@ use Rattle.shared.proofs.Views.{AllFit, off, fits_set, fits_push}
 
 -- ---- the opening
 
-pub begins : {S : Type 0} (verifies : Verifies) (genesis : Genesis) → IsLegalJournal (network_of genesis verifies) []
-    → IsKept {S = S} verifies genesis (opening (0 ∷ []) [] (first_view genesis))
-begins verifies genesis legal =
+pub begins : {S : Type 0} (verifies : Verifies) (start : Start) → IsLegalJournal (network_from start verifies) []
+    → IsKept {S = S} verifies start (opening (length start.opened ∷ []) [] (first_view start))
+begins verifies start legal =
     record {
       log = [];
       writer = 0;
@@ -30,17 +29,17 @@ begins verifies genesis legal =
       fits = one;
     }
   where
-    one : AllFit genesis [] 0 0 [] (first_view genesis ∷ [])
+    one : AllFit start [] 0 0 [] (first_view start ∷ [])
     one zero v at serves =
-        subst (Fits genesis [] 0 0 [] 0) (some-injective _ _ at)
-        (record { genesis_is = refl; seen = begins_nothing []; before = begins_nothing []; right = λ yes. (refl, refl); role = (refl, refl) })
+        subst (Fits start [] 0 0 [] 0) (some-injective _ _ at)
+        (record { start_is = refl; seen = begins_nothing []; before = begins_nothing []; right = λ yes. (refl, refl); role = (refl, refl) })
     one (suc by) v at serves = absurd (some-ne-none v (sym at))
 
 -- ---- the right goes by a note
 
-pub lends : {S : Type 0} (verifies : Verifies) (genesis : Genesis) (id : ℕ) (v : SeatView) → v.writes ≡ true → (v.role ≡ Spent → ⊥)
-    → Splits {S = S} (IsKept verifies genesis) id v (without_right v) (note_of v)
-lends verifies genesis id v writes serves s kept at =
+pub lends : {S : Type 0} (verifies : Verifies) (start : Start) (id : ℕ) (v : SeatView) → v.writes ≡ true → (v.role ≡ Spent → ⊥)
+    → Splits {S = S} (IsKept verifies start) id v (without_right v) (note_of v)
+lends verifies start id v writes serves s kept at =
     let mine = kept.fits id v at serves in
     let views = set s.views id (without_right v) in
     record {
@@ -51,18 +50,18 @@ lends verifies genesis id v writes serves s kept at =
       legal = kept.legal;
       word = kept.word;
       unknown = kept.unknown;
-      fits = fits_push genesis kept.log (length views) kept.dealer kept.seats views (note_of v)
-          (fits_set genesis kept.log (length views) kept.dealer kept.seats s.views id (without_right v)
+      fits = fits_push start kept.log (length views) kept.dealer kept.seats views (note_of v)
+          (fits_set start kept.log (length views) kept.dealer kept.seats s.views id (without_right v)
           (λ by u apart was still.
           let fit = kept.fits by u was still in
-          record { genesis_is = fit.genesis_is; seen = fit.seen; before = fit.before; right = λ yes. absurd (apart ((fit.right yes).0 ∙ sym (mine.right writes).0)); role = fit.role })
-          (λ still. record { genesis_is = mine.genesis_is; seen = mine.seen; before = mine.before; right = λ yes. absurd (off yes); role = mine.role }))
-          (λ still. record { genesis_is = mine.genesis_is; seen = mine.seen; before = begins_nothing kept.log; right = λ yes. (refl, (mine.right writes).1); role = tt });
+          record { start_is = fit.start_is; seen = fit.seen; before = fit.before; right = λ yes. absurd (apart ((fit.right yes).0 ∙ sym (mine.right writes).0)); role = fit.role })
+          (λ still. record { start_is = mine.start_is; seen = mine.seen; before = mine.before; right = λ yes. absurd (off yes); role = mine.role }))
+          (λ still. record { start_is = mine.start_is; seen = mine.seen; before = begins_nothing kept.log; right = λ yes. (refl, (mine.right writes).1); role = tt });
     }
 
-pub takes_in : {S : Type 0} (verifies : Verifies) (genesis : Genesis) (id : ℕ) (v : SeatView) (other : ℕ) (note : SeatView) → (v.role ≡ Spent → ⊥) → note.writes ≡ true → (note.role ≡ Spent → ⊥)
-    → Joins {S = S} (IsKept verifies genesis) id v other note (with_note v note) spent_view
-takes_in verifies genesis id v other note serves writes carries s kept at apart there =
+pub takes_in : {S : Type 0} (verifies : Verifies) (start : Start) (id : ℕ) (v : SeatView) (other : ℕ) (note : SeatView) → (v.role ≡ Spent → ⊥) → note.writes ≡ true → (note.role ≡ Spent → ⊥)
+    → Joins {S = S} (IsKept verifies start) id v other note (with_note v note) spent_view
+takes_in verifies start id v other note serves writes carries s kept at apart there =
     record {
       log = kept.log;
       writer = id;
@@ -71,12 +70,12 @@ takes_in verifies genesis id v other note serves writes carries s kept at apart 
       legal = kept.legal;
       word = kept.word;
       unknown = kept.unknown;
-      fits = fits_set genesis kept.log id kept.dealer kept.seats (set s.views id w) other spent_view
+      fits = fits_set start kept.log id kept.dealer kept.seats (set s.views id w) other spent_view
           (λ by u far now still. ⊎_elim
-          (λ (x : (by ≡ id) × (w ≡ u)). subst (λ (y : ℕ × SeatView). Fits genesis kept.log id kept.dealer kept.seats y.0 y.1) (λ i. (sym x.0 i, x.1 i)) taken)
+          (λ (x : (by ≡ id) × (w ≡ u)). subst (λ (y : ℕ × SeatView). Fits start kept.log id kept.dealer kept.seats y.0 y.1) (λ i. (sym x.0 i, x.1 i)) taken)
           (λ (x : (by ≢ id) × (get_elem? s.views by ≡ some u)).
           let fit = kept.fits by u x.1 still in
-          record { genesis_is = fit.genesis_is; seen = fit.seen; before = fit.before; right = λ yes. absurd (far ((fit.right yes).0 ∙ sym (theirs.right writes).0)); role = fit.role })
+          record { start_is = fit.start_is; seen = fit.seen; before = fit.before; right = λ yes. absurd (far ((fit.right yes).0 ∙ sym (theirs.right writes).0)); role = fit.role })
           (at_set s.views id by w u now))
           (λ still. absurd (still refl));
     }
@@ -88,14 +87,14 @@ takes_in verifies genesis id v other note serves writes carries s kept at apart 
     elsewhere (inl here) = absurd (apart here.0)
     elsewhere (inr far) = far.1
 
-    mine : Fits genesis kept.log kept.writer kept.dealer kept.seats id v
+    mine : Fits start kept.log kept.writer kept.dealer kept.seats id v
     mine = kept.fits id v at serves
 
-    theirs : Fits genesis kept.log kept.writer kept.dealer kept.seats other note
+    theirs : Fits start kept.log kept.writer kept.dealer kept.seats other note
     theirs = kept.fits other note (elsewhere (at_set s.views id other w note there)) carries
 
-    taken : Fits genesis kept.log id kept.dealer kept.seats id w
-    taken = record { genesis_is = mine.genesis_is; seen = theirs.seen; before = mine.seen; right = λ yes. (refl, (theirs.right writes).1); role = mine.role }
+    taken : Fits start kept.log id kept.dealer kept.seats id w
+    taken = record { start_is = mine.start_is; seen = theirs.seen; before = mine.seen; right = λ yes. (refl, (theirs.right writes).1); role = mine.role }
 
 -- ---- a caller gets its number
 
@@ -105,9 +104,9 @@ role_stays log dealer seats new by calls (Calls caller) other fits = (seat_stays
 role_stays log dealer seats new by calls Carries other fits = tt
 role_stays log dealer seats new by calls Spent other fits = tt
 
-pub deals : {S : Type 0} (verifies : Verifies) (genesis : Genesis) (id : ℕ) (v : SeatView) (next : ℕ) → v.role ≡ Deals next
-    → Splits {S = S} (IsKept verifies genesis) id v (has_dealt v) (new_caller v)
-deals verifies genesis id v next dealing s kept at =
+pub deals : {S : Type 0} (verifies : Verifies) (start : Start) (id : ℕ) (v : SeatView) (next : ℕ) → v.role ≡ Deals next
+    → Splits {S = S} (IsKept verifies start) id v (has_dealt v) (new_caller v)
+deals verifies start id v next dealing s kept at =
     record {
       log = kept.log;
       writer = kept.writer;
@@ -116,20 +115,20 @@ deals verifies genesis id v next dealing s kept at =
       legal = kept.legal;
       word = kept.word;
       unknown = λ caller above. kept.unknown caller (let n = length_push kept.seats new in omega arith);
-      fits = fits_push genesis kept.log kept.writer kept.dealer seats views (new_caller v)
-          (fits_set genesis kept.log kept.writer kept.dealer seats s.views id (has_dealt v)
+      fits = fits_push start kept.log kept.writer kept.dealer seats views (new_caller v)
+          (fits_set start kept.log kept.writer kept.dealer seats s.views id (has_dealt v)
           (λ by u apart was still.
           let fit = kept.fits by u was still in
-          record { genesis_is = fit.genesis_is; seen = fit.seen; before = fit.before; right = fit.right; role = role_stays kept.log kept.dealer kept.seats new by u.calls u.role (λ e. apart (e ∙ sym role.0)) fit.role })
+          record { start_is = fit.start_is; seen = fit.seen; before = fit.before; right = fit.right; role = role_stays kept.log kept.dealer kept.seats new by u.calls u.role (λ e. apart (e ∙ sym role.0)) fit.role })
           (λ still. record {
-            genesis_is = mine.genesis_is;
+            start_is = mine.start_is;
             seen = mine.seen;
             before = mine.before;
             right = mine.right;
             role = subst (λ (r : Role). FitsRole kept.log kept.dealer seats id v.calls (next_role r)) (sym dealing) (role.0, (let n = role.1 in let l = length_push kept.seats new in omega arith));
           }))
           (λ still. record {
-            genesis_is = mine.genesis_is;
+            start_is = mine.start_is;
             seen = mine.seen;
             before = begins_nothing kept.log;
             right = λ yes. absurd (off yes);
@@ -150,7 +149,7 @@ deals verifies genesis id v next dealing s kept at =
     serves : v.role ≡ Spent → ⊥
     serves spent = let e : Deals next ≡ Spent = sym dealing ∙ spent in absurd (cc)
 
-    mine : Fits genesis kept.log kept.writer kept.dealer kept.seats id v
+    mine : Fits start kept.log kept.writer kept.dealer kept.seats id v
     mine = kept.fits id v at serves
 
     role : (id ≡ kept.dealer) × (next ≡ length kept.seats)
@@ -171,9 +170,9 @@ word_is words height is = ap (λ (ws : List ℕ). slice_index ws 0) is
 word_stays : (words : List ℕ) (height : ℕ) → words ≡ height ∷ [] → slice_set words 0 (slice_index words 0) ≡ height ∷ []
 word_stays words height is = ap (λ (ws : List ℕ). slice_set ws 0 (slice_index ws 0)) is
 
-pub looks : {S : Type 0} (verifies : Verifies) (genesis : Genesis) (slots id : ℕ) (me : Me S SeatView) → (me.0.role ≡ Spent → ⊥)
-    → Allows (IsKept verifies genesis) slots id me 0 (λ n. n) (λ n after. IsLooked verifies me.0 n after.0 × (after.1 ≡ me.1))
-looks verifies genesis slots id me serves s kept homes at fits64 = (
+pub looks : {S : Type 0} (verifies : Verifies) (start : Start) (slots id : ℕ) (me : Me S SeatView) → (me.0.role ≡ Spent → ⊥)
+    → Allows (IsKept verifies start) slots id me 0 (λ n. n) (λ n after. IsLooked verifies me.0 n after.0 × (after.1 ≡ me.1))
+looks verifies start slots id me serves s kept homes at fits64 = (
   w,
   keeps,
   tt,
@@ -183,18 +182,18 @@ looks verifies genesis slots id me serves s kept homes at fits64 = (
     dealer = kept.dealer;
     seats = kept.seats;
     legal = kept.legal;
-    word = word_stays s.words (height_after kept.log) kept.word;
+    word = word_stays s.words (height_after start kept.log) kept.word;
     unknown = kept.unknown;
-    fits = fits_set genesis kept.log kept.writer kept.dealer kept.seats s.views id w
+    fits = fits_set start kept.log kept.writer kept.dealer kept.seats s.views id w
         (λ by u apart was still. kept.fits by u was still)
-        (λ still. record { genesis_is = mine.genesis_is; seen = begins_all kept.log; before = mine.before; right = λ yes. ((mine.right yes).0, refl); role = mine.role });
+        (λ still. record { start_is = mine.start_is; seen = begins_all kept.log; before = mine.before; right = λ yes. ((mine.right yes).0, refl); role = mine.role });
   },
   (
     record {
       same = refl;
       seen = mine.seen;
-      legal = subst (λ (g : Genesis). IsLegalJournal (network_of g verifies) kept.log) (sym mine.genesis_is) kept.legal;
-      height_is = word_is s.words (height_after kept.log) kept.word;
+      legal = subst (λ (g : Start). IsLegalJournal (network_from g verifies) kept.log) (sym mine.start_is) kept.legal;
+      height_is = word_is s.words (height_after start kept.log) kept.word ∙ ap (λ (x : Start). height_after x kept.log) (sym mine.start_is);
       calls = knows kept.log kept.dealer kept.seats id me.0.calls me.0.role mine.role;
     },
     refl,
@@ -204,12 +203,12 @@ looks verifies genesis slots id me serves s kept homes at fits64 = (
     v : SeatView
     v = me.0
 
-    mine : Fits genesis kept.log kept.writer kept.dealer kept.seats id v
+    mine : Fits start kept.log kept.writer kept.dealer kept.seats id v
     mine = kept.fits id v at serves
 
     w : SeatView
     w = record {
-      genesis = v.genesis;
+      start = v.start;
       role = v.role;
       writes = v.writes;
       seen = kept.log;
@@ -219,9 +218,9 @@ looks verifies genesis slots id me serves s kept homes at fits64 = (
       last = slice_index s.words 0;
     }
 
-pub compares : {S : Type 0} (verifies : Verifies) (genesis : Genesis) (slots id : ℕ) (me : Me S SeatView) → (me.0.role ≡ Spent → ⊥) → me.0.writes ≡ true
-    → Allows (IsKept verifies genesis) slots id me 0 (λ n. n) (λ n after. IsCompared me.0 n after.0 × (after.1 ≡ me.1))
-compares verifies genesis slots id me serves writes s kept homes at fits64 =
+pub compares : {S : Type 0} (verifies : Verifies) (start : Start) (slots id : ℕ) (me : Me S SeatView) → (me.0.role ≡ Spent → ⊥) → me.0.writes ≡ true
+    → Allows (IsKept verifies start) slots id me 0 (λ n. n) (λ n after. IsCompared me.0 n after.0 × (after.1 ≡ me.1))
+compares verifies start slots id me serves writes s kept homes at fits64 =
     let mine = kept.fits id me.0 at serves in
     let w : SeatView = record me.0 { loads = me.0.loads + 1; last = slice_index s.words 0 } in (
       w,
@@ -233,17 +232,17 @@ compares verifies genesis slots id me serves writes s kept homes at fits64 =
         dealer = kept.dealer;
         seats = kept.seats;
         legal = kept.legal;
-        word = word_stays s.words (height_after kept.log) kept.word;
+        word = word_stays s.words (height_after start kept.log) kept.word;
         unknown = kept.unknown;
-        fits = fits_set genesis kept.log kept.writer kept.dealer kept.seats s.views id w
+        fits = fits_set start kept.log kept.writer kept.dealer kept.seats s.views id w
             (λ by u apart was still. kept.fits by u was still)
-            (λ still. record { genesis_is = mine.genesis_is; seen = mine.seen; before = mine.before; right = mine.right; role = mine.role });
+            (λ still. record { start_is = mine.start_is; seen = mine.seen; before = mine.before; right = mine.right; role = mine.role });
       },
       (
         record {
           same = refl;
           begins = subst (λ (j : Journal). BeginsWithSeen j me.0.before) (sym (mine.right writes).1) mine.before;
-          height_is = word_is s.words (height_after kept.log) kept.word ∙ ap height_after (sym (mine.right writes).1);
+          height_is = word_is s.words (height_after start kept.log) kept.word ∙ (λ i. height_after (sym mine.start_is i) (sym (mine.right writes).1 i));
         },
         refl,
       ),
@@ -259,10 +258,10 @@ role_after log dealer seats by id calls (Calls caller) e apart own fits =
 role_after log dealer seats by id calls Carries e apart own fits = tt
 role_after log dealer seats by id calls Spent e apart own fits = tt
 
-pub writes_entry : {S : Type 0} (verifies : Verifies) (genesis : Genesis) (slots id : ℕ) (me : Me S SeatView) (e : JournalEntry) (new : ℕ) → me.0.writes ≡ true → me.0.role ≡ Calls e.caller
-    → IsLegalJournal (network_of genesis verifies) (me.0.seen ++ e ∷ []) → new ≡ height_after (me.0.seen ++ e ∷ [])
-    → Allows (IsKept verifies genesis) slots id me 0 (λ n. new) (λ n after. IsWritten e me.0 after.0 × (after.1 ≡ me.1))
-writes_entry verifies genesis slots id me e new writes calling legal height s kept homes at fits64 = (
+pub writes_entry : {S : Type 0} (verifies : Verifies) (start : Start) (slots id : ℕ) (me : Me S SeatView) (e : JournalEntry) (new : ℕ) → me.0.writes ≡ true → me.0.role ≡ Calls e.caller
+    → IsLegalJournal (network_from start verifies) (me.0.seen ++ e ∷ []) → new ≡ height_after start (me.0.seen ++ e ∷ [])
+    → Allows (IsKept verifies start) slots id me 0 (λ n. new) (λ n after. IsWritten e me.0 after.0 × (after.1 ≡ me.1))
+writes_entry verifies start slots id me e new writes calling legal height s kept homes at fits64 = (
   w,
   keeps,
   tt,
@@ -271,21 +270,21 @@ writes_entry verifies genesis slots id me e new writes calling legal height s ke
     writer = kept.writer;
     dealer = kept.dealer;
     seats = kept.seats;
-    legal = subst (λ (j : Journal). IsLegalJournal (network_of genesis verifies) (j ++ e ∷ [])) whole legal;
-    word = ap (λ (ws : List ℕ). slice_set ws 0 new) kept.word ∙ ap (λ (n : ℕ). n ∷ []) (height ∙ ap (λ (j : Journal). height_after (j ++ e ∷ [])) whole);
+    legal = subst (λ (j : Journal). IsLegalJournal (network_from start verifies) (j ++ e ∷ [])) whole legal;
+    word = ap (λ (ws : List ℕ). slice_set ws 0 new) kept.word ∙ ap (λ (n : ℕ). n ∷ []) (height ∙ ap (λ (j : Journal). height_after start (j ++ e ∷ [])) whole);
     unknown = λ caller above. calls_other caller kept.log e (λ same. let b = seat_below kept.seats e.caller id role.0 in omega arith) ∙ kept.unknown caller above;
-    fits = fits_set genesis log kept.writer kept.dealer kept.seats s.views id w
+    fits = fits_set start log kept.writer kept.dealer kept.seats s.views id w
         (λ by u apart was still.
         let fit = kept.fits by u was still in
         record {
-          genesis_is = fit.genesis_is;
+          start_is = fit.start_is;
           seen = begins_longer kept.log (e ∷ []) u.seen fit.seen;
           before = begins_longer kept.log (e ∷ []) u.before fit.before;
           right = λ yes. absurd (apart ((fit.right yes).0 ∙ sym (mine.right writes).0));
           role = role_after kept.log kept.dealer kept.seats by id u.calls u.role e apart role.0 fit.role;
         })
         (λ still. record {
-          genesis_is = mine.genesis_is;
+          start_is = mine.start_is;
           seen = subst (BeginsWithSeen log) (sym grown) (begins_all log);
           before = begins_longer kept.log (e ∷ []) v.before mine.before;
           right = λ yes. ((mine.right yes).0, grown);
@@ -301,7 +300,7 @@ writes_entry verifies genesis slots id me e new writes calling legal height s ke
     serves : v.role ≡ Spent → ⊥
     serves spent = let f : Calls e.caller ≡ Spent = sym calling ∙ spent in absurd (cc)
 
-    mine : Fits genesis kept.log kept.writer kept.dealer kept.seats id v
+    mine : Fits start kept.log kept.writer kept.dealer kept.seats id v
     mine = kept.fits id v at serves
 
     role : (slice_get kept.seats e.caller ≡ Some id) × (calls_of e.caller kept.log ≡ v.calls)
@@ -324,9 +323,9 @@ writes_entry verifies genesis slots id me e new writes calling legal height s ke
 
 -- ---- notes without the right
 
-pub copies : {S : Type 0} (verifies : Verifies) (genesis : Genesis) (id : ℕ) (v : SeatView) → (v.role ≡ Spent → ⊥)
-    → Splits {S = S} (IsKept verifies genesis) id v v (copy_of v)
-copies verifies genesis id v serves s kept at =
+pub copies : {S : Type 0} (verifies : Verifies) (start : Start) (id : ℕ) (v : SeatView) → (v.role ≡ Spent → ⊥)
+    → Splits {S = S} (IsKept verifies start) id v v (copy_of v)
+copies verifies start id v serves s kept at =
     let mine = kept.fits id v at serves in
     record {
       log = kept.log;
@@ -336,18 +335,18 @@ copies verifies genesis id v serves s kept at =
       legal = kept.legal;
       word = kept.word;
       unknown = kept.unknown;
-      fits = fits_push genesis kept.log kept.writer kept.dealer kept.seats (set s.views id v) (copy_of v)
-          (fits_set genesis kept.log kept.writer kept.dealer kept.seats s.views id v
+      fits = fits_push start kept.log kept.writer kept.dealer kept.seats (set s.views id v) (copy_of v)
+          (fits_set start kept.log kept.writer kept.dealer kept.seats s.views id v
           (λ by u apart was still. kept.fits by u was still)
           (λ still. mine))
-          (λ still. record { genesis_is = mine.genesis_is; seen = mine.seen; before = begins_nothing kept.log; right = λ yes. absurd (off yes); role = tt });
+          (λ still. record { start_is = mine.start_is; seen = mine.seen; before = begins_nothing kept.log; right = λ yes. absurd (off yes); role = tt });
     }
 
 -- a seat takes a note in that has no right, and fits as it then is
-joins_as : {S : Type 0} (verifies : Verifies) (genesis : Genesis) (id : ℕ) (v : SeatView) (other : ℕ) (note w : SeatView) → (v.role ≡ Spent → ⊥) → (note.role ≡ Spent → ⊥)
-    → ((log : Journal) (writer dealer : ℕ) (seats : List ℕ) → Fits genesis log writer dealer seats id v → Fits genesis log writer dealer seats other note → Fits genesis log writer dealer seats id w)
-    → Joins {S = S} (IsKept verifies genesis) id v other note w spent_view
-joins_as verifies genesis id v other note w serves carries fit s kept at apart there =
+joins_as : {S : Type 0} (verifies : Verifies) (start : Start) (id : ℕ) (v : SeatView) (other : ℕ) (note w : SeatView) → (v.role ≡ Spent → ⊥) → (note.role ≡ Spent → ⊥)
+    → ((log : Journal) (writer dealer : ℕ) (seats : List ℕ) → Fits start log writer dealer seats id v → Fits start log writer dealer seats other note → Fits start log writer dealer seats id w)
+    → Joins {S = S} (IsKept verifies start) id v other note w spent_view
+joins_as verifies start id v other note w serves carries fit s kept at apart there =
     record {
       log = kept.log;
       writer = kept.writer;
@@ -356,9 +355,9 @@ joins_as verifies genesis id v other note w serves carries fit s kept at apart t
       legal = kept.legal;
       word = kept.word;
       unknown = kept.unknown;
-      fits = fits_set genesis kept.log kept.writer kept.dealer kept.seats (set s.views id w) other spent_view
+      fits = fits_set start kept.log kept.writer kept.dealer kept.seats (set s.views id w) other spent_view
           (λ by u far now still. ⊎_elim
-          (λ (x : (by ≡ id) × (w ≡ u)). subst (λ (y : ℕ × SeatView). Fits genesis kept.log kept.writer kept.dealer kept.seats y.0 y.1) (λ i. (sym x.0 i, x.1 i)) taken)
+          (λ (x : (by ≡ id) × (w ≡ u)). subst (λ (y : ℕ × SeatView). Fits start kept.log kept.writer kept.dealer kept.seats y.0 y.1) (λ i. (sym x.0 i, x.1 i)) taken)
           (λ (x : (by ≢ id) × (get_elem? s.views by ≡ some u)). kept.fits by u x.1 still)
           (at_set s.views id by w u now))
           (λ still. absurd (still refl));
@@ -368,17 +367,17 @@ joins_as verifies genesis id v other note w serves carries fit s kept at apart t
     elsewhere (inl here) = absurd (apart here.0)
     elsewhere (inr far) = far.1
 
-    taken : Fits genesis kept.log kept.writer kept.dealer kept.seats id w
+    taken : Fits start kept.log kept.writer kept.dealer kept.seats id w
     taken = fit kept.log kept.writer kept.dealer kept.seats (kept.fits id v at serves) (kept.fits other note (elsewhere (at_set s.views id other w note there)) carries)
 
-pub lays : {S : Type 0} (verifies : Verifies) (genesis : Genesis) (id : ℕ) (v : SeatView) (other : ℕ) (note : SeatView) → (v.role ≡ Spent → ⊥) → (note.role ≡ Spent → ⊥)
-    → Joins {S = S} (IsKept verifies genesis) id v other note (with_copy v note) spent_view
-lays verifies genesis id v other note serves carries =
-    joins_as verifies genesis id v other note (with_copy v note) serves carries
-    (λ log writer dealer seats mine theirs. record { genesis_is = mine.genesis_is; seen = mine.seen; before = theirs.seen; right = mine.right; role = mine.role })
+pub lays : {S : Type 0} (verifies : Verifies) (start : Start) (id : ℕ) (v : SeatView) (other : ℕ) (note : SeatView) → (v.role ≡ Spent → ⊥) → (note.role ≡ Spent → ⊥)
+    → Joins {S = S} (IsKept verifies start) id v other note (with_copy v note) spent_view
+lays verifies start id v other note serves carries =
+    joins_as verifies start id v other note (with_copy v note) serves carries
+    (λ log writer dealer seats mine theirs. record { start_is = mine.start_is; seen = mine.seen; before = theirs.seen; right = mine.right; role = mine.role })
 
-pub learns : {S : Type 0} (verifies : Verifies) (genesis : Genesis) (id : ℕ) (v : SeatView) (other : ℕ) (note : SeatView) → (v.role ≡ Spent → ⊥) → (note.role ≡ Spent → ⊥) → v.writes ≡ false
-    → Joins {S = S} (IsKept verifies genesis) id v other note (with_news v note) spent_view
-learns verifies genesis id v other note serves carries reads =
-    joins_as verifies genesis id v other note (with_news v note) serves carries
-    (λ log writer dealer seats mine theirs. record { genesis_is = mine.genesis_is; seen = begins_longer_of log v.seen note.seen mine.seen theirs.seen; before = mine.seen; right = λ yes. absurd (off (sym reads ∙ yes)); role = mine.role })
+pub learns : {S : Type 0} (verifies : Verifies) (start : Start) (id : ℕ) (v : SeatView) (other : ℕ) (note : SeatView) → (v.role ≡ Spent → ⊥) → (note.role ≡ Spent → ⊥) → v.writes ≡ false
+    → Joins {S = S} (IsKept verifies start) id v other note (with_news v note) spent_view
+learns verifies start id v other note serves carries reads =
+    joins_as verifies start id v other note (with_news v note) serves carries
+    (λ log writer dealer seats mine theirs. record { start_is = mine.start_is; seen = begins_longer_of log v.seen note.seen mine.seen theirs.seen; before = mine.seen; right = λ yes. absurd (off (sym reads ∙ yes)); role = mine.role })

@@ -3,27 +3,27 @@ use Rattle.std.proofs.Common.{◌≡◌, ◌≢◌, ◌⊎◌, ℕ, zero, suc, L
 use mathlib.Core.Option.{some, some-injective, some-ne-none}
 use lib.ListN.{get_elem?}
 use Rattle.atomic_table.proofs.Lists.{at_set}
-use Rattle.model.specs.Genesis.{Genesis}
+use Rattle.shared.specs.Starts.{Start}
 use Rattle.model.specs.Journal.{Journal}
 use Rattle.shared.specs.Heights.{Spent, SeatView, Fits}
 
 -- a seat that still serves fits
-abbrev pub FitsAt : Genesis → Journal → ℕ → ℕ → List ℕ → ℕ → SeatView → Type 0
-FitsAt genesis log writer dealer seats by v = (v.role ≡ Spent → ⊥) → Fits genesis log writer dealer seats by v
+abbrev pub FitsAt : Start → Journal → ℕ → ℕ → List ℕ → ℕ → SeatView → Type 0
+FitsAt start log writer dealer seats by v = (v.role ≡ Spent → ⊥) → Fits start log writer dealer seats by v
 
-abbrev pub AllFit : Genesis → Journal → ℕ → ℕ → List ℕ → List SeatView → Type 0
-AllFit genesis log writer dealer seats views =
-    (by : ℕ) (v : SeatView) → get_elem? views by ≡ some v → FitsAt genesis log writer dealer seats by v
+abbrev pub AllFit : Start → Journal → ℕ → ℕ → List ℕ → List SeatView → Type 0
+AllFit start log writer dealer seats views =
+    (by : ℕ) (v : SeatView) → get_elem? views by ≡ some v → FitsAt start log writer dealer seats by v
 
 pub off : false ≡ true → ⊥
 off e = true≢false (sym e)
 
-pub fits_set : (genesis : Genesis) (log : Journal) (writer dealer : ℕ) (seats : List ℕ) (views : List SeatView) (id : ℕ) (w : SeatView)
-    → ((by : ℕ) (u : SeatView) → by ≢ id → get_elem? views by ≡ some u → FitsAt genesis log writer dealer seats by u)
-    → FitsAt genesis log writer dealer seats id w → AllFit genesis log writer dealer seats (set views id w)
-fits_set genesis log writer dealer seats views id w others mine by u at =
+pub fits_set : (start : Start) (log : Journal) (writer dealer : ℕ) (seats : List ℕ) (views : List SeatView) (id : ℕ) (w : SeatView)
+    → ((by : ℕ) (u : SeatView) → by ≢ id → get_elem? views by ≡ some u → FitsAt start log writer dealer seats by u)
+    → FitsAt start log writer dealer seats id w → AllFit start log writer dealer seats (set views id w)
+fits_set start log writer dealer seats views id w others mine by u at =
     ⊎_elim
-    (λ (x : (by ≡ id) × (w ≡ u)). subst (λ (y : ℕ × SeatView). FitsAt genesis log writer dealer seats y.0 y.1) (λ i. (sym x.0 i, x.1 i)) mine)
+    (λ (x : (by ≡ id) × (w ≡ u)). subst (λ (y : ℕ × SeatView). FitsAt start log writer dealer seats y.0 y.1) (λ i. (sym x.0 i, x.1 i)) mine)
     (λ (x : (by ≢ id) × (get_elem? views by ≡ some u)). others by u x.0 x.1)
     (at_set views id by w u at)
 
@@ -33,13 +33,13 @@ at_push [] w u (suc by) at = absurd (some-ne-none u (sym at))
 at_push (x ∷ xs) w u zero at = inl at
 at_push (x ∷ xs) w u (suc by) at = ⊎_elim inl (λ t. inr (ap suc t.0, t.1)) (at_push xs w u by at)
 
-pub fits_push : (genesis : Genesis) (log : Journal) (writer dealer : ℕ) (seats : List ℕ) (views : List SeatView) (w : SeatView)
-    → AllFit genesis log writer dealer seats views → FitsAt genesis log writer dealer seats (length views) w
-    → AllFit genesis log writer dealer seats (views ++ w ∷ [])
-fits_push genesis log writer dealer seats views w all mine by u at =
+pub fits_push : (start : Start) (log : Journal) (writer dealer : ℕ) (seats : List ℕ) (views : List SeatView) (w : SeatView)
+    → AllFit start log writer dealer seats views → FitsAt start log writer dealer seats (length views) w
+    → AllFit start log writer dealer seats (views ++ w ∷ [])
+fits_push start log writer dealer seats views w all mine by u at =
     ⊎_elim
     (λ (was : get_elem? views by ≡ some u). all by u was)
-    (λ (x : (by ≡ length views) × (w ≡ u)). subst (λ (y : ℕ × SeatView). FitsAt genesis log writer dealer seats y.0 y.1) (λ i. (sym x.0 i, x.1 i)) mine)
+    (λ (x : (by ≡ length views) × (w ≡ u)). subst (λ (y : ℕ × SeatView). FitsAt start log writer dealer seats y.0 y.1) (λ i. (sym x.0 i, x.1 i)) mine)
     (at_push views w u by at)
 
 pub length_set_view : (views : List SeatView) (id : ℕ) (w : SeatView) → length (set views id w) ≡ length views

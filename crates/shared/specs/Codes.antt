@@ -3,9 +3,8 @@
 use Rattle.std.specs.Prelude.{◌≡◌, ℕ, zero, suc, Bool}
 use mathlib.Core.Path.{refl}
 use Rattle.std.specs.Coded.{Coded, coded_ℕ, coded_bool, coded×, code_by}
-use Rattle.model.specs.Genesis.{Genesis}
+use Rattle.shared.specs.Starts.{Start, coded_start}
 use Rattle.model.specs.Journal.{Journal}
-use Rattle.model.specs.Codes.{coded_genesis}
 use Rattle.model.specs.JournalCodes.{coded_journal}
 use Rattle.shared.specs.Heights.{Role, Deals, Calls, Carries, Spent, SeatView}
 
@@ -34,17 +33,17 @@ coded_role = code_by (ℕ × ℕ) (coded× coded_ℕ coded_ℕ) fields_of_role (
 
 -- the fields of a view, as pairs
 abbrev pub ViewFields : Type 0
-ViewFields = Genesis × (Role × (Bool × (Journal × (Journal × (Journal × (ℕ × ℕ))))))
+ViewFields = Start × (Role × (Bool × (Journal × (Journal × (Journal × (ℕ × ℕ))))))
 
 -- what a seat knows
 abbrev pub coded_seat_view : Coded SeatView
 coded_seat_view =
     code_by ViewFields
-    (coded× coded_genesis (coded× coded_role (coded× coded_bool (coded× coded_journal (coded× coded_journal
+    (coded× coded_start (coded× coded_role (coded× coded_bool (coded× coded_journal (coded× coded_journal
     (coded× coded_journal (coded× coded_ℕ coded_ℕ)))))))
-    (λ v. (v.genesis, (v.role, (v.writes, (v.seen, (v.before, (v.calls, (v.loads, v.last))))))))
+    (λ v. (v.start, (v.role, (v.writes, (v.seen, (v.before, (v.calls, (v.loads, v.last))))))))
     (λ p. record {
-      genesis = p.0;
+      start = p.0;
       role = p.1.0;
       writes = p.1.1.0;
       seen = p.1.1.1.0;

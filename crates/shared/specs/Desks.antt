@@ -1,7 +1,7 @@
 -- What lies under the lock.
 use Rattle.atomic_table.specs.Seated.{TableId}
 use Rattle.model.specs.Signature.{Verifies}
-use Rattle.model.specs.Genesis.{Genesis}
+use Rattle.shared.specs.Starts.{Start}
 use Rattle.model.specs.Journal.{Journal}
 use Rattle.shared.specs.Standing.{IsCoreOf, IsWriterOf}
 use Rattle.shared.specs.declared.journal.Journal.TheInside as code_journal
@@ -19,5 +19,5 @@ desk_view a = a.journal
 
 -- THE LOCK KEEPS: the journal is legal, and the core is its state; and the seat that has the right to write has seen
 -- the whole journal.
-abbrev pub IsDeskOf : {S B : Type 0} → Verifies → Genesis → Inside S B → Type 0
-IsDeskOf verifies genesis a = IsCoreOf verifies genesis a.journal a.core
+abbrev pub IsDeskOf : {S B : Type 0} → Verifies → Start → Inside S B → Type 0
+IsDeskOf verifies start a = IsCoreOf verifies start a.journal a.core

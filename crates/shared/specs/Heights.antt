@@ -10,13 +10,13 @@ use Rattle.atomic_table.specs.Table as table
 use Rattle.atomic_table.specs.Seated.{TableId}
 use Rattle.model.specs.Signature.{Verifies}
 use Rattle.model.specs.Genesis.{Genesis}
-use Rattle.model.specs.Ledger.{network_of}
+use Rattle.shared.specs.Starts.{Start, network_from, new_start}
 use Rattle.model.specs.History.{Open, OutOfMemory, length_from}
 use Rattle.model.specs.Journal.{JournalEntry, Journal, Knowledge, history_of, calls_of, IsLegalJournal, BeginsWithSeen}
 
--- the height after a journal that begins from a new core: how many blocks the chain has that is then selected
-abbrev pub height_after : Journal → ℕ
-height_after journal = length_from 0 (history_of journal)
+-- the height after a journal that begins there: how many blocks the chain has that is then selected
+abbrev pub height_after : Start → Journal → ℕ
+height_after start journal = length_from (length start.opened) (history_of journal)
 
 -- ---- what a seat knows
 
@@ -28,10 +28,11 @@ pub data Role : Type 0 where
   Carries : Role
   Spent : Role
 
--- The genesis; what the seat is for; whether it has the right to write; the journal that was seen, and what was seen of
--- it before a note came; the calls that its caller made; how often its caller read the height, and what it read last.
+-- What the core began from; what the seat is for; whether it has the right to write; the journal that was seen, and
+-- what was seen of it before a note came; the calls that its caller made; how often its caller read the height, and
+-- what it read last.
 pub record SeatView : Type 0 where
-  pub genesis : Genesis
+  pub start : Start
   pub role : Role
   pub writes : Bool
   pub seen : Journal
@@ -41,9 +42,9 @@ pub record SeatView : Type 0 where
   pub last : ℕ
 
 -- the first seat deals and writes
-abbrev pub first_view : Genesis → SeatView
-first_view genesis =
-    record { genesis = genesis; role = Deals 0; writes = true; seen = []; before = []; calls = []; loads = 0; last = 0 }
+abbrev pub first_view : Start → SeatView
+first_view start =
+    record { start = start; role = Deals 0; writes = true; seen = []; before = []; calls = []; loads = 0; last = 0 }
 
 -- ---- how the right goes from one seat to another, by a note
 
@@ -99,6 +100,9 @@ no_genesis =
       grants = [];
     }
 
+abbrev pub no_start : Start
+no_start = new_start no_genesis
+
 abbrev pub no_table : TableId
 no_table = record { words = 0; slots = 0; views_name = 0; atom = 0; block = 0; offset = 0; slot_names = [] }
 
@@ -110,7 +114,7 @@ no_entry = record { caller = 0; peer = None; entry = record { event = Open; repl
 abbrev pub spent_view : SeatView
 spent_view =
     record {
-      genesis = no_genesis;
+      start = no_start;
       role = Spent;
       writes = false;
       seen = [];
@@ -149,25 +153,25 @@ FitsRole log dealer seats by calls Spent = Unit {0}
 
 -- What a seat knows is so: the journal begins with what was seen, and who has the right is the one writer and has seen
 -- all of it.
-pub record Fits (genesis : Genesis) (log : Journal) (writer dealer : ℕ) (seats : List ℕ) (by : ℕ)
+pub record Fits (start : Start) (log : Journal) (writer dealer : ℕ) (seats : List ℕ) (by : ℕ)
     (v : SeatView) : Type 0 where
-  pub genesis_is : v.genesis ≡ genesis
+  pub start_is : v.start ≡ start
   pub seen : BeginsWithSeen log v.seen
   pub before : BeginsWithSeen log v.before
   pub right : v.writes ≡ true → (by ≡ writer) × (v.seen ≡ log)
   pub role : FitsRole log dealer seats by v.calls v.role
 
 -- There is a legal journal of which the word is the height. Callers who have no number have no call in it.
-pub record IsKept {S : Type 0} (verifies : Verifies) (genesis : Genesis) (s : table.State S SeatView) : Type 0 where
+pub record IsKept {S : Type 0} (verifies : Verifies) (start : Start) (s : table.State S SeatView) : Type 0 where
   pub log : Journal
   pub writer : ℕ
   pub dealer : ℕ
   pub seats : List ℕ
-  pub legal : IsLegalJournal (network_of genesis verifies) log
-  pub word : s.words ≡ height_after log ∷ []
+  pub legal : IsLegalJournal (network_from start verifies) log
+  pub word : s.words ≡ height_after start log ∷ []
   pub unknown : (caller : ℕ) → length seats ≤ caller → calls_of caller log ≡ []
   pub fits : (by : ℕ) (v : SeatView) → get_elem? s.views by ≡ some v → (v.role ≡ Spent → ⊥)
-      → Fits genesis log writer dealer seats by v
+      → Fits start log writer dealer seats by v
 
 -- ---- what the steps tell
 
@@ -180,8 +184,8 @@ KnowsCalls role journal calls = Unit {0}
 pub record IsLooked (verifies : Verifies) (v : SeatView) (height : ℕ) (w : SeatView) : Type 0 where
   pub same : w ≡ record v { seen = w.seen; loads = v.loads + 1; last = height }
   pub seen : BeginsWithSeen w.seen v.seen
-  pub legal : IsLegalJournal (network_of v.genesis verifies) w.seen
-  pub height_is : height ≡ height_after w.seen
+  pub legal : IsLegalJournal (network_from v.start verifies) w.seen
+  pub height_is : height ≡ height_after v.start w.seen
   pub calls : KnowsCalls v.role w.seen v.calls
 
 -- a look by the one who writes, after a note: what was seen begins with what the note laid beside it, and the word is
@@ -189,7 +193,7 @@ pub record IsLooked (verifies : Verifies) (v : SeatView) (height : ℕ) (w : Sea
 pub record IsCompared (v : SeatView) (height : ℕ) (w : SeatView) : Type 0 where
   pub same : w ≡ record v { loads = v.loads + 1; last = height }
   pub begins : BeginsWithSeen v.seen v.before
-  pub height_is : height ≡ height_after v.seen
+  pub height_is : height ≡ height_after v.start v.seen
 
 -- the seat that has written an entry of its own
 abbrev pub with_entry : SeatView → JournalEntry → SeatView

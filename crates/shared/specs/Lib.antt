@@ -1,3 +1,4 @@
+pub mod Starts
 pub mod Arrivals
 pub mod Heights
 pub mod Codes
@@ -11,6 +12,8 @@ pub mod Wants
 pub mod Callers
 pub mod Desks
 pub mod Copies
+pub mod Asking
+pub mod Forging
 pub mod Opening
 pub mod OpenedCores
 pub mod Adding

@@ -1,7 +1,8 @@
 -- What a seat and a caller know after they were told what the journal has.
 use Rattle.std.specs.Prelude.{◌≡◌, ◌+◌, true}
 use Rattle.model.specs.Signature.{Verifies}
-use Rattle.model.specs.Ledger.{Network, network_of}
+use Rattle.model.specs.Ledger.{Network}
+use Rattle.shared.specs.Starts.{network_from}
 use Rattle.model.specs.Journal.{Journal, Knowledge, BeginsWithSeen, IsLegalJournal, IsLook, height_of}
 use Rattle.shared.specs.Heights.{SeatView, height_after, KnowsCalls}
 
@@ -12,10 +13,10 @@ pub record IsTold (verifies : Verifies) (writer v w : SeatView) : Type 0 where
     seen = writer.seen;
     before = v.seen;
     loads = v.loads + 1;
-    last = height_after writer.seen;
+    last = height_after v.start writer.seen;
   }
   pub begins : BeginsWithSeen writer.seen v.seen
-  pub legal : IsLegalJournal (network_of v.genesis verifies) writer.seen
+  pub legal : IsLegalJournal (network_from v.start verifies) writer.seen
   pub calls : KnowsCalls v.role writer.seen v.calls
 
 -- the writer has the right, and has seen what it had

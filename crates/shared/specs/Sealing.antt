@@ -12,7 +12,7 @@ pub record IsSealed (writer : SeatView) (entry : JournalEntry) (v w : SeatView) 
     before = v.seen;
     calls = v.calls ++ entry ∷ [];
     loads = v.loads + 1;
-    last = height_after writer.seen;
+    last = height_after v.start writer.seen;
   }
   pub begins : BeginsWithSeen writer.seen v.seen
   pub calls : calls_of entry.caller w.seen ≡ w.calls

@@ -3,7 +3,7 @@
 ghost use Rattle.std.specs.Prelude.{◌≡◌, ℕ, ◌+◌, ◌-◌, ◌<◌, ◌≤◌, [], length, slice_index, slice_set, None, Some, IfOk};
 ghost use Rattle.std.specs.Prelude.{IfNone, OnOk, OnErr, IfErr, IsSome};
 ghost use Rattle.std.specs.List.{AllByRecursion};
-ghost use Rattle.model.specs.Ledger.{network_of};
+ghost use Rattle.shared.specs.Starts.{network_from};
 ghost use Rattle.model.specs.Journal.{IsMeeting};
 ghost use Rattle.inbox.specs.Arrivals.{IsPeer, peers};
 ghost use Rattle.inbox.specs.Telling.{IsAllThatWasSent};
@@ -118,7 +118,7 @@ impl<G: Gate, B: Room, M: Mailroom> Adder<G, B, M> {
         shared: &Shared<S, B>,
         caller: &mut Caller<B>,
     )
-        ensures meeting { IsMeeting (network_of B.genesis S.verifies) self.old.knows caller.old self.new.knows
+        ensures meeting { IsMeeting (network_from B.start S.verifies) self.old.knows caller.old self.new.knows
             caller.new }
         ensures same { self.new ≡ record self.old { knows = self.new.knows } }
     {
@@ -150,7 +150,7 @@ impl<G: Gate, B: Room, M: Mailroom> Adder<G, B, M> {
         rt: &R,
         shared: &Shared<S, B>,
     ) -> Result<u64, AllocError>
-        ensures added { HasAdded (network_of B.genesis S.verifies) self.old self.new }
+        ensures added { HasAdded (network_from B.start S.verifies) self.old self.new }
         ensures many { IfOk result (λ many.
             length self.new.knows.calls ≡ length self.old.knows.calls + many) }
         ensures intake { self.new.intake ≡ self.old.intake }
@@ -186,7 +186,7 @@ impl<G: Gate, B: Room, M: Mailroom> Adder<G, B, M> {
     ) -> Result<u64, AllocError>
         // What the adder knows grows by locked calls of its own, each of which brings one arrival that it took; and of
         // all that it took just one arrival may not be brought yet.
-        ensures added { HasAdded (network_of B.genesis S.verifies) self.old self.new }
+        ensures added { HasAdded (network_from B.start S.verifies) self.old self.new }
         ensures many { IfOk result (λ many. IsGrownBy self.old.knows.calls self.new.knows.calls many) }
         // It takes at most so many arrivals.
         ensures turns { length self.new.intake.taken ≤ length self.old.intake.taken + turns }
@@ -212,7 +212,7 @@ impl<G: Gate, B: Room, M: Mailroom> Adder<G, B, M> {
         peers: &mut [PeerEnd<M>; PEERS],
     ) -> Result<(), AllocError>
         ensures peers { peers.new ≡ peers.old }
-        ensures added { HasAdded (network_of B.genesis S.verifies) self.old self.new }
+        ensures added { HasAdded (network_from B.start S.verifies) self.old self.new }
         // All that these peers sent was brought, in order, each once.
         ensures all { OnOk result (AllByRecursion (IsAllBrought self.new.knows.calls) peers.old) }
         ensures ok { OnOk result (self.new.held ≡ None) }
@@ -245,7 +245,7 @@ where
     B: Room,
     R: Threads + Wait + Sync,
     requires peer { IsPeer peer }
-    ensures called { OnOk result (IsBrought (network_of B.genesis S.verifies) caller.old peer bytes.items caller.new) }
+    ensures called { OnOk result (IsBrought (network_from B.start S.verifies) caller.old peer bytes.items caller.new) }
     ensures caller { OnErr result (caller.new ≡ caller.old) }
     ensures back { IfErr result (λ e. e.bytes ≡ bytes) }
 {

@@ -1,7 +1,7 @@
 //! Who makes calls under the lock.
 
 ghost use Rattle.std.specs.Prelude.{◌≡◌};
-ghost use Rattle.model.specs.Ledger.{network_of};
+ghost use Rattle.shared.specs.Starts.{network_from};
 ghost use Rattle.model.specs.Journal.{IsLook};
 ghost use Rattle.shared.specs.Entries.{entry_of};
 ghost use Rattle.shared.specs.Standing.{IsHeightOf};
@@ -34,7 +34,7 @@ impl<B: Room> Model for CallerSeat<B> {
 
     ghost view = { seat_view };
 
-    ghost invariant = { IsSeatOf B.table B.genesis };
+    ghost invariant = { IsSeatOf B.table B.start };
 }
 
 impl<B: Room> CallerSeat<B> {
@@ -57,8 +57,8 @@ impl<B: Room> CallerSeat<B> {
 
     /// A look at the height. One load, which waits for nobody.
     pub fn look<S: SigScheme>(&mut self, heights: &Heights<S>) -> u64
-        requires { IsHeightOf B.table B.genesis heights.now }
-        ensures { IsLook (network_of B.genesis S.verifies) self.old result self.new }
+        requires { IsHeightOf B.table B.start heights.now }
+        ensures { IsLook (network_from B.start S.verifies) self.old result self.new }
     {
         look(heights, &mut self.seat)
     }

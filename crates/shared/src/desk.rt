@@ -1,9 +1,11 @@
 //! What lies under the lock.
 
-ghost use Rattle.std.specs.Prelude.{◌≡◌, ◌↔◌, ◌++◌, [], ◌∷◌, Ok, Err, IfOk, IfErr, OnOk, OnErr, IsTrue, map};
-ghost use Rattle.model.specs.Ledger.{network_of};
+ghost use Rattle.std.specs.Prelude.{◌≡◌, ◌↔◌, ◌≤◌, ◌++◌, [], ◌∷◌, length, map, Ok, Err, IfOk, IfErr, OnOk, OnErr, IsTrue};
+ghost use Rattle.shared.specs.Starts.{network_from};
 ghost use Rattle.model.specs.History.{Arrive, Submit, Open, Next, Forward, Close};
 ghost use Rattle.model.specs.Journal.{IsCalled, IsLook, IsMeeting, height_of};
+ghost use Rattle.model.specs.Chain.{IsOpening};
+ghost use Rattle.model.specs.Limits.{block_size_limit};
 ghost use Rattle.model.specs.Log.{IsLogBlock};
 ghost use Rattle.std.specs.List.{AllByRecursion};
 ghost use Rattle.ident.specs.PointView.{point_of};
@@ -16,8 +18,12 @@ ghost use Rattle.shared.specs.Entries.{call_by, arrival_by};
 ghost use Rattle.shared.specs.Answers.{IsAnswered, IsJournaled, HasSeenAll};
 ghost use Rattle.chain_core.specs.Reopening.{texts_in};
 ghost use Rattle.shared.specs.Copies.{AreCopiesAfter};
-ghost use Rattle.shared.specs.Wants.{IsWantAtOpening, IsWantAtTelling};
-ghost use Rattle.shared.specs.Standing.{IsHeightOf};
+ghost use Rattle.shared.specs.Asking.{IsAsked};
+ghost use Rattle.chain_core.specs.ForgedBlocks.{IsForgeFault};
+ghost use Rattle.shared.specs.Forging.{IsForgedOf};
+ghost use Rattle.shared.specs.Wants.{IsWantAtArriving, IsWantAtOpening, IsWantAtTelling};
+ghost use Rattle.shared.specs.Meeting.{IsInformed};
+ghost use Rattle.shared.specs.Standing.{IsHeightOf, IsCoreOf};
 
 use crate::call::Call;
 use crate::caller_seat::CallerSeat;
@@ -27,7 +33,8 @@ use crate::journal::Journal;
 use crate::room::Room;
 use block::Seen;
 use chain_core::{
-    ArriveReply, Core, FollowerId, Instruction, NextFault, OpenFollowerFault, UnknownFollower,
+    ArriveReply, Core, FollowerId, ForgeFault, Forged, Instruction, NextFault, OpenFollowerFault,
+    UnknownFollower,
 };
 use ident::Point;
 use mempool::SubmitReply;
@@ -63,7 +70,7 @@ impl<S: SigScheme, B: Room> Model for Desk<S, B> {
 
     ghost view = { desk_view };
 
-    ghost invariant = { IsDeskOf S.verifies B.genesis };
+    ghost invariant = { IsDeskOf S.verifies B.start };
 }
 
 /// Whether memory ran out for what a follower is to be told.
@@ -74,8 +81,8 @@ fn is_want<S: SigScheme>(answer: &Result<Option<Instruction<S>>, NextFault>) -> 
 }
 
 // In each call the core answers first, and unless memory ran out the event and the reply are then the journal's last
-// entry. The journal itself takes no memory. So a call that memory runs out for changes nothing and is in no journal;
-// where its contract says when that may be, the caller's seat is compared with the journal, for proofs alone.
+// entry. The journal itself takes no memory. So a call that memory runs out for changes nothing and is in no journal.
+// What the core is only asked is in no journal either.
 impl<S: SigScheme, B: Room> Desk<S, B> {
     /// Bytes of a block arrive that a peer sent; the caller brings them, and has seen what they are. Where memory runs
     /// out they come back.
@@ -87,15 +94,18 @@ impl<S: SigScheme, B: Room> Desk<S, B> {
         bytes: Vec<u8>,
         seen: Seen<S>,
     ) -> Result<ArriveReply, NotArrived>
-        requires heights { IsHeightOf B.table B.genesis heights.now }
+        requires heights { IsHeightOf B.table B.start heights.now }
         requires peer { IsPeer peer }
         requires seen { seen ≡ bytes.items }
         // The call is the last entry of the journal, and the caller has seen all of it.
         ensures journal { IfOk result (λ reply. self.new ≡ self.old
             ++ arrival_by caller.old.caller peer bytes.items (arrive_reply_of (Ok reply)) ∷ []) }
         ensures seen { OnOk result (caller.new.seen ≡ self.new) }
-        ensures called { IfOk result (λ reply. IsCalled (network_of B.genesis S.verifies) caller.old
+        ensures called { IfOk result (λ reply. IsCalled (network_from B.start S.verifies) caller.old
             (arrival_by caller.old.caller peer bytes.items (arrive_reply_of (Ok reply))) caller.new) }
+        // Memory is asked for only where no refusal applies.
+        ensures memory { OnErr result (IsWantAtArriving S.verifies B.start self.old bytes.items) }
+        ensures size { OnErr result (length bytes.items ≤ block_size_limit) }
         ensures err { OnErr result (self.new ≡ self.old) }
         ensures caller { OnErr result (caller.new ≡ caller.old) }
         ensures back { IfErr result (λ e. e.bytes ≡ bytes) }
@@ -119,11 +129,11 @@ impl<S: SigScheme, B: Room> Desk<S, B> {
         caller: &mut CallerSeat<B>,
         bytes: &[u8],
     ) -> Result<SubmitReply, AllocError>
-        requires { IsHeightOf B.table B.genesis heights.now }
+        requires { IsHeightOf B.table B.start heights.now }
         ensures journal { IfOk result (λ reply. self.new ≡ self.old
             ++ call_by caller.old.caller (Submit bytes.now) (submit_reply_of (Ok reply)) ∷ []) }
         ensures seen { OnOk result (caller.new.seen ≡ self.new) }
-        ensures called { IfOk result (λ reply. IsCalled (network_of B.genesis S.verifies) caller.old
+        ensures called { IfOk result (λ reply. IsCalled (network_from B.start S.verifies) caller.old
             (call_by caller.old.caller (Submit bytes.now) (submit_reply_of (Ok reply))) caller.new) }
         // Where the bytes are the text of a transaction without parts, no memory is asked for.
         ensures memory { OnErr result (IsWantAtSubmission bytes.now) }
@@ -145,17 +155,16 @@ impl<S: SigScheme, B: Room> Desk<S, B> {
         heights: &Heights<S>,
         caller: &mut CallerSeat<B>,
     ) -> Result<FollowerId, OpenFollowerFault>
-        requires { IsHeightOf B.table B.genesis heights.now }
+        requires { IsHeightOf B.table B.start heights.now }
         ensures journal { IsJournaled self.old caller.old.caller Open (open_reply_of result) self.new }
         ensures seen { HasSeenAll (open_reply_of result) self.new caller.new }
-        ensures answered { IsAnswered (network_of B.genesis S.verifies) caller.old Open (open_reply_of result)
+        ensures answered { IsAnswered (network_from B.start S.verifies) caller.old Open (open_reply_of result)
             caller.new }
         // Memory is asked for only where a number is free.
-        ensures memory { IsWantAtOpening S.verifies B.genesis caller.old.seen (open_reply_of result) }
+        ensures memory { IsWantAtOpening S.verifies B.start self.old (open_reply_of result) }
     {
         let answer = self.core.open();
         if let Err(OpenFollowerFault::OutOfMemory) = answer {
-            self.journal.compare(heights, caller);
             return Err(OpenFollowerFault::OutOfMemory);
         }
         let entry = caller.entry(Call::Open { reply: &answer });
@@ -170,18 +179,16 @@ impl<S: SigScheme, B: Room> Desk<S, B> {
         caller: &mut CallerSeat<B>,
         id: FollowerId,
     ) -> Result<Option<Instruction<S>>, NextFault>
-        requires { IsHeightOf B.table B.genesis heights.now }
+        requires { IsHeightOf B.table B.start heights.now }
         ensures journal { IsJournaled self.old caller.old.caller (Next id.number) (next_reply_of result) self.new }
         ensures seen { HasSeenAll (next_reply_of result) self.new caller.new }
-        ensures answered { IsAnswered (network_of B.genesis S.verifies) caller.old (Next id.number)
+        ensures answered { IsAnswered (network_from B.start S.verifies) caller.old (Next id.number)
             (next_reply_of result) caller.new }
         // Memory is asked for only where a block comes next.
-        ensures memory { IsWantAtTelling S.verifies B.genesis caller.old.seen id.number
-            (next_reply_of result) }
+        ensures memory { IsWantAtTelling S.verifies B.start self.old id.number (next_reply_of result) }
     {
         let answer = self.core.next(id);
         if is_want(&answer) {
-            self.journal.compare(heights, caller);
             return Err(NextFault::OutOfMemory);
         }
         let entry = caller.entry(Call::Next { id, reply: &answer });
@@ -197,11 +204,11 @@ impl<S: SigScheme, B: Room> Desk<S, B> {
         id: FollowerId,
         points: &[Point],
     ) -> Result<Option<Point>, UnknownFollower>
-        requires { IsHeightOf B.table B.genesis heights.now }
+        requires { IsHeightOf B.table B.start heights.now }
         ensures journal { self.new ≡ self.old ++ call_by caller.old.caller
             (Forward id.number (map point_of points.now)) (forward_reply_of result) ∷ [] }
         ensures seen { caller.new.seen ≡ self.new }
-        ensures called { IsCalled (network_of B.genesis S.verifies) caller.old (call_by caller.old.caller
+        ensures called { IsCalled (network_from B.start S.verifies) caller.old (call_by caller.old.caller
             (Forward id.number (map point_of points.now)) (forward_reply_of result)) caller.new }
     {
         let answer = self.core.forward(id, points);
@@ -221,16 +228,35 @@ impl<S: SigScheme, B: Room> Desk<S, B> {
         caller: &mut CallerSeat<B>,
         id: FollowerId,
     ) -> Result<(), UnknownFollower>
-        requires { IsHeightOf B.table B.genesis heights.now }
+        requires { IsHeightOf B.table B.start heights.now }
         ensures journal { self.new ≡ self.old
             ++ call_by caller.old.caller (Close id.number) (close_reply_of result) ∷ [] }
         ensures seen { caller.new.seen ≡ self.new }
-        ensures called { IsCalled (network_of B.genesis S.verifies) caller.old
+        ensures called { IsCalled (network_from B.start S.verifies) caller.old
             (call_by caller.old.caller (Close id.number) (close_reply_of result)) caller.new }
     {
         let answer = self.core.close(id);
         let entry = caller.entry(Call::Close { id, reply: &answer });
         self.journal.write(heights, caller, &self.core, &entry);
+        answer
+    }
+
+    /// A block is forged in this slot, of what waits. Whatever is answered, the caller sees the whole journal.
+    pub fn forge(
+        &mut self,
+        heights: &Heights<S>,
+        caller: &mut CallerSeat<B>,
+        slot: u64,
+    ) -> Result<Forged, ForgeFault>
+        requires { IsHeightOf B.table B.start heights.now }
+        ensures journal { self.new ≡ self.old }
+        ensures forged { IfOk result (λ f. IsAsked (network_from B.start S.verifies) caller.old caller.new
+            (λ s. IsForgedOf (network_from B.start S.verifies) s slot f.bytes.items f.point)) }
+        ensures fault { IfErr result (λ fault. IsAsked (network_from B.start S.verifies) caller.old caller.new
+            (λ s. IsForgeFault (network_from B.start S.verifies) s.chain slot fault)) }
+    {
+        let answer = self.core.forge(slot);
+        self.journal.tell(heights, caller);
         answer
     }
 
@@ -242,26 +268,44 @@ impl<S: SigScheme, B: Room> Desk<S, B> {
         caller: &mut CallerSeat<B>,
         from: u64,
     ) -> Result<Vec<Vec<u8>>, AllocError>
-        requires { IsHeightOf B.table B.genesis heights.now }
+        requires { IsHeightOf B.table B.start heights.now }
         ensures journal { self.new ≡ self.old }
-        ensures look { OnOk result (IsLook (network_of B.genesis S.verifies) caller.old
-            (height_of (network_of B.genesis S.verifies) self.old) caller.new) }
-        ensures copies { IfOk result (λ texts. AreCopiesAfter (network_of B.genesis S.verifies) caller.new.seen from
+        ensures look { OnOk result (IsLook (network_from B.start S.verifies) caller.old
+            (height_of (network_from B.start S.verifies) self.old) caller.new) }
+        ensures copies { IfOk result (λ texts. AreCopiesAfter (network_from B.start S.verifies) caller.new.seen from
             (texts_in texts.items)) }
         ensures sizes { IfOk result (λ texts. AllByRecursion IsLogBlock (texts_in texts.items)) }
+        // What the core begins from is sound.
+        ensures opens { IsOpening (network_from B.start S.verifies) }
         ensures err { OnErr result (caller.new ≡ caller.old) }
     {
         let texts = self.core.copy_immutable(from)?;
-        self.journal.tell(heights, caller);
+        self.tell(heights, caller);
         Ok(texts)
+    }
+
+    /// The caller sees the whole journal.
+    pub fn tell(&mut self, heights: &Heights<S>, caller: &mut CallerSeat<B>)
+        requires { IsHeightOf B.table B.start heights.now }
+        ensures journal { self.new ≡ self.old }
+        ensures informed { IsInformed (network_from B.start S.verifies) self.new caller.old caller.new }
+    {
+        self.journal.tell(heights, caller);
+    }
+
+    /// The core, to be asked.
+    pub fn core(&self) -> &Core<S>
+        ensures { IsCoreOf S.verifies B.start self.now result.now }
+    {
+        &self.core
     }
 
     /// Two callers see the whole journal.
     pub fn meet(&mut self, heights: &Heights<S>, one: &mut CallerSeat<B>, other: &mut CallerSeat<B>)
-        requires { IsHeightOf B.table B.genesis heights.now }
+        requires { IsHeightOf B.table B.start heights.now }
         ensures journal { self.new ≡ self.old }
         ensures seen { (one.new.seen ≡ self.new) × (other.new.seen ≡ self.new) }
-        ensures meeting { IsMeeting (network_of B.genesis S.verifies) one.old other.old one.new other.new }
+        ensures meeting { IsMeeting (network_from B.start S.verifies) one.old other.old one.new other.new }
     {
         self.journal.tell(heights, one);
         self.journal.tell(heights, other);

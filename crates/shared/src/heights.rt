@@ -1,7 +1,7 @@
 //! The word that tells the height to all threads, and the seats of those who read it.
 
 use atomic_table::{Join, Play, Seat, Split, Table, TableRule};
-use genesis::Genesis;
+use chain_core::Core;
 use std::alloc::Global;
 use std::marker::{Brand, Model, PhantomData};
 use witness_pool::SigScheme;
@@ -28,16 +28,17 @@ pub struct HeightRule<S: SigScheme> {
     scheme: PhantomData<S>,
 }
 
-impl<S: SigScheme> TableRule<(), View, Genesis> for HeightRule<S> {
+impl<S: SigScheme> TableRule<(), View, Core<S>> for HeightRule<S> {
     ghost use Rattle.shared.specs.Heights.{IsKept, first_view};
+    ghost use Rattle.shared.specs.Starts.{start_of};
 
-    ghost holds = { IsKept S.verifies };
+    ghost holds = { λ held. IsKept S.verifies (start_of held) };
 
-    ghost first = { first_view };
+    ghost first = { λ held. first_view (start_of held) };
 }
 
 /// The word that tells the height, beside the rule.
-pub type Heights<S> = Table<(), View, Genesis, HeightRule<S>, Global>;
+pub type Heights<S> = Table<(), View, Core<S>, HeightRule<S>, Global>;
 
 /// A seat of one who reads or writes the height.
 pub type HeightSeat = Seat<(), View>;

@@ -1,15 +1,15 @@
 //! The journal of all calls, and the seat that has the right to write the height between them.
 
 ghost use Rattle.std.specs.Prelude.{◌≡◌, ◌++◌, [], ◌∷◌};
-ghost use Rattle.model.specs.Ledger.{network_of};
-ghost use Rattle.model.specs.Journal.{IsCalled, BeginsWithSeen};
+ghost use Rattle.shared.specs.Starts.{network_from};
+ghost use Rattle.model.specs.Journal.{IsCalled};
 ghost use Rattle.shared.specs.Meeting.{IsInformed};
 ghost use Rattle.shared.specs.Standing.{IsHeightOf, IsCoreOf};
 
 use crate::caller_seat::CallerSeat;
 use crate::heights::{HeightSeat, Heights};
 use crate::journal_entry::JournalEntry;
-use crate::meeting::{measure, tell};
+use crate::meeting::tell;
 use crate::room::Room;
 use crate::sealing::seal;
 use chain_core::Core;
@@ -49,32 +49,22 @@ impl<B: Room> Journal<B> {
         core: &Core<S>,
         entry: &JournalEntry<'_, S>,
     )
-        requires heights { IsHeightOf B.table B.genesis heights.now }
+        requires heights { IsHeightOf B.table B.start heights.now }
         requires own { entry.now.caller ≡ caller.old.caller }
-        requires core { IsCoreOf S.verifies B.genesis (self.old ++ entry.now ∷ []) core.now }
+        requires core { IsCoreOf S.verifies B.start (self.old ++ entry.now ∷ []) core.now }
         ensures entries { self.new ≡ self.old ++ entry.now ∷ [] }
         ensures seen { caller.new.seen ≡ self.new }
-        ensures called { IsCalled (network_of B.genesis S.verifies) caller.old entry.now caller.new }
+        ensures called { IsCalled (network_from B.start S.verifies) caller.old entry.now caller.new }
     {
         let height = core.height();
         seal(heights, &mut self.writer, &mut caller.seat, entry, height);
     }
 
-    /// What the caller has seen begins the journal; nothing changes. A few steps on the word, which take no memory.
-    pub fn compare<S: SigScheme>(&mut self, heights: &Heights<S>, caller: &mut CallerSeat<B>)
-        requires heights { IsHeightOf B.table B.genesis heights.now }
-        ensures entries { self.new ≡ self.old }
-        ensures caller { caller.new ≡ caller.old }
-        ensures begins { BeginsWithSeen self.old caller.old.seen }
-    {
-        measure(heights, &mut self.writer, &mut caller.seat);
-    }
-
     /// The caller has then seen the whole journal, and has looked at the height.
     pub fn tell<S: SigScheme>(&mut self, heights: &Heights<S>, caller: &mut CallerSeat<B>)
-        requires heights { IsHeightOf B.table B.genesis heights.now }
+        requires heights { IsHeightOf B.table B.start heights.now }
         ensures entries { self.new ≡ self.old }
-        ensures informed { IsInformed (network_of B.genesis S.verifies) self.old caller.old caller.new }
+        ensures informed { IsInformed (network_from B.start S.verifies) self.old caller.old caller.new }
     {
         tell(heights, &mut self.writer, &mut caller.seat);
     }

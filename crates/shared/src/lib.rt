@@ -1,4 +1,5 @@
 //! One core for many threads: a lock, the journal of all calls, and the height in a word that is read without the lock.
+//! It begins from a genesis, or from a chain that a core was opened on (`Opened::on`).
 //!
 //! ```text
 //! // In a function for every `B: Room` and `M: Mailroom`, which a program calls with `Brand` for both, on
@@ -12,6 +13,8 @@
 //! let height = shared.height(&mut callers[0]); // 1, without the lock
 //! let follower = shared.open(rt, &mut callers[0])?; // FollowerId { number: 0 }
 //! let told = shared.next(rt, &mut callers[1], follower)?; // Some(Instruction::AddBlock(block)): that block
+//! let tip = shared.tip(rt, &mut callers[1]); // its number is 1; a question stands in no journal
+//! let forged = shared.forge(rt, &mut callers[1], 2)?; // the block that comes next in slot 2, for a peer to send
 //! ```
 #![tactic(auto)]
 
@@ -21,6 +24,7 @@ mod caller;
 mod caller_seat;
 mod desk;
 mod faults;
+mod handles;
 mod heights;
 mod journal;
 mod journal_entry;

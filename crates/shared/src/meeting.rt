@@ -10,7 +10,7 @@ use crate::sealing::{compare, look};
 use witness_pool::SigScheme;
 
 /// A note of the seat goes to the writer, and a look tells that what the writer has seen begins with it.
-pub fn measure<S: SigScheme>(heights: &Heights<S>, writer: &mut HeightSeat, seat: &mut HeightSeat)
+fn measure<S: SigScheme>(heights: &Heights<S>, writer: &mut HeightSeat, seat: &mut HeightSeat)
     requires word { heights.now.shared.table_id.words ≡ 1 }
     requires writer { writer.old.table_id ≡ heights.now.shared.table_id }
     requires right { writer.old.me.0.writes ≡ true }

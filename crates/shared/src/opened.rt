@@ -2,7 +2,9 @@
 
 ghost use Rattle.std.specs.Prelude.{◌≡◌, [], IfOk, IfErr, OnOk};
 ghost use Rattle.shared.specs.Heights.{first_view, has_dealt, new_caller, Deals};
+ghost use Rattle.model.specs.Chain.{IsOpening};
 ghost use Rattle.shared.specs.Opening.{IsOpenFault, newcomers};
+ghost use Rattle.shared.specs.Starts.{network_from, new_start, start_of, IsUntouched};
 
 use crate::caller::Caller;
 use crate::caller_seat::CallerSeat;
@@ -54,7 +56,7 @@ impl<S: SigScheme> Model for Opened<S> {
 
     ghost view = { opened_view };
 
-    ghost invariant = { IsOpenedInside };
+    ghost invariant = { IsOpenedInside S.verifies };
 }
 
 /// A seat for the calls of a new caller.
@@ -78,10 +80,10 @@ fn deal_all<S: SigScheme, B: Room>(
     requires word { heights.now.shared.table_id.words ≡ 1 }
     requires table { heights.now.shared.table_id ≡ B.table }
     requires seat { seat.old.table_id ≡ heights.now.shared.table_id }
-    requires first { seat.old.me ≡ (first_view B.genesis, []) }
+    requires first { seat.old.me ≡ (first_view B.start, []) }
     ensures all { IfOk result (λ all. all.items ≡ newcomers count) }
     ensures table { seat.new.table_id ≡ seat.old.table_id }
-    ensures seat { OnOk result (seat.new.me ≡ (record (first_view B.genesis) { role = Deals count }, [])) }
+    ensures seat { OnOk result (seat.new.me ≡ (record (first_view B.start) { role = Deals count }, [])) }
 {
     let mut all = Vec::with_capacity(alloc, count)?;
     for number in 0..count as u64 {
@@ -99,18 +101,34 @@ fn deal_all<S: SigScheme, B: Room>(
 }
 
 impl<S: SigScheme> Opened<S> {
-    /// A core of this genesis for so many callers, 1 to 64, before anything arrived. Err `BadCallers` where they are
-    /// fewer or more, and `OutOfMemory` only where they aren't. Takes what [`Core::new`] takes.
+    /// A new core of this genesis for so many callers, 1 to 64. Err `BadCallers` where they are fewer or more, and
+    /// `OutOfMemory` only where they aren't. Takes what [`Core::new`] takes.
     pub fn new(alloc: Global, genesis: Genesis, callers: usize) -> Result<Opened<S>, OpenFault>
-        ensures genesis { IfOk result (λ opened. opened.genesis ≡ genesis) }
+        ensures start { IfOk result (λ opened. opened.start ≡ new_start genesis) }
         ensures callers { IfOk result (λ opened. opened.callers ≡ callers) }
         ensures fault { IfErr result (IsOpenFault callers) }
     {
         if callers == 0 || callers > MAX_CALLERS {
             return Err(OpenFault::BadCallers);
         }
-        let (heights, seat) = Table::of_words(alloc, &[0], &genesis)?;
         let core = Core::new(alloc, genesis)?;
+        Opened::on(alloc, core, callers)
+    }
+
+    /// A shared core on what [`Core::reopen`] opened, to which nothing came since, for so many callers, 1 to 64. Its
+    /// journal begins there, and its height is that of the chain. Err as for [`Opened::new`]. Takes the memory of one
+    /// word.
+    pub fn on(alloc: Global, core: Core<S>, callers: usize) -> Result<Opened<S>, OpenFault>
+        requires { IsUntouched S.verifies core }
+        ensures start { IfOk result (λ opened. opened.start ≡ start_of core) }
+        ensures callers { IfOk result (λ opened. opened.callers ≡ callers) }
+        ensures fault { IfErr result (IsOpenFault callers) }
+    {
+        if callers == 0 || callers > MAX_CALLERS {
+            return Err(OpenFault::BadCallers);
+        }
+        let height = core.height();
+        let (heights, seat) = Table::of_words(alloc, &[height], &core)?;
         Ok(Opened {
             alloc,
             callers,
@@ -124,9 +142,11 @@ impl<S: SigScheme> Opened<S> {
     /// generic in the name, for which a program passes `Brand`. Err where memory runs out. Linear in the callers.
     pub fn named<B: Room>(self) -> Result<(Shared<S, B>, Vec<Caller<B>>), AllocError>
         requires table { self.table ≡ B.table }
-        requires genesis { self.genesis ≡ B.genesis }
+        requires start { self.start ≡ B.start }
         // No caller made a call or has seen anything.
-        ensures { IfOk result (λ opened. opened.1.items ≡ newcomers self.callers) }
+        ensures callers { IfOk result (λ opened. opened.1.items ≡ newcomers self.callers) }
+        // What it begins from is sound: the chain that it was opened on is valid, and its blocks have texts.
+        ensures opens { OnOk result (IsOpening (network_from B.start S.verifies)) }
     {
         let Opened {
             alloc,

@@ -1,7 +1,7 @@
 //! A call is written into the journal that the height's rule knows.
 
 ghost use Rattle.std.specs.Prelude.{◌≡◌, ◌++◌, [], ◌∷◌, true};
-ghost use Rattle.model.specs.Ledger.{network_of};
+ghost use Rattle.shared.specs.Starts.{network_from, start_of};
 ghost use Rattle.model.specs.Journal.{IsLegalJournal};
 ghost use Rattle.shared.specs.Heights.{height_after, without_right, note_of, with_note, Spent, Calls, IsLooked};
 ghost use Rattle.shared.specs.Heights.{IsCompared, IsWritten};
@@ -65,9 +65,10 @@ fn store<S: SigScheme, E: Written>(
     requires seat { seat.old.table_id ≡ heights.now.shared.table_id }
     requires right { seat.old.me.0.writes ≡ true }
     requires own { seat.old.me.0.role ≡ Calls entry.now.caller }
-    requires legal { IsLegalJournal (network_of heights.now.shared.key S.verifies)
+    requires legal { IsLegalJournal (network_from (start_of heights.now.shared.key) S.verifies)
         (seat.old.me.0.seen ++ entry.now ∷ []) }
-    requires height { height ≡ height_after (seat.old.me.0.seen ++ entry.now ∷ []) }
+    requires height { height ≡ height_after (start_of heights.now.shared.key)
+        (seat.old.me.0.seen ++ entry.now ∷ []) }
     ensures written { IsWritten entry.now seat.old.me.0 seat.new.me.0 }
     ensures same { (seat.new.table_id ≡ seat.old.table_id) × (seat.new.me.1 ≡ seat.old.me.1) }
 {
@@ -89,9 +90,10 @@ pub fn seal<S: SigScheme>(
     requires serves { writer.old.me.0.role ≡ Spent → ⊥ }
     requires seat { seat.old.table_id ≡ heights.now.shared.table_id }
     requires own { seat.old.me.0.role ≡ Calls entry.now.caller }
-    requires legal { IsLegalJournal (network_of heights.now.shared.key S.verifies)
+    requires legal { IsLegalJournal (network_from (start_of heights.now.shared.key) S.verifies)
         (writer.old.me.0.seen ++ entry.now ∷ []) }
-    requires height { height ≡ height_after (writer.old.me.0.seen ++ entry.now ∷ []) }
+    requires height { height ≡ height_after (start_of heights.now.shared.key)
+        (writer.old.me.0.seen ++ entry.now ∷ []) }
     ensures sealed { IsSealed writer.old.me.0 entry.now seat.old.me.0 seat.new.me.0 }
     ensures writer { IsWriterAfter writer.old.me.0 entry.now writer.new.me.0 }
     ensures seat_same { (seat.new.table_id ≡ seat.old.table_id) × (seat.new.me.1 ≡ seat.old.me.1) }

@@ -1,10 +1,15 @@
 //! One core for many threads.
 
-ghost use Rattle.std.specs.Prelude.{◌≡◌, ℕ, Ok, IfOk, IfErr, OnOk, OnErr, map};
+ghost use Rattle.std.specs.Prelude.{◌≡◌, ◌↔◌, ◌≤◌, ℕ, Ok, Some, IfOk, IfErr, OnOk, OnErr, IsTrue, length, map};
+ghost use Rattle.std.specs.Arc.{arc_value};
 ghost use Rattle.std.specs.List.{AllByRecursion};
-ghost use Rattle.model.specs.Ledger.{network_of};
+ghost use Rattle.model.specs.Ledger.{Ledger, ledger_of};
+ghost use Rattle.shared.specs.Starts.{network_from};
 ghost use Rattle.model.specs.History.{Submit, Open, Next, Forward, Close};
 ghost use Rattle.model.specs.Journal.{IsCalled, IsLook, IsMeeting};
+ghost use Rattle.model.specs.Chain.{IsOpening, genesis_tip, tip_after, tip_point, immutable_length};
+ghost use Rattle.model.specs.Follower.{Follower, follower_of};
+ghost use Rattle.model.specs.Limits.{block_size_limit};
 ghost use Rattle.model.specs.Log.{IsLogBlock};
 ghost use Rattle.ident.specs.PointView.{point_of};
 ghost use Rattle.inbox.specs.Arrivals.{IsPeer};
@@ -12,27 +17,33 @@ ghost use Rattle.chain_core.specs.Views.{arrive_reply_of, submit_reply_of, open_
 ghost use Rattle.chain_core.specs.Views.{forward_reply_of, close_reply_of};
 ghost use Rattle.chain_core.specs.Calls.{IsWantAtSubmission};
 ghost use Rattle.shared.specs.Answers.{IsAnswered};
+ghost use Rattle.chain_core.specs.Numbers.{block_numbered};
 ghost use Rattle.chain_core.specs.Reopening.{texts_in};
 ghost use Rattle.shared.specs.Copies.{AreCopiesAfter};
-ghost use Rattle.shared.specs.Wants.{IsWantAtOpening, IsWantAtTelling};
-ghost use Rattle.shared.specs.Standing.{IsHeightOf};
+ghost use Rattle.shared.specs.Asking.{IsAsked};
+ghost use Rattle.chain_core.specs.ForgedBlocks.{IsForgeFault};
+ghost use Rattle.shared.specs.Forging.{IsForgedOf};
+ghost use Rattle.shared.specs.Standing.{IsHeightOf, height_is_fact};
 ghost use Rattle.shared.specs.Entries.{call_by, arrival_by};
 
 use crate::caller::Caller;
 use crate::caller_seat::CallerSeat;
 use crate::desk::Desk;
 use crate::faults::NotArrived;
+use crate::handles::{copy_handles, share_block};
 use crate::heights::Heights;
 use crate::room::Room;
-use block::Seen;
+use block::{CheckedBlock, Seen};
 use chain_core::{
-    ArriveReply, FollowerId, Instruction, NextFault, OpenFollowerFault, UnknownFollower,
+    ArriveReply, FollowerId, ForgeFault, Forged, Instruction, NextFault, OpenFollowerFault,
+    UnknownFollower,
 };
 use ident::Point;
 use mempool::SubmitReply;
-use std::alloc::AllocError;
-use std::sync::{Mutex, Wait};
-use witness_pool::SigScheme;
+use std::alloc::{AllocError, Global};
+use std::sync::{Arc, Mutex, Wait};
+use utxo_rules::Utxo;
+use witness_pool::{CheckedTx, SigScheme};
 
 /// A core that threads share. Calls take turns under one lock, in the order of one journal; the height is read without
 /// the lock.
@@ -44,7 +55,7 @@ use witness_pool::SigScheme;
 pub struct Shared<S: SigScheme, B: Room> {
     pub(crate) heights: Heights<S>,
     pub(crate) desk: Mutex<Desk<S, B>>,
-    pub(crate) ghost word: { IsHeightOf B.table B.genesis heights },
+    pub(crate) ghost word: { IsHeightOf B.table B.start heights } by { height_is_fact B.table B.start heights },
 }
 
 // By hand, so that each exit calls it: the derived one is copied to each exit of each owner.
@@ -62,7 +73,7 @@ impl<S: SigScheme, B: Room> Shared<S, B> {
     /// caller reads is never less than what it read before, nor than after its own last call.
     pub fn height(&self, caller: &mut Caller<B>) -> u64
         // It is the length of the chain after a legal journal, which begins with all that the caller had seen.
-        ensures { IsLook (network_of B.genesis S.verifies) caller.old result caller.new }
+        ensures { IsLook (network_from B.start S.verifies) caller.old result caller.new }
     {
         caller.seat.look(&self.heights)
     }
@@ -76,7 +87,7 @@ impl<S: SigScheme, B: Room> Shared<S, B> {
         caller: &mut Caller<B>,
         bytes: &[u8],
     ) -> Result<SubmitReply, AllocError>
-        ensures called { IfOk result (λ reply. IsCalled (network_of B.genesis S.verifies) caller.old
+        ensures called { IfOk result (λ reply. IsCalled (network_from B.start S.verifies) caller.old
             (call_by caller.old.caller (Submit bytes.now) (submit_reply_of (Ok reply))) caller.new) }
         // Where the bytes are the text of a transaction without parts, no memory is asked for.
         ensures memory { OnErr result (IsWantAtSubmission bytes.now) }
@@ -96,10 +107,8 @@ impl<S: SigScheme, B: Room> Shared<S, B> {
     ) -> Result<FollowerId, OpenFollowerFault>
         // Unless memory ran out, the caller has then seen a legal journal that begins with all that it had seen and
         // ends with this call and its reply.
-        ensures answered { IsAnswered (network_of B.genesis S.verifies) caller.old Open (open_reply_of result)
+        ensures answered { IsAnswered (network_from B.start S.verifies) caller.old Open (open_reply_of result)
             caller.new }
-        // Memory is asked for only where a number is free.
-        ensures memory { IsWantAtOpening S.verifies B.genesis caller.old.seen (open_reply_of result) }
     {
         let mut desk = self.desk.lock(rt);
         desk.open(&self.heights, &mut caller.seat)
@@ -114,11 +123,8 @@ impl<S: SigScheme, B: Room> Shared<S, B> {
         caller: &mut Caller<B>,
         id: FollowerId,
     ) -> Result<Option<Instruction<S>>, NextFault>
-        ensures answered { IsAnswered (network_of B.genesis S.verifies) caller.old (Next id.number)
+        ensures answered { IsAnswered (network_from B.start S.verifies) caller.old (Next id.number)
             (next_reply_of result) caller.new }
-        // Memory is asked for only where a block comes next.
-        ensures memory { IsWantAtTelling S.verifies B.genesis caller.old.seen id.number
-            (next_reply_of result) }
     {
         let mut desk = self.desk.lock(rt);
         desk.next(&self.heights, &mut caller.seat, id)
@@ -134,7 +140,7 @@ impl<S: SigScheme, B: Room> Shared<S, B> {
         id: FollowerId,
         points: &[Point],
     ) -> Result<Option<Point>, UnknownFollower>
-        ensures { IsCalled (network_of B.genesis S.verifies) caller.old (call_by caller.old.caller
+        ensures { IsCalled (network_from B.start S.verifies) caller.old (call_by caller.old.caller
             (Forward id.number (map point_of points.now)) (forward_reply_of result)) caller.new }
     {
         let mut desk = self.desk.lock(rt);
@@ -150,7 +156,7 @@ impl<S: SigScheme, B: Room> Shared<S, B> {
         caller: &mut Caller<B>,
         id: FollowerId,
     ) -> Result<(), UnknownFollower>
-        ensures { IsCalled (network_of B.genesis S.verifies) caller.old
+        ensures { IsCalled (network_from B.start S.verifies) caller.old
             (call_by caller.old.caller (Close id.number) (close_reply_of result)) caller.new }
     {
         let mut desk = self.desk.lock(rt);
@@ -168,16 +174,159 @@ impl<S: SigScheme, B: Room> Shared<S, B> {
         from: u64,
     ) -> Result<Vec<Vec<u8>>, AllocError>
         ensures look { OnOk result ((height : ℕ)
-            × IsLook (network_of B.genesis S.verifies) caller.old height caller.new) }
+            × IsLook (network_from B.start S.verifies) caller.old height caller.new) }
         // They are those after the journal that the caller has then seen.
-        ensures copies { IfOk result (λ texts. AreCopiesAfter (network_of B.genesis S.verifies) caller.new.seen from
+        ensures copies { IfOk result (λ texts. AreCopiesAfter (network_from B.start S.verifies) caller.new.seen from
             (texts_in texts.items)) }
         // Each has 1 to 1,048,576 bytes.
         ensures sizes { IfOk result (λ texts. AllByRecursion IsLogBlock (texts_in texts.items)) }
+        // What the core begins from is sound: the chain that it was opened on is valid, and its blocks have texts.
+        ensures opens { IsOpening (network_from B.start S.verifies) }
         ensures err { OnErr result (caller.new ≡ caller.old) }
     {
         let mut desk = self.desk.lock(rt);
         desk.copy(&self.heights, &mut caller.seat, from)
+    }
+
+    /// The last block of the selected chain, or the genesis point. The journal has nothing of it; the caller has then
+    /// seen all of the journal, and looked at the height. Waits for the lock. In constant time; takes no memory.
+    pub fn tip<R: Wait>(&self, rt: &R, caller: &mut Caller<B>) -> Point
+        ensures { IsAsked (network_from B.start S.verifies) caller.old caller.new
+            (λ s. point_of result ≡ tip_point s.chain) }
+    {
+        let mut desk = self.desk.lock(rt);
+        desk.tell(&self.heights, &mut caller.seat);
+        desk.core().tip()
+    }
+
+    /// The slot of the selected chain's last block, and 0 where it has none. The journal has nothing of it; the caller
+    /// has then seen all of the journal, and looked at the height. Waits for the lock. In constant time; takes no
+    /// memory.
+    pub fn slot<R: Wait>(&self, rt: &R, caller: &mut Caller<B>) -> u64
+        ensures { IsAsked (network_from B.start S.verifies) caller.old caller.new
+            (λ s. result ≡ (tip_after genesis_tip s.chain).slot) }
+    {
+        let mut desk = self.desk.lock(rt);
+        desk.tell(&self.heights, &mut caller.seat);
+        desk.core().slot()
+    }
+
+    /// How many blocks of the selected chain are never rolled back: all but the last k, and at least those that the
+    /// core was opened on. The journal has nothing of it; the caller has then seen all of the journal, and looked at
+    /// the height. Waits for the lock. In constant time; takes no memory.
+    pub fn immutable<R: Wait>(&self, rt: &R, caller: &mut Caller<B>) -> u64
+        ensures { IsAsked (network_from B.start S.verifies) caller.old caller.new
+            (λ s. result ≡ immutable_length (network_from B.start S.verifies) s.chain) }
+    {
+        let mut desk = self.desk.lock(rt);
+        desk.tell(&self.heights, &mut caller.seat);
+        desk.core().immutable()
+    }
+
+    /// The block of this number of the selected chain, from 1 to its height, and else None: the one that the core
+    /// keeps, shared; none of its bytes are copied. The journal has nothing of it; the caller has then seen all of the
+    /// journal, and looked at the height. Err where 2^63 - 1 owners share the block already, and then nothing changes.
+    /// Waits for the lock. In constant time; takes no memory.
+    pub fn block<R: Wait>(
+        &self,
+        rt: &R,
+        caller: &mut Caller<B>,
+        number: u64,
+    ) -> Result<Option<CheckedBlock<S>>, AllocError>
+        ensures block { IfOk result (λ found. IsAsked (network_from B.start S.verifies) caller.old caller.new
+            (λ s. found ≡ block_numbered s.chain number)) }
+        ensures err { OnErr result (caller.new ≡ caller.old) }
+    {
+        let mut desk = self.desk.lock(rt);
+        let found = share_block(desk.core().checked_block(number))?;
+        desk.tell(&self.heights, &mut caller.seat);
+        Ok(found)
+    }
+
+    /// The fees of all transactions of the selected chain, in lovelace. The journal has nothing of it; the caller has
+    /// then seen all of the journal, and looked at the height. Waits for the lock. In constant time; takes no memory.
+    pub fn fees<R: Wait>(&self, rt: &R, caller: &mut Caller<B>) -> u64
+        // They are those of the fold of the rules over the chain.
+        ensures { IsAsked (network_from B.start S.verifies) caller.old caller.new
+            (λ s. (ledger : Ledger) × (ledger_of (network_from B.start S.verifies) s.chain ≡ Some ledger)
+            × (result ≡ ledger.fees)) }
+    {
+        let mut desk = self.desk.lock(rt);
+        desk.tell(&self.heights, &mut caller.seat);
+        desk.core().fees()
+    }
+
+    /// The unspent outputs of the selected chain. They share all their nodes with those of the core, which goes on
+    /// beside them: who walks them has no lock. The journal has nothing of it; the caller has then seen all of the
+    /// journal, and looked at the height. Err where 2^63 copies share them already, and then nothing changes. Waits for
+    /// the lock. In constant time; takes no memory.
+    pub fn utxo<R: Wait>(&self, rt: &R, caller: &mut Caller<B>) -> Result<Utxo, AllocError>
+        // They are those of the fold of the rules over the chain.
+        ensures utxo { IfOk result (λ utxo. IsAsked (network_from B.start S.verifies) caller.old caller.new
+            (λ s. (ledger : Ledger) × (ledger_of (network_from B.start S.verifies) s.chain ≡ Some ledger)
+            × (utxo ≡ ledger.utxo))) }
+        ensures err { OnErr result (caller.new ≡ caller.old) }
+    {
+        let mut desk = self.desk.lock(rt);
+        let utxo = desk.core().utxo().try_clone()?;
+        desk.tell(&self.heights, &mut caller.seat);
+        Ok(utxo)
+    }
+
+    /// The transactions that wait to come into a block, in the order in which they came, as handles that share them
+    /// with the core. The journal has nothing of it; the caller has then seen all of the journal, and looked at the
+    /// height. Where memory runs out nothing changes. Waits for the lock, and holds it for a few steps a transaction;
+    /// copies none.
+    pub fn mempool<R: Wait>(
+        &self,
+        rt: &R,
+        caller: &mut Caller<B>,
+        alloc: Global,
+    ) -> Result<Vec<Arc<CheckedTx<S>>>, AllocError>
+        ensures mempool { IfOk result (λ handles. IsAsked (network_from B.start S.verifies) caller.old caller.new
+            (λ s. map arc_value handles.items ≡ s.mempool)) }
+        ensures err { OnErr result (caller.new ≡ caller.old) }
+    {
+        let mut desk = self.desk.lock(rt);
+        let handles = copy_handles(alloc, desk.core().mempool())?;
+        desk.tell(&self.heights, &mut caller.seat);
+        Ok(handles)
+    }
+
+    /// Whether a follower of this number is open. The journal has nothing of it; the caller has then seen all of the
+    /// journal, and looked at the height. Waits for the lock. In constant time; takes no memory.
+    pub fn is_open<R: Wait>(&self, rt: &R, caller: &mut Caller<B>, id: FollowerId) -> bool
+        ensures { IsAsked (network_from B.start S.verifies) caller.old caller.new
+            (λ s. IsTrue result ↔ ((f : Follower) × (follower_of s.followers id.number ≡ Some f))) }
+    {
+        let mut desk = self.desk.lock(rt);
+        desk.tell(&self.heights, &mut caller.seat);
+        desk.core().is_open(id)
+    }
+
+    /// Forges the block that comes next on the selected chain in this slot, as [`chain_core::Core::forge`] does, of the
+    /// transactions that wait. Nothing changes in the core, and the journal has nothing of it; the caller has then seen
+    /// all of the journal, and looked at the height. Where another block was put on meanwhile, it comes too late. Err
+    /// tells the first that applies: the slot isn't after the tip's, it or the number is 2^63 or more, or memory ran
+    /// out.
+    ///
+    /// Waits for the lock, and holds it for what that call costs: each transaction that waits is judged once.
+    pub fn forge<R: Wait>(
+        &self,
+        rt: &R,
+        caller: &mut Caller<B>,
+        slot: u64,
+    ) -> Result<Forged, ForgeFault>
+        // It is the block that the definitions say, beside the state that the journal leaves, with its text and its
+        // place; and where its bytes arrive next there it is put on.
+        ensures forged { IfOk result (λ f. IsAsked (network_from B.start S.verifies) caller.old caller.new
+            (λ s. IsForgedOf (network_from B.start S.verifies) s slot f.bytes.items f.point)) }
+        // Else it is the first fault that applies there, or memory ran out and none does.
+        ensures fault { IfErr result (λ fault. IsAsked (network_from B.start S.verifies) caller.old caller.new
+            (λ s. IsForgeFault (network_from B.start S.verifies) s.chain slot fault)) }
+    {
+        let mut desk = self.desk.lock(rt);
+        desk.forge(&self.heights, &mut caller.seat, slot)
     }
 
     /// Bytes of a block arrive that a peer sent, brought by the caller of this seat, which has seen what they are. The
@@ -192,8 +341,9 @@ impl<S: SigScheme, B: Room> Shared<S, B> {
     ) -> Result<ArriveReply, NotArrived>
         requires peer { IsPeer peer }
         requires seen { seen ≡ bytes.items }
-        ensures called { IfOk result (λ reply. IsCalled (network_of B.genesis S.verifies) caller.old
+        ensures called { IfOk result (λ reply. IsCalled (network_from B.start S.verifies) caller.old
             (arrival_by caller.old.caller peer bytes.items (arrive_reply_of (Ok reply))) caller.new) }
+        ensures size { OnErr result (length bytes.items ≤ block_size_limit) }
         ensures err { OnErr result (caller.new ≡ caller.old) }
         ensures back { IfErr result (λ e. e.bytes ≡ bytes) }
     {
@@ -208,7 +358,7 @@ impl<S: SigScheme, B: Room> Shared<S, B> {
         one: &mut CallerSeat<B>,
         other: &mut CallerSeat<B>,
     )
-        ensures { IsMeeting (network_of B.genesis S.verifies) one.old other.old one.new other.new }
+        ensures { IsMeeting (network_from B.start S.verifies) one.old other.old one.new other.new }
     {
         let mut desk = self.desk.lock(rt);
         desk.meet(&self.heights, one, other);
@@ -217,7 +367,7 @@ impl<S: SigScheme, B: Room> Shared<S, B> {
     /// Two callers meet: each looks at the height, and has then seen the same journal, which begins with all that it
     /// had seen. Waits for the lock. A few steps on the word of the height; takes no memory, and writes nothing.
     pub fn meet<R: Wait>(&self, rt: &R, one: &mut Caller<B>, other: &mut Caller<B>)
-        ensures { IsMeeting (network_of B.genesis S.verifies) one.old other.old one.new other.new }
+        ensures { IsMeeting (network_from B.start S.verifies) one.old other.old one.new other.new }
     {
         self.meet_seats(rt, &mut one.seat, &mut other.seat);
     }

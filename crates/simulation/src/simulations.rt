@@ -326,7 +326,7 @@ fn simulate<B: Room + Send + Sync, R: Threads + Wait + Sync + AllocGlobal, G: Ga
     gate: &G,
 ) -> Result<Summary, AllocError>
     requires table { core.table ≡ B.table }
-    requires genesis { core.genesis ≡ B.genesis }
+    requires start { core.start ≡ B.start }
     ensures { IfOk result (λ summary. length summary.told.items + 1 ≡ core.callers) }
 {
     let (shared, callers) = core.named::<B>()?;

@@ -33,7 +33,7 @@ struct Parts<B: Room, M: Mailroom> {
 /// The core under its name, in a box, whose drop is a call.
 fn name_core<B: Room>(alloc: Global, opened: Opened<TestScheme>) -> Option<Box<Named<B>>>
     requires table { opened.table ≡ B.table }
-    requires genesis { opened.genesis ≡ B.genesis }
+    requires start { opened.start ≡ B.start }
 {
     let (shared, callers) = opened.named::<B>().ok()?;
     Box::new(alloc, Named { shared, callers }).ok()
@@ -53,7 +53,7 @@ fn name_all<B: Room, M: Mailroom>(
     inbox: inbox::Opened,
 ) -> Option<Parts<B, M>>
     requires table { opened.table ≡ B.table }
-    requires genesis { opened.genesis ≡ B.genesis }
+    requires start { opened.start ≡ B.start }
     requires queue { inbox.table ≡ M.table }
     requires capacity { inbox.capacity ≡ M.capacity }
 {
@@ -160,7 +160,7 @@ fn plays<B: Room, M: Mailroom, R: Threads + Wait + Sync>(
     told: &mut Told,
 ) -> bool
     requires table { opened.table ≡ B.table }
-    requires genesis { opened.genesis ≡ B.genesis }
+    requires start { opened.start ≡ B.start }
     requires queue { inbox.table ≡ M.table }
     requires capacity { inbox.capacity ≡ M.capacity }
 {

@@ -44,7 +44,7 @@ fn taken_in_turns<B: Room, M: Mailroom, R: Threads + Wait + Abort + AllocGlobal 
     inbox: inbox::Opened,
 )
     requires table { opened.table ≡ B.table }
-    requires genesis { opened.genesis ≡ B.genesis }
+    requires start { opened.start ≡ B.start }
     requires queue { inbox.table ≡ M.table }
     requires capacity { inbox.capacity ≡ M.capacity }
 {

@@ -101,7 +101,7 @@ fn called_beside_an_adder<B: Room, M: Mailroom, R: Threads + Wait + Abort + Allo
     inbox: inbox::Opened,
 )
     requires table { opened.table ≡ B.table }
-    requires genesis { opened.genesis ≡ B.genesis }
+    requires start { opened.start ≡ B.start }
     requires queue { inbox.table ≡ M.table }
     requires capacity { inbox.capacity ≡ M.capacity }
 {

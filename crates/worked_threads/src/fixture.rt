@@ -1,11 +1,18 @@
 //! The small network, blocks and payments by the lines of scripts, and the parts of a shared core.
 
-ghost use Rattle.std.specs.Prelude.{◌≡◌};
+ghost use Rattle.std.specs.Prelude.{◌≡◌, []};
+ghost use Rattle.model.specs.Chain.{IsOpening};
+ghost use Rattle.model.specs.Signature.{test_verifies};
+ghost use Rattle.shared.specs.Starts.{network_from};
 
+use file_disk::FileDisk;
 use genesis::Genesis;
+use immlog::Log;
 use inbox::{Mailroom, PEERS, PeerEnd};
 use script::{LinePlace, Names};
 use shared::{Adder, Caller, OpenFault, Opened, Room, Shared};
+use std::fs::OpenFile;
+use std::io::{Read, Seek, Write};
 use std::process::Abort;
 use std::sync::Wait;
 use std::thread::Threads;
@@ -110,9 +117,11 @@ pub fn parts_of<G: Gate + Drop, B: Room, M: Mailroom>(
     inbox: inbox::Opened,
 ) -> Box<Parts<G, B, M>>
     requires table { opened.table ≡ B.table }
-    requires genesis { opened.genesis ≡ B.genesis }
+    requires start { opened.start ≡ B.start }
     requires queue { inbox.table ≡ M.table }
     requires capacity { inbox.capacity ≡ M.capacity }
+    // What the core begins from is sound.
+    ensures { IsOpening (network_from B.start test_verifies) }
 {
     let (shared, mut callers) = opened.named::<B>().expect(rt, MEMORY);
     let (peers, end) = inbox.named::<M>().expect(rt, MEMORY);
@@ -178,4 +187,44 @@ where
     R: Threads + Wait + Abort + Sync,
 {
     adder.drain(rt, shared, peers).expect(rt, MEMORY);
+}
+
+/// A chain of so many blocks, by lines of scripts.
+pub fn chain_lines(rt: &(impl Abort + AllocGlobal), blocks: usize) -> String {
+    let mut lines = String::new(rt.alloc());
+    lines.push_str("block B1 genesis 1\n").expect(rt, MEMORY);
+    for number in 2..=blocks {
+        let before = number.saturating_sub(1);
+        let line = format!(in rt.alloc(); "block B{number} B{before} {number}\n");
+        lines.push_str(&line.expect(rt, MEMORY)).expect(rt, MEMORY);
+    }
+    lines
+}
+
+/// The peers send the blocks of these numbers in turns, each the next one.
+pub fn send_blocks<M: Mailroom, R: Wait + Abort + AllocGlobal>(
+    rt: &R,
+    peers: &mut [PeerEnd<M>; PEERS],
+    names: &Names,
+    first: usize,
+    last: usize,
+) {
+    for number in first..=last {
+        let name = format!(in rt.alloc(); "B{number}").expect(rt, MEMORY);
+        sends(rt, &mut peers[number % PEERS], bytes_of(rt, names, &name));
+    }
+}
+
+/// A log without blocks, on this file.
+pub fn log_on<F: Read + Write + Seek + OpenFile + Drop>(
+    rt: &(impl Abort + AllocGlobal),
+    file: F,
+) -> Log<FileDisk<F>>
+    ensures { result.blocks ≡ [] }
+{
+    let disk = FileDisk::open(rt.alloc(), file).expect(rt, MEMORY);
+    match Log::create(rt.alloc(), disk) {
+        Ok(log) => log,
+        Err(_) => rt.abort(),
+    }
 }

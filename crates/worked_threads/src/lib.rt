@@ -5,6 +5,8 @@
 #[cfg(test)]
 mod adder_tests;
 #[cfg(test)]
+mod asking_tests;
+#[cfg(test)]
 mod caller_tests;
 #[cfg(test)]
 mod disk_tests;
@@ -20,5 +22,7 @@ mod gated_file;
 mod log_tests;
 #[cfg(test)]
 mod pool_tests;
+#[cfg(test)]
+mod resuming_tests;
 #[cfg(test)]
 mod simulation_tests;

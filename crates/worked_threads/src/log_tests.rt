@@ -1,23 +1,21 @@
 //! A log beside an adder: the blocks that are never rolled back go onto it from a thread of its own.
 
-ghost use Rattle.std.specs.Prelude.{◌≡◌, []};
-ghost use Rattle.model.specs.Ledger.{network_of};
+ghost use Rattle.std.specs.Prelude.{◌≡◌};
+ghost use Rattle.shared.specs.Starts.{network_from};
 ghost use Rattle.model.specs.Signature.{test_verifies};
 ghost use Rattle.flushing.specs.Sharing.{BeginAfter};
 
 use super::fake_file::FakeFile;
-use super::fixture::{MEMORY, Parts, bytes_of, drains, names_of, next_of, open, parts_of, sends};
+use super::fixture::{
+    MEMORY, Parts, chain_lines, drains, log_on, names_of, next_of, open, parts_of, send_blocks,
+};
 use super::gated_file::{Crossing, GatedFile};
-use file_disk::FileDisk;
 use flushing::flush_shared;
 use immlog::{Disk, Log};
-use inbox::{Mailroom, PEERS, PeerEnd};
+use inbox::Mailroom;
 use mempool::SubmitReply;
-use script::Names;
 use shared::{Caller, Opened, Room, Shared};
 use std::alloc::Global;
-use std::fs::OpenFile;
-use std::io::{Read, Seek, Write};
 use std::marker::Brand;
 use std::process::Abort;
 use std::sync::atomic::{AtomicBool, Ordering};
@@ -28,44 +26,6 @@ use witness_pool::{OpenGate, TestScheme};
 /// How many blocks are brought. As 2 may be rolled back, all but 2 of them go onto the log.
 const BLOCKS: usize = 40;
 
-/// A chain of so many blocks, by lines of scripts.
-fn lines_of(rt: &(impl Abort + AllocGlobal)) -> String {
-    let mut lines = String::new(rt.alloc());
-    lines.push_str("block B1 genesis 1\n").expect(rt, MEMORY);
-    for number in 2..=BLOCKS {
-        let before = number.saturating_sub(1);
-        let line = format!(in rt.alloc(); "block B{number} B{before} {number}\n");
-        lines.push_str(&line.expect(rt, MEMORY)).expect(rt, MEMORY);
-    }
-    lines
-}
-
-/// The peers send the blocks in turns, each the next one.
-fn send_blocks<M: Mailroom, R: Wait + Abort + AllocGlobal>(
-    rt: &R,
-    peers: &mut [PeerEnd<M>; PEERS],
-    names: &Names,
-) {
-    for number in 1..=BLOCKS {
-        let name = format!(in rt.alloc(); "B{number}").expect(rt, MEMORY);
-        sends(rt, &mut peers[number % PEERS], bytes_of(rt, names, &name));
-    }
-}
-
-/// A log without blocks, on this file.
-fn log_on<F: Read + Write + Seek + OpenFile + Drop>(
-    rt: &(impl Abort + AllocGlobal),
-    file: F,
-) -> Log<FileDisk<F>>
-    ensures { result.blocks ≡ [] }
-{
-    let disk = FileDisk::open(rt.alloc(), file).expect(rt, MEMORY);
-    match Log::create(rt.alloc(), disk) {
-        Ok(log) => log,
-        Err(_) => rt.abort(),
-    }
-}
-
 /// Puts what is never rolled back onto the log, again and again until all was brought, and then once more.
 fn flush_until<D: Disk, B: Room, R: Wait + Abort>(
     rt: &R,
@@ -74,7 +34,7 @@ fn flush_until<D: Disk, B: Room, R: Wait + Abort>(
     log: &mut Log<D>,
     ended: &AtomicBool,
 )
-    requires { BeginAfter (network_of B.genesis test_verifies) caller.old.seen log.old.blocks }
+    requires { BeginAfter (network_from B.start test_verifies) caller.old.seen log.old.blocks }
 {
     for _ in rt.forever() {
         let last = ended.load(Ordering::SeqCst);
@@ -108,11 +68,11 @@ fn logs_beside<B: Room + Send + Sync, M: Mailroom, R: Threads + Wait + Abort + A
     inbox: inbox::Opened,
 )
     requires table { opened.table ≡ B.table }
-    requires genesis { opened.genesis ≡ B.genesis }
+    requires start { opened.start ≡ B.start }
     requires queue { inbox.table ≡ M.table }
     requires capacity { inbox.capacity ≡ M.capacity }
 {
-    let names = names_of(rt, &lines_of(rt));
+    let names = names_of(rt, &chain_lines(rt, BLOCKS));
     let mut parts = parts_of::<OpenGate, B, M>(rt, OpenGate, opened, inbox);
     let Parts {
         shared,
@@ -121,7 +81,7 @@ fn logs_beside<B: Room + Send + Sync, M: Mailroom, R: Threads + Wait + Abort + A
         callers,
     } = &mut *parts;
     let shared = &*shared;
-    send_blocks(rt, peers, &names);
+    send_blocks(rt, peers, &names, 1, BLOCKS);
     let caller = next_of(rt, callers);
     let ended = AtomicBool::new(false);
     let ended = &ended;
@@ -185,11 +145,11 @@ fn writes_outside<
     R: Threads + Wait + Abort + AllocGlobal + Sync,
 >(rt: &R, opened: Opened<TestScheme>, inbox: inbox::Opened)
     requires table { opened.table ≡ B.table }
-    requires genesis { opened.genesis ≡ B.genesis }
+    requires start { opened.start ≡ B.start }
     requires queue { inbox.table ≡ M.table }
     requires capacity { inbox.capacity ≡ M.capacity }
 {
-    let names = names_of(rt, &lines_of(rt));
+    let names = names_of(rt, &chain_lines(rt, BLOCKS));
     let payment = names.tx_of(b"First").expect(rt, "a payment").encode();
     let payment = payment.expect(rt, MEMORY);
     let mut parts = parts_of::<OpenGate, B, M>(rt, OpenGate, opened, inbox);
@@ -200,7 +160,7 @@ fn writes_outside<
         callers,
     } = &mut *parts;
     let shared = &*shared;
-    send_blocks(rt, peers, &names);
+    send_blocks(rt, peers, &names, 1, BLOCKS);
     drains(rt, adder, shared, peers);
     let (caller, mut other) = (next_of(rt, callers), next_of(rt, callers));
     let crossing = Arc::new(rt.alloc(), Crossing::new()).expect(rt, MEMORY);

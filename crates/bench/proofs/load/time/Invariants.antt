@@ -1,4 +1,4 @@
 use Rattle.bench.proofs.load.time.Given as goal
 
 abbrev pub ghosts-run_core : goal.ghosts-run_core
-ghosts-run_core g a = record { table = a.opened.table; genesis = a.opened.genesis }
+ghosts-run_core g a = record { table = a.opened.table; start = a.opened.start }

@@ -26,7 +26,7 @@ invariant_of-seat_of_caller g c =
     record {
       table_is = n.1 ∙ (i.0 ∙ (c.requires.seat ∙ c.requires.table));
       slots = ap (λ m. m.1) n.0;
-      genesis_is = ap (λ m. m.0.genesis) n.0 ∙ ap (λ m. m.0.genesis) i.1;
+      start_is = ap (λ m. m.0.start) n.0 ∙ ap (λ m. m.0.start) i.1;
       role = ap (λ m. m.0.role) n.0 ∙ ap (λ m. (new_caller m.0).role) i.1;
       right = ap (λ m. m.0.writes) n.0;
     }
@@ -38,6 +38,6 @@ loop-number-preserved g c =
     let n = c.deal-dealt.ensures.new in
     let number = c.loop-number.number in (
       d.1 ∙ i.0,
-      d.0 ∙ (ap (λ m. (has_dealt m.0, m.1)) i.1 ∙ ap (λ (k : ℕ). (record (first_view g.B.Room.genesis) { role = Deals k }, [])) (next_number number)),
+      d.0 ∙ (ap (λ m. (has_dealt m.0, m.1)) i.1 ∙ ap (λ (k : ℕ). (record (first_view g.B.Room.start) { role = Deals k }, [])) (next_number number)),
       one_more number c.loop-number.seat.me.0 c.deal-dealt.result.me.0 c.loop-number.all.items c.push.new.self.items c.in_ok-push.ensures.items (ap (λ m. m.0) n.0) (ap (λ m. m.0.seen) i.1) i.2,
     )

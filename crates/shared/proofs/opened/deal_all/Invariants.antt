@@ -7,5 +7,5 @@ use Rattle.shared.proofs.opened.deal_all.Given as goal
 abbrev pub invariant-loop-number : goal.invariant-loop-number
 invariant-loop-number g l =
     (l.seat.table_id ≡ l.initial.seat.table_id)
-    × (l.seat.me ≡ (record (first_view g.B.Room.genesis) { role = Deals l.number }, []))
+    × (l.seat.me ≡ (record (first_view g.B.Room.start) { role = Deals l.number }, []))
     × (l.all.items ≡ newcomers l.number)

@@ -2,7 +2,7 @@ use Rattle.std.proofs.Common.{◌≡◌, ℕ, List, Some, sym, ap, ◌∙◌, su
 use Rattle.std.specs.Prelude.{Option, Vec, IfSome}
 use Rattle.std.specs.Global.{Global}
 use Rattle.model.specs.Journal.{Knowledge}
-use Rattle.model.specs.Ledger.{network_of}
+use Rattle.shared.specs.Starts.{network_from}
 use Rattle.inbox.specs.Arrivals.{Arrival, IsPeer}
 use Rattle.shared.specs.Adding.{Adding, HasAdded}
 use Rattle.shared.proofs.Adders.{added_none, brought_of}
@@ -18,7 +18,7 @@ bring_bytes-requires-clause-peer g c κs within =
 
 pub returns-in_default-clause-added : goal.returns-in_default-clause-added
 returns-in_default-clause-added g c =
-    let network = network_of g.B.Room.genesis g.S.SigScheme.verifies in
+    let network = network_from g.B.Room.start g.S.SigScheme.verifies in
     let v : Adding = record { knows = c.self.inside.caller; intake = c.self.inside.end; held = c.self.inside.held } in
     let stays : c.self.inside.held ≡ c.take.new.self = (sym c.take.ensures.value ∙ c.in_default.is) ∙ sym c.take.ensures.after in
     subst (λ (a : Adding). HasAdded network a (record v { held = c.take.new.self })) c.self.view_is
@@ -26,7 +26,7 @@ returns-in_default-clause-added g c =
 
 pub returns-in-Ok-clause-added : goal.returns-in-Ok-clause-added
 returns-in-Ok-clause-added g c =
-    let network = network_of g.B.Room.genesis g.S.SigScheme.verifies in
+    let network = network_from g.B.Room.start g.S.SigScheme.verifies in
     let v : Adding = record { knows = c.self.inside.caller; intake = c.self.inside.end; held = c.self.inside.held } in
     let held : c.self.inside.held ≡ Some (record { peer = c.arrival.inside.peer; bytes = c.arrival.inside.bytes.items }) =
     sym c.take.ensures.value ∙ (c.in-Some.is ∙ ap Some (sym c.arrival.view_is)) in
@@ -35,7 +35,7 @@ returns-in-Ok-clause-added g c =
 
 pub returns-in-Err-clause-added : goal.returns-in-Err-clause-added
 returns-in-Err-clause-added g c =
-    let network = network_of g.B.Room.genesis g.S.SigScheme.verifies in
+    let network = network_from g.B.Room.start g.S.SigScheme.verifies in
     let v : Adding = record { knows = c.self.inside.caller; intake = c.self.inside.end; held = c.self.inside.held } in
     let held : c.self.inside.held ≡ Some (record { peer = c.arrival.inside.peer; bytes = c.arrival.inside.bytes.items }) =
     sym c.take.ensures.value ∙ (c.in-Some.is ∙ ap Some (sym c.arrival.view_is)) in

@@ -1,6 +1,6 @@
 use Rattle.std.proofs.Common.{List, is_some, sym, ap, ◌∙◌, subst}
 use Rattle.std.specs.List.{AllByRecursion}
-use Rattle.model.specs.Ledger.{network_of}
+use Rattle.shared.specs.Starts.{network_from}
 use Rattle.inbox.specs.Arrivals.{SentBy}
 use Rattle.shared.specs.Adding.{Adding, IsAllBrought}
 use Rattle.shared.proofs.Adders.{taken_on, taken_step, added_on, all_brought, last_taken}
@@ -16,7 +16,7 @@ returns-then-is_none-clause-all g c =
 
 pub takes-preserved : goal.takes-preserved
 takes-preserved g c =
-    let network = network_of g.B.Room.genesis g.S.SigScheme.verifies in
+    let network = network_from g.B.Room.start g.S.SigScheme.verifies in
     let i = c.takes.invariant in
     let t = c.take_last.ensures in
     let b = c.in_ok-bring-2.ensures in

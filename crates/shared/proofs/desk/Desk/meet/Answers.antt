@@ -6,7 +6,7 @@ use Rattle.shared.proofs.desk.Desk.meet.Goals as goal
 
 pub returns-clause-meeting : goal.returns-clause-meeting
 returns-clause-meeting g c =
-    met_of g.S.SigScheme.verifies g.B.Room.genesis c.self.inside.journal c.tell.new.self c.args.one.now c.args.other.now c.tell.new.caller c.tell-2.new.caller c.tell.ensures.informed c.tell-2.ensures.informed c.tell.ensures.entries
+    met_of g.S.SigScheme.verifies g.B.Room.start c.self.inside.journal c.tell.new.self c.args.one.now c.args.other.now c.tell.new.caller c.tell-2.new.caller c.tell.ensures.informed c.tell-2.ensures.informed c.tell.ensures.entries
 
 pub returns-clause-seen : goal.returns-clause-seen
 returns-clause-seen g c = (
@@ -15,4 +15,4 @@ returns-clause-seen g c = (
 )
 
 pub invariant_of-self : goal.invariant_of-self
-invariant_of-self g c = subst (λ (j : Journal). IsCoreOf g.S.SigScheme.verifies g.B.Room.genesis j c.self.inside.core) (sym (c.tell-2.ensures.entries ∙ c.tell.ensures.entries)) c.self.invariant
+invariant_of-self g c = subst (λ (j : Journal). IsCoreOf g.S.SigScheme.verifies g.B.Room.start j c.self.inside.core) (sym (c.tell-2.ensures.entries ∙ c.tell.ensures.entries)) c.self.invariant

@@ -1,6 +1,7 @@
 use Rattle.std.proofs.Common.{◌≡◌, [], refl, sym, ap, ◌∙◌, subst}
-use Rattle.model.specs.Genesis.{Genesis}
-use Rattle.model.specs.Ledger.{network_of}
+use Rattle.shared.specs.Starts.{Start, network_from, start_of}
+use Rattle.model.specs.Chain.{IsOpening}
+use Rattle.chain_core.specs.Held.{Stands}
 use Rattle.model.specs.History.{opening, IsLegal}
 use Rattle.std.specs.List.{AllByRecursion}
 use Rattle.model.specs.Journal.{Journal, history_of, NamesItsPeer}
@@ -17,7 +18,7 @@ deal_all-requires g c =
       word = i.words;
       table = ap (λ o. o.table) is ∙ c.requires.table;
       seat = i.seat;
-      first = subst (λ (genesis : Genesis). c.self.inside.seat.me ≡ (first_view genesis, [])) (ap (λ o. o.genesis) is ∙ c.requires.genesis) i.first;
+      first = subst (λ (start : Start). c.self.inside.seat.me ≡ (first_view start, [])) (ap (λ o. o.start) is ∙ c.requires.start) i.first;
     }
 
 pub invariant_of-journal : goal.invariant_of-journal
@@ -38,13 +39,20 @@ pub invariant_of-desk : goal.invariant_of-desk
 invariant_of-desk g c =
     let i = c.self.invariant in
     let is = c.self.view_is in
+    let begins : start_of c.self.inside.core ≡ g.B.Room.start = ap (λ o. o.start) is ∙ c.requires.start in
+    let opens : IsOpening (network_from g.B.Room.start g.S.SigScheme.verifies) = subst (λ (start : Start). IsOpening (network_from start g.S.SigScheme.verifies)) begins i.opens in
     let none : c.deal_all.new.seat.me.0.seen ≡ [] = ap (λ m. m.0.seen) c.in_ok-all.ensures.seat in
     record {
-      genesis_is = ap (λ o. o.genesis) is ∙ c.requires.genesis;
-      opened_is = ap (λ h. h.opened) i.new;
-      state = opening (network_of g.B.Room.genesis g.S.SigScheme.verifies);
-      legal = subst (λ (j : Journal). IsLegal (network_of g.B.Room.genesis g.S.SigScheme.verifies) (history_of j) (opening (network_of g.B.Room.genesis g.S.SigScheme.verifies))) (sym none) refl;
+      start_is = begins;
+      opens = opens;
+      state = opening (network_from g.B.Room.start g.S.SigScheme.verifies);
+      legal = subst (λ (j : Journal). IsLegal (network_from g.B.Room.start g.S.SigScheme.verifies) (history_of j) (opening (network_from g.B.Room.start g.S.SigScheme.verifies))) (sym none) refl;
       named = subst (AllByRecursion NamesItsPeer) (sym none) tt;
       peers = subst (AllByRecursion IsOfAPeer) (sym none) tt;
-      stands = opening_stands g.S.SigScheme.verifies c.self.inside.core i.new;
+      stands = subst (λ (start : Start). Stands c.self.inside.core (opening (network_from start g.S.SigScheme.verifies))) begins (opening_stands g.S.SigScheme.verifies c.self.inside.core i.new i.opens);
     }
+
+pub returns-clause-opens : goal.returns-clause-opens
+returns-clause-opens g c =
+    let i = c.self.invariant in
+    subst (λ (start : Start). IsOpening (network_from start g.S.SigScheme.verifies)) (ap (λ o. o.start) c.self.view_is ∙ c.requires.start) i.opens

@@ -1,7 +1,5 @@
-use Rattle.model.specs.Ledger.{network_of}
-use Rattle.shared.proofs.Moves.{begins}
-use Rattle.shared.proofs.Calls.{nothing_legal}
+use Rattle.shared.proofs.Starts.{untouched_new}
 use Rattle.shared.proofs.opened.Opened.new.Goals as goal
 
-pub of_words-requires : goal.of_words-requires
-of_words-requires g c = begins g.S.SigScheme.verifies c.args.genesis (nothing_legal (network_of c.args.genesis g.S.SigScheme.verifies))
+pub on-requires : goal.on-requires
+on-requires g c = untouched_new g.S.SigScheme.verifies c.args.genesis c.in_ok-core.core c.in_ok-core.ensures

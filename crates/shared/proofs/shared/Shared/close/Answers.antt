@@ -1,4 +1,4 @@
-use Rattle.model.specs.Ledger.{network_of}
+use Rattle.shared.specs.Starts.{network_from}
 use Rattle.model.specs.History.{Close}
 use Rattle.chain_core.specs.Views.{close_reply_of}
 use Rattle.shared.specs.Entries.{call_by}
@@ -8,4 +8,4 @@ use Rattle.shared.proofs.shared.Shared.close.Goals as goal
 
 pub invariant_of-caller : goal.invariant_of-caller
 invariant_of-caller g c =
-    quiet_called (network_of g.B.Room.genesis g.S.SigScheme.verifies) c.caller.inside.seat c.close.new.caller (call_by c.caller.inside.seat.caller (Close c.args.id.number) (close_reply_of c.close.result)) c.close.ensures.called refl c.caller.invariant
+    quiet_called (network_from g.B.Room.start g.S.SigScheme.verifies) c.caller.inside.seat c.close.new.caller (call_by c.caller.inside.seat.caller (Close c.args.id.number) (close_reply_of c.close.result)) c.close.ensures.called refl c.caller.invariant
