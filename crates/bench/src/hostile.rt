@@ -109,6 +109,24 @@ fn tips(alloc: Global, forks: u64, length: u64, blocks: u64) -> Plan {
     plan
 }
 
+/// Those of so many pairs of a good block and a bad one behind it, each at the end of one fork, which is as long as the
+/// chain with the good one.
+fn pairs(alloc: Global, length: u64, pairs: u64) -> Plan {
+    let mut plan = arrivals(alloc, pairs.saturating_mul(2));
+    End::genesis().put_chain(alloc, &mut plan.blocks, length);
+    let mut end = End::genesis();
+    for _ in 1..length {
+        end.put_next(alloc, &mut plan.blocks, 1);
+    }
+    for late in 1..=pairs {
+        let mut tip = end;
+        tip.put_next(alloc, &mut plan.measured, late);
+        tip.put_bad(alloc, &mut plan.measured, late);
+    }
+    plan.height = length;
+    plan
+}
+
 /// Runs each measurement, and prints what it took.
 pub fn measure(rt: &HostRuntime) -> io::Result<()> {
     for blocks in [1_000, 4_000, 16_000, 64_000] {
@@ -149,5 +167,7 @@ pub fn measure(rt: &HostRuntime) -> io::Result<()> {
         let plan = tips(rt.alloc(), forks, 1_000, forks.saturating_mul(200));
         cores::measure(rt, "bad tips in turns of forks", forks, plan)?;
     }
+    let plan = pairs(rt.alloc(), 1_000, 200);
+    cores::measure(rt, "good and bad tips of a fork of", 1_000, plan)?;
     Ok(())
 }

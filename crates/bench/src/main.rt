@@ -4,6 +4,7 @@
 
 mod arrivals;
 mod blocks;
+mod calls;
 mod cores;
 mod following;
 mod hostile;
@@ -42,6 +43,8 @@ enum Asked {
     Pools,
     Peers,
     Load,
+    Calls,
+    Questions,
     /// Blocks are put onto a log until the program is killed.
     Appending,
     /// What is measured once, to see that it can be.
@@ -65,6 +68,8 @@ fn asked_by(word: &str) -> Option<Asked> {
         "pools" => Some(Asked::Pools),
         "peers" => Some(Asked::Peers),
         "load" => Some(Asked::Load),
+        "calls" => Some(Asked::Calls),
+        "questions" => Some(Asked::Questions),
         "append" => Some(Asked::Appending),
         _ => None,
     }
@@ -102,6 +107,8 @@ fn main(rt: HostRuntime) -> io::Result<()> {
         Asked::Pools => pools::measure(&rt, rt.alloc(), Telling::Times),
         Asked::Peers => peers::measure(&rt, rt.alloc(), Telling::Times),
         Asked::Load => load::measure(&rt, rt.alloc()),
+        Asked::Calls => calls::measure(&rt),
+        Asked::Questions => peers::measure_questions(&rt, rt.alloc()),
         Asked::Appending => logs::append(&rt),
         Asked::Names => {
             blocks::measure(&rt, Telling::Names)?;
@@ -109,8 +116,8 @@ fn main(rt: HostRuntime) -> io::Result<()> {
             peers::measure(&rt, rt.alloc(), Telling::Names)?;
             println!(rt;
                 "to measure: bench persistent_map, bench blocks, bench ledger, bench scripts, bench pools, \
-bench peers, bench arrivals, bench hostile, bench followers, bench mempool, bench reopen, bench log, bench load, \
-bench memory"
+bench peers, bench questions, bench arrivals, bench hostile, bench followers, bench mempool, bench reopen, \
+bench log, bench load, bench calls, bench memory"
             )
         }
     }

@@ -12,6 +12,7 @@ use ledger::{BlockDiff, LedgerState, apply_block_diff, undo_block};
 use std::alloc::Global;
 use std::fs::File;
 use std::io::{self, Read};
+use std::rt::Files;
 use witness_pool::TestScheme;
 
 /// How many blocks without transactions a chain has.
@@ -23,7 +24,7 @@ const MAKING: usize = 216;
 const PAYING: usize = 2_160;
 
 /// How many bytes of memory the program holds, in whole pages, as the system counts them.
-fn held(rt: &HostRuntime) -> Option<u64> {
+pub fn held<R: Files<File = File> + AllocGlobal>(rt: &R) -> Option<u64> {
     let mut text = String::new(rt.alloc());
     let mut file = File::open(rt, "/proc/self/statm").ok()?;
     file.read_to_string(&mut text).ok()?;

@@ -24,7 +24,7 @@ const PLACES: usize = 64;
 /// How often the adder tries to take before it looks how many it has brought.
 const TURNS: u64 = 64;
 
-/// The most times that the height is read.
+/// The most times that it is asked.
 const MOST_READS: u64 = 1_000_000_000;
 
 /// How many calls a thread made, and how long they took together.
@@ -139,10 +139,46 @@ pub fn bring_if<B: Room, M: Mailroom, R: Threads + Wait + Clock + Sync>(
     None
 }
 
-/// Reads the height until it is told to end, and tells how often.
-fn watch_until<B: Room>(
+/// What the one who watches asks.
+#[derive(Clone, Copy)]
+enum Question {
+    Height,
+    Tip,
+    Utxo,
+}
+
+impl Question {
+    /// The call that asks so.
+    fn name(self) -> &'static str {
+        match self {
+            Question::Height => "Shared::height meanwhile",
+            Question::Tip => "Shared::tip meanwhile",
+            Question::Utxo => "Shared::utxo meanwhile",
+        }
+    }
+
+    /// Asks once. What is answered goes.
+    fn ask<B: Room, R: Wait>(self, rt: &R, shared: &Shared<TestScheme, B>, caller: &mut Caller<B>) {
+        match self {
+            Question::Height => {
+                shared.height(caller);
+            }
+            Question::Tip => {
+                shared.tip(rt, caller);
+            }
+            Question::Utxo => {
+                let _ = shared.utxo(rt, caller);
+            }
+        }
+    }
+}
+
+/// Asks until it is told to end, and tells how often.
+fn watch_until<B: Room, R: Wait>(
+    rt: &R,
     shared: &Shared<TestScheme, B>,
     caller: &mut Caller<B>,
+    question: Question,
     ended: &AtomicBool,
 ) -> u64 {
     let mut calls = 0u64;
@@ -150,21 +186,22 @@ fn watch_until<B: Room>(
         if ended.load(Ordering::SeqCst) {
             break;
         }
-        shared.height(caller);
+        question.ask(rt, shared, caller);
         calls = calls.saturating_add(1);
     }
     calls
 }
 
-/// Reads the height until it is told to end, and tells how long that took.
-fn watch<R: Clock, B: Room>(
+/// Asks until it is told to end, and tells how long that took.
+fn watch<R: Clock + Wait, B: Room>(
     rt: &R,
     shared: &Shared<TestScheme, B>,
     mut caller: Caller<B>,
+    question: Question,
     ended: &AtomicBool,
 ) -> Work {
     let start = now(rt);
-    let calls = watch_until(shared, &mut caller, ended);
+    let calls = watch_until(rt, shared, &mut caller, question, ended);
     Work {
         calls,
         nanos: nanos_if(rt, start, true),
@@ -178,20 +215,21 @@ fn two_of<B: Room>(callers: &mut Vec<Caller<B>>) -> Option<(Caller<B>, Caller<B>
     Some((one, other))
 }
 
-/// Each peer sends from a thread of its own what this thread brings, while another reads the height. None where a
-/// thread couldn't be started.
+/// Each peer sends from a thread of its own what this thread brings, while another asks. None where a thread couldn't be
+/// started.
 fn run_all<B: Room + Send + Sync, M: Mailroom + Send + Sync, R: Threads + Wait + Clock + Sync>(
     rt: &R,
     shared: &Shared<TestScheme, B>,
     adder: &mut Adder<OpenGate, B, M>,
     senders: Vec<Sender<M>>,
     watcher: Caller<B>,
+    question: Question,
     blocks: u64,
 ) -> Option<Measured> {
     let ended = AtomicBool::new(false);
     let ended = &ended;
     thread::scope(thread::scope_env(), rt, move |scope| -> Option<Measured> {
-        let watching = scope.spawn(move || watch(rt, shared, watcher, ended));
+        let watching = scope.spawn(move || watch(rt, shared, watcher, question, ended));
         let mut all = true;
         for sender in senders {
             all &= scope.spawn(move || send_each(rt, sender, ended)).is_ok();
@@ -205,12 +243,14 @@ fn run_all<B: Room + Send + Sync, M: Mailroom + Send + Sync, R: Threads + Wait +
     })
 }
 
-/// What is run: blocks, which so many peers send, and whose transactions so many workers check.
+/// What is run: blocks, which so many peers send, and whose transactions so many workers check; and what is asked
+/// meanwhile.
 #[derive(Drop)]
 struct Load {
     texts: Vec<Vec<u8>>,
     peers: usize,
     workers: usize,
+    question: Question,
 }
 
 /// Opens the inbox under a name, and runs the measurement. None where it can't be made.
@@ -231,7 +271,15 @@ fn run_inbox<B: Room + Send + Sync, M: Mailroom + Send + Sync, R: Threads + Wait
     let blocks = load.texts.len() as u64;
     let senders = dealt(alloc, ends, load.peers, load.texts)?;
     let mut adder = Adder::new(alloc, end, caller, Pool::new(OpenGate), load.workers);
-    run_all(rt, shared, &mut adder, senders, watcher, blocks)
+    run_all(
+        rt,
+        shared,
+        &mut adder,
+        senders,
+        watcher,
+        load.question,
+        blocks,
+    )
 }
 
 /// Opens the core under a name, and runs the measurement. None where it can't be made.
@@ -243,7 +291,7 @@ fn run_core<B: Room + Send + Sync, R: Threads + Wait + Clock + Sync>(
     load: Load,
 ) -> Option<Measured>
     requires table { opened.table ≡ B.table }
-    requires genesis { opened.genesis ≡ B.genesis }
+    requires start { opened.start ≡ B.start }
     requires workers { AreWorkers load.workers }
 {
     let (shared, mut callers) = opened.named::<B>().ok()?;
@@ -259,7 +307,7 @@ fn time<R: Threads + Wait + Clock + Sync>(rt: &R, alloc: Global, load: Load) -> 
     run_core::<Brand, R>(rt, alloc, opened, inbox, load)
 }
 
-/// Runs the measurement, and prints its names, or what it took a block and a look at the height.
+/// Runs the measurement, and prints its names, or what it took a block and a question.
 fn measure_load<R: Threads + Wait + Clock + Print + Sync>(
     rt: &R,
     alloc: Global,
@@ -270,6 +318,7 @@ fn measure_load<R: Threads + Wait + Clock + Print + Sync>(
     requires { AreWorkers load.workers }
 {
     let blocks = load.texts.len() as u64;
+    let question = load.question;
     let none = Work {
         calls: 0,
         nanos: None,
@@ -282,7 +331,7 @@ fn measure_load<R: Threads + Wait + Clock + Print + Sync>(
     print(
         rt,
         telling,
-        "Shared::height meanwhile",
+        question.name(),
         blocks,
         watched.calls,
         watched.nanos,
@@ -306,6 +355,7 @@ fn measure_empty<R: Threads + Wait + Clock + Print + Sync>(
             texts: empty_blocks(alloc, blocks),
             peers,
             workers: 1,
+            question: Question::Height,
         };
         measure_load(rt, alloc, telling, name, load)?;
     }
@@ -318,6 +368,7 @@ fn measure_paying<R: Threads + Wait + Clock + Print + Sync>(
     alloc: Global,
     name: &str,
     workers: usize,
+    question: Question,
 ) -> io::Result<()>
     requires { AreWorkers workers }
 {
@@ -325,6 +376,7 @@ fn measure_paying<R: Threads + Wait + Clock + Print + Sync>(
         texts: paying_blocks(alloc, 100),
         peers: 4,
         workers,
+        question,
     };
     measure_load(rt, alloc, Telling::Times, name, load)
 }
@@ -339,7 +391,18 @@ pub fn measure<R: Threads + Wait + Clock + Print + Sync>(
         return measure_empty(rt, alloc, telling, 100);
     }
     measure_empty(rt, alloc, telling, 100_000)?;
-    measure_paying(rt, alloc, "Adder::run on payments, 1 worker", 1)?;
-    measure_paying(rt, alloc, "Adder::run on payments, 2 workers", 2)?;
-    measure_paying(rt, alloc, "Adder::run on payments, 4 workers", 4)
+    let question = Question::Height;
+    measure_paying(rt, alloc, "Adder::run on payments, 1 worker", 1, question)?;
+    measure_paying(rt, alloc, "Adder::run on payments, 2 workers", 2, question)?;
+    measure_paying(rt, alloc, "Adder::run on payments, 4 workers", 4, question)
+}
+
+/// Runs the measurement of blocks of a hundred payments with a question that waits for the lock, and prints what it
+/// took.
+pub fn measure_questions<R: Threads + Wait + Clock + Print + Sync>(
+    rt: &R,
+    alloc: Global,
+) -> io::Result<()> {
+    measure_paying(rt, alloc, "Adder::run on payments", 1, Question::Tip)?;
+    measure_paying(rt, alloc, "Adder::run on payments", 1, Question::Utxo)
 }
