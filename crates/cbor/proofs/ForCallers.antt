@@ -12,8 +12,10 @@ pub use Rattle.cbor.proofs.FieldLaws.{Field, HasKeys, ValuesFit, StopsAt, TakesF
 -- From those laws, what a public reader promises.
 pub use Rattle.cbor.proofs.ShapeLaws.{has_text, text_fits, reads_found, reads_refused, promised_read}
 -- How a loop reads and writes like items and entries.
-pub use Rattle.cbor.proofs.ListLoops.{map_push, with_front, list_goes_on, list_ends, list_done, entries_go_on, entries_end, entries_done}
+pub use Rattle.cbor.proofs.ListLoops.{map_push, with_front, list_goes_on, list_ends, list_done, entries_go_on, entries_end, entries_done, some_in_array}
 pub use Rattle.cbor.proofs.ShapeWrites.{drop_here, kept, kept_on, kept_same, string_written, map_twice, IsPartWritten, none_written, one_written, all_written, map_written, whatever_err, key_lacks_room, value_lacks_room, head_lacks_room, entries_lack_room}
 pub use Rattle.cbor.proofs.ListWrites.{IsListPartWritten, no_item_written, one_item_written, all_items_written, items_counted, list_written, item_lacks_room, array_head_lacks_room, items_lack_room}
 -- What a reading doesn't give, where memory was wanting in the midst of it.
-pub use Rattle.cbor.proofs.Wants.{if_want, want_map, wants_at_err, no_as, no_as_fields, no_both_first, no_both_second, no_fields_first, no_fields_second, no_array, no_record, no_field, no_optional_field, no_such, no_empty}
+pub use Rattle.cbor.proofs.Wants.{if_want, want_map, wants_anyway, no_as, no_as_fields, no_both_first, no_both_second, no_fields_first, no_fields_second, no_array, no_record, no_field, no_optional_field, no_such, no_empty}
+-- Which heads the same bytes begin with.
+pub use Rattle.cbor.proofs.Bare.{one_head}

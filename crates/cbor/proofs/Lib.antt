@@ -12,6 +12,7 @@ pub mod ListLaws
 pub mod FieldLaws
 pub mod ListLoops
 pub mod Wants
+pub mod Bare
 pub mod ShapeWrites
 pub mod ListWrites
 pub mod ForCallers

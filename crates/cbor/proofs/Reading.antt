@@ -220,6 +220,38 @@ head-length m n =
       ]
     ]
 
+-- The first byte of a head: its major type, and in its low five bits nothing just where it announces nothing.
+pub record BeginsHead (major n : ℕ) (text : List ℕ) : Type 0 where
+  pub low : ℕ
+  pub tail : List ℕ
+  pub is : text ≡ (32 * major + low) ∷ tail
+  pub below : low < 32
+  pub none : n ≡ 0 → low ≡ 0
+  pub back : low ≡ 0 → n ≡ 0
+
+direct_head : (m n : ℕ) → n < 24 → head m n ≡ (32 * m + n) ∷ []
+unfolding head
+direct_head m n below = rw (lt-ltb n 24 below) refl
+
+long_head : (m n low : ℕ) (tail : List ℕ) → 24 ≤ n → 24 ≤ low → low < 32 → head m n ≡ (32 * m + low) ∷ tail → BeginsHead m n (head m n)
+long_head m n low tail long from below is = record { low = low; tail = tail; is = is; below = below; none = λ e. absurd (omega (arith, e, long)); back = λ e. absurd (omega (arith, e, from)) }
+
+pub first_of : (m n : ℕ) → BeginsHead m n (head m n)
+first_of m n =
+    elim (cases_lt n 24) [
+      | inl below ↦ record { low = n; tail = []; is = direct_head m n below; below = omega (arith, below); none = λ e. e; back = λ e. e }
+      | inr from-24 ↦ elim (cases_lt n 256) [
+        | inl below ↦ long_head m n 24 (n ∷ []) from-24 (omega arith) (omega arith) (spelled_8 m n from-24 below)
+        | inr from-8 ↦ elim (cases_lt n 65536) [
+          | inl below ↦ long_head m n 25 (to_be_bytes w16 n) from-24 (omega arith) (omega arith) (spelled_16 m n from-8 below)
+          | inr from-16 ↦ elim (cases_lt n 4294967296) [
+            | inl below ↦ long_head m n 26 (to_be_bytes w32 n) from-24 (omega arith) (omega arith) (spelled_32 m n from-16 below)
+            | inr from-32 ↦ long_head m n 27 (to_be_bytes w64 n) from-24 (omega arith) (omega arith) (spelled_64 m n from-32)
+          ]
+        ]
+      ]
+    ]
+
 -- ---- byte strings and null
 
 -- a byte string that was read

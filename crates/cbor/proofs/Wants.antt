@@ -1,5 +1,5 @@
 -- What a reading doesn't give, from what its first step that may want memory doesn't give.
-use Rattle.std.proofs.Common.{◌≡◌, ℕ, Bool, true, false, List, [], length, not, ◌==◌, Option, Some, Result, Ok, Err, IfErr, OnErr, sym, ap, subst, ◌∙◌}
+use Rattle.std.proofs.Common.{◌≡◌, ℕ, Bool, true, false, List, [], length, not, ◌==◌, Option, Some, Result, Ok, Err, IfErr, sym, ap, subst, ◌∙◌}
 use Rattle.cbor.specs.declared.fault.CborFault.{CborFault}
 use Rattle.cbor.specs.declared.fault.CborFault.TheVariants as faults
 use Rattle.cbor.specs.Reading.{◌>>=◌, head_at}
@@ -17,10 +17,10 @@ pub want_map : (fault : CborFault) {P Q : Type 0} → (P → Q) → IfWant fault
 want_map faults.Malformed f w = tt
 want_map faults.OutOfMemory f w = f w
 
--- what holds at any fault holds where memory was wanting
-pub wants_at_err : {T : Type 0} (r : Result T CborFault) (P : Type 0) → OnErr r P → IfErr r (λ fault. IfWant fault P)
-wants_at_err (Ok x) P h = tt
-wants_at_err (Err fault) P h = if_want fault h
+-- what holds anyway holds where memory was wanting
+pub wants_anyway : {T : Type 0} (r : Result T CborFault) (P : Type 0) → P → IfErr r (λ fault. IfWant fault P)
+wants_anyway (Ok x) P p = tt
+wants_anyway (Err fault) P p = if_want fault p
 
 -- the first step is not known
 no_first : {A B : Type 0} (o : Option A) (f : A → Option B) (P : A → Type 0) (Q : B → Type 0) → ((x : A) (y : B) → f x ≡ Some y → Q y → P x) → GivesNo P o → GivesNo Q (o >>= f)

@@ -3,6 +3,7 @@ pub mod Reading
 pub mod Gives
 pub mod Shapes
 pub mod Texts
+pub mod Bare
 pub mod Tree
 pub mod TreeFalls
 pub mod ItemReading

@@ -1,7 +1,8 @@
 //! Readers of shapes that typed readers are made of: each accepts the one deterministic text of its shape.
 
-ghost use Rattle.std.specs.Prelude.{◌≡◌, [], List, ℕ, Some, map, option_map, OnErr};
-ghost use Rattle.cbor.specs.Gives.{Gives};
+ghost use Rattle.std.specs.Prelude.{◌≡◌, ◌<◌, [], List, ℕ, Some, map, option_map, IfErr, OnErr};
+ghost use Rattle.cbor.specs.Gives.{Gives, IfWant};
+ghost use Rattle.cbor.specs.Bare.{BeginsWithSome};
 ghost use Rattle.cbor.specs.Shapes.{Reading, bounded_at, short_at, members_at, list_at, list_array_at, nonempty_at};
 ghost use Rattle.cbor.specs.Shapes.{EntryReading, rising_at, entries_at, map_at};
 
@@ -87,14 +88,17 @@ pub trait Decode: Drop {
 }
 
 /// So many like items, each of which nests at most `depth` deep, one after the other, and the bytes after them.
-/// Malformed where one of them is. The count reserves nothing: memory is taken for what was read.
+/// Malformed where one of them is. The count reserves nothing: memory is taken for what was read, and none is asked for
+/// where there is no item.
 pub fn list<T: Decode>(
     alloc: Global,
     depth: usize,
     count: u64,
     bytes: &[u8],
 ) -> Result<(Vec<T>, &[u8]), CborFault>
-    ensures { Gives (λ x. (map T.plain x.0.items, x.1.now)) result (list_at (T.decoded_at depth) count bytes.now) }
+    ensures exact { Gives (λ x. (map T.plain x.0.items, x.1.now)) result
+        (list_at (T.decoded_at depth) count bytes.now) }
+    ensures some { OnErr result (0 < count) }
 {
     let mut list = Vec::new(alloc);
     let mut rest = bytes;
@@ -108,7 +112,7 @@ pub fn list<T: Decode>(
 
 /// The members of an array of like items that stands first, each of which nests at most `depth` deep, and the bytes
 /// after it (RFC 8949, section 3.1). Malformed where no such array stands there. The count that the head claims
-/// reserves nothing, and the empty array asks for no memory.
+/// reserves nothing, and only the head of an array with members asks for memory.
 #[tactic(auto, unfolding(crate::specs::Shapes::list_array_at))]
 pub fn list_array<T: Decode>(
     alloc: Global,
@@ -118,6 +122,7 @@ pub fn list_array<T: Decode>(
     ensures exact { Gives (λ x. (map T.plain x.0.items, x.1.now)) result
         (list_array_at (T.decoded_at depth) bytes.now) }
     ensures some { OnErr result ((rest : List ℕ) → list_array_at (T.decoded_at depth) bytes.now ≡ Some ([], rest) → ⊥) }
+    ensures begins { IfErr result (λ fault. IfWant fault (BeginsWithSome 4 bytes.now)) }
 {
     let (count, rest) = reader::array(bytes).ok_or(CborFault::Malformed)?;
     if count == 0 {
@@ -147,14 +152,16 @@ pub trait DecodeEntry: Drop {
         ensures { Gives (λ x. (plain x.0, x.1.now, x.2.now)) result (decoded_at before.now bytes.now) };
 }
 
-/// So many entries, one after the other, whose keys' texts rise strictly, and the bytes after them. Malformed where
-/// one of them is. The count reserves nothing: memory is taken for what was read.
+/// So many entries, one after the other, whose keys' texts rise strictly, and the bytes after them. Malformed where one
+/// of them is. The count reserves nothing: memory is taken for what was read, and none is asked for where there is no
+/// entry.
 pub fn entries<E: DecodeEntry>(
     alloc: Global,
     count: u64,
     bytes: &[u8],
 ) -> Result<(Vec<E>, &[u8]), CborFault>
-    ensures { Gives (λ x. (map E.plain x.0.items, x.1.now)) result (entries_at E.decoded_at [] count bytes.now) }
+    ensures exact { Gives (λ x. (map E.plain x.0.items, x.1.now)) result (entries_at E.decoded_at [] count bytes.now) }
+    ensures some { OnErr result (0 < count) }
 {
     let mut entries = Vec::new(alloc);
     let mut before = &bytes[..0];
@@ -169,25 +176,30 @@ pub fn entries<E: DecodeEntry>(
 }
 
 /// The entries of a map that stands first, and the bytes after it (RFC 8949, sections 3.1 and 4.2.1). Malformed
-/// where no such map stands there. The count that the head claims reserves nothing.
+/// where no such map stands there. The count that the head claims reserves nothing, and only the head of a map with
+/// entries asks for memory.
 #[tactic(auto, unfolding(crate::specs::Shapes::map_at))]
 pub fn entries_of_map<E: DecodeEntry>(
     alloc: Global,
     bytes: &[u8],
 ) -> Result<(Vec<E>, &[u8]), CborFault>
-    ensures { Gives (λ x. (map E.plain x.0.items, x.1.now)) result (map_at E.decoded_at bytes.now) }
+    ensures exact { Gives (λ x. (map E.plain x.0.items, x.1.now)) result (map_at E.decoded_at bytes.now) }
+    ensures begins { IfErr result (λ fault. IfWant fault (BeginsWithSome 5 bytes.now)) }
 {
     let (count, rest) = reader::map(bytes).ok_or(CborFault::Malformed)?;
     entries(alloc, count, rest)
 }
 
-/// The entries of a map that is not empty. Malformed as [`entries_of_map`], and for the empty map.
+/// The entries of a map that is not empty. Malformed as [`entries_of_map`], and for the empty map. Only the head of a
+/// map with entries asks for memory.
 #[tactic(auto, using(crate::proofs::ListLoops::none_plain), unfolding(crate::specs::Shapes::nonempty_at, crate::specs::Shapes::such_at))]
 pub fn nonempty_map<E: DecodeEntry>(
     alloc: Global,
     bytes: &[u8],
 ) -> Result<(Vec<E>, &[u8]), CborFault>
-    ensures { Gives (λ x. (map E.plain x.0.items, x.1.now)) result (nonempty_at (map_at E.decoded_at) bytes.now) }
+    ensures exact { Gives (λ x. (map E.plain x.0.items, x.1.now)) result
+        (nonempty_at (map_at E.decoded_at) bytes.now) }
+    ensures begins { IfErr result (λ fault. IfWant fault (BeginsWithSome 5 bytes.now)) }
 {
     let (entries, rest) = entries_of_map(alloc, bytes)?;
     if entries.is_empty() {

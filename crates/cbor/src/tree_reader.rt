@@ -1,22 +1,24 @@
 //! Reading items with all that is in them. Recursion goes down the nesting alone, so its depth is bounded;
 //! the time is linear in the bytes. A count that the bytes claim reserves nothing.
 
-ghost use Rattle.std.specs.Prelude.{◌≡◌, ℕ, ◌≤◌, [], length, take, IfOk, IfErr};
+ghost use Rattle.std.specs.Prelude.{◌≡◌, ℕ, ◌≤◌, ◌<◌, [], length, take, IfOk, IfErr, OnErr};
 ghost use Rattle.model.specs.Cbor as cbor;
 ghost use Rattle.model.specs.Cbor.{Spells};
 ghost use Rattle.cbor.specs.Tree.{item_of};
 ghost use Rattle.cbor.specs.ItemReading.{single_at, item_at, items_at, pair_at, pairs_at, array_item_at, map_item_at};
-ghost use Rattle.cbor.specs.Gives.{Gives, IfMalformed};
+ghost use Rattle.cbor.specs.Gives.{Gives, IfMalformed, IfWant};
+ghost use Rattle.cbor.specs.Bare.{IsBareItem, BeginsWithParts};
 
 use crate::fault::CborFault;
 use crate::item::{Entries, Entry, Item, Items};
 use crate::reader;
 use std::alloc::Global;
 
-/// An item that is no array and no map.
+/// An item that is no array and no map. Only a byte string that is not empty asks for memory.
 #[tactic(auto, unfolding(crate::specs::ItemReading::single_at))]
 fn single(alloc: Global, major: u8, bytes: &[u8]) -> Result<(Item, &[u8]), CborFault>
-    ensures { Gives (λ x. (item_of x.0, x.1.now)) result (single_at major bytes.now) }
+    ensures exact { Gives (λ x. (item_of x.0, x.1.now)) result (single_at major bytes.now) }
+    ensures begins { IfErr result (λ fault. IfWant fault (BeginsWithParts bytes.now)) }
 {
     match major {
         0 => {
@@ -29,7 +31,9 @@ fn single(alloc: Global, major: u8, bytes: &[u8]) -> Result<(Item, &[u8]), CborF
         }
         2 => {
             let (text, rest) = reader::byte_string(bytes).ok_or(CborFault::Malformed)?;
-            Ok((Item::Bytes(Vec::from_slice(alloc, text)?), rest))
+            let mut copy = Vec::new(alloc);
+            copy.extend_from_slice(text)?;
+            Ok((Item::Bytes(copy), rest))
         }
         _ => {
             let rest = reader::null(bytes).ok_or(CborFault::Malformed)?;
@@ -38,7 +42,7 @@ fn single(alloc: Global, major: u8, bytes: &[u8]) -> Result<(Item, &[u8]), CborF
     }
 }
 
-/// So many members, one after the other, which nest at most so deep.
+/// So many members, one after the other, which nest at most so deep. Where there is none no memory is asked for.
 #[cycle(reading)]
 fn members(
     alloc: Global,
@@ -46,7 +50,8 @@ fn members(
     count: u64,
     bytes: &[u8],
 ) -> Result<(Items, &[u8]), CborFault>
-    ensures { Gives (λ x. (x.0, x.1.now)) result (items_at (item_at depth) count bytes.now) }
+    ensures exact { Gives (λ x. (x.0, x.1.now)) result (items_at (item_at depth) count bytes.now) }
+    ensures some { OnErr result (0 < count) }
 {
     let mut members = Vec::new(alloc);
     let mut rest = bytes;
@@ -79,7 +84,8 @@ fn entry<'a>(
     Ok((Entry { key, value }, text, rest))
 }
 
-/// So many entries, one after the other, whose keys rise, and which nest at most so deep.
+/// So many entries, one after the other, whose keys rise, and which nest at most so deep. Where there is none no memory
+/// is asked for.
 #[cycle(reading)]
 fn entries(
     alloc: Global,
@@ -87,7 +93,8 @@ fn entries(
     count: u64,
     bytes: &[u8],
 ) -> Result<(Entries, &[u8]), CborFault>
-    ensures { Gives (λ x. (x.0, x.1.now)) result (pairs_at (item_at depth) [] count bytes.now) }
+    ensures exact { Gives (λ x. (x.0, x.1.now)) result (pairs_at (item_at depth) [] count bytes.now) }
+    ensures some { OnErr result (0 < count) }
 {
     let mut entries = Vec::new(alloc);
     let mut before = &bytes[..0];
@@ -105,7 +112,8 @@ fn entries(
 #[cycle(reading)]
 #[tactic(auto, unfolding(crate::specs::ItemReading::array_item_at))]
 fn array(alloc: Global, depth: usize, bytes: &[u8]) -> Result<(Item, &[u8]), CborFault>
-    ensures { Gives (λ x. (item_of x.0, x.1.now)) result (array_item_at (item_at depth) bytes.now) }
+    ensures exact { Gives (λ x. (item_of x.0, x.1.now)) result (array_item_at (item_at depth) bytes.now) }
+    ensures begins { IfErr result (λ fault. IfWant fault (BeginsWithParts bytes.now)) }
 {
     let (count, rest) = reader::array(bytes).ok_or(CborFault::Malformed)?;
     let (members, rest) = members(alloc, depth, count, rest)?;
@@ -116,7 +124,8 @@ fn array(alloc: Global, depth: usize, bytes: &[u8]) -> Result<(Item, &[u8]), Cbo
 #[cycle(reading)]
 #[tactic(auto, unfolding(crate::specs::ItemReading::map_item_at))]
 fn map(alloc: Global, depth: usize, bytes: &[u8]) -> Result<(Item, &[u8]), CborFault>
-    ensures { Gives (λ x. (item_of x.0, x.1.now)) result (map_item_at (item_at depth) bytes.now) }
+    ensures exact { Gives (λ x. (item_of x.0, x.1.now)) result (map_item_at (item_at depth) bytes.now) }
+    ensures begins { IfErr result (λ fault. IfWant fault (BeginsWithParts bytes.now)) }
 {
     let (count, rest) = reader::map(bytes).ok_or(CborFault::Malformed)?;
     let (entries, rest) = entries(alloc, depth, count, rest)?;
@@ -127,7 +136,8 @@ fn map(alloc: Global, depth: usize, bytes: &[u8]) -> Result<(Item, &[u8]), CborF
 #[cycle(reading)]
 #[tactic(auto, unfolding(crate::specs::ItemReading::item_at, crate::specs::ItemReading::item_with, crate::specs::ItemReading::item_of_major))]
 fn item(alloc: Global, depth: usize, bytes: &[u8]) -> Result<(Item, &[u8]), CborFault>
-    ensures { Gives (λ x. (item_of x.0, x.1.now)) result (item_at depth bytes.now) }
+    ensures exact { Gives (λ x. (item_of x.0, x.1.now)) result (item_at depth bytes.now) }
+    ensures begins { IfErr result (λ fault. IfWant fault (BeginsWithParts bytes.now)) }
 {
     if depth == 0 {
         return Err(CborFault::Malformed);
@@ -150,14 +160,17 @@ pub fn read(alloc: Global, bytes: &[u8]) -> Result<(Item, usize), CborFault>
     ensures found { IfOk result (λ x. (x.1 ≤ length bytes.now) × Spells (item_of x.0) (take x.1 bytes.now)) }
     ensures malformed { IfErr result (λ fault. IfMalformed fault ((item : cbor.Item) (n : ℕ) →
         Spells item (take n bytes.now) → ⊥)) }
+    ensures want { IfErr result (λ fault. IfWant fault ((item : cbor.Item) (n : ℕ) →
+        Spells item (take n bytes.now) → IsBareItem item → ⊥)) }
+    ensures begins { IfErr result (λ fault. IfWant fault (BeginsWithParts bytes.now)) }
 {
     let (item, rest) = item(alloc, MAX_NESTING, bytes)?;
     Ok((item, bytes.len() - rest.len()))
 }
 
-/// The item whose text the bytes are, all of them (RFC 8949, section 4.2.1). Malformed where the bytes are
-/// no item's text, OutOfMemory where memory ran out before that was known: the tree grows as it is read. Linear in the
-/// bytes.
+/// The item whose text the bytes are, all of them (RFC 8949, section 4.2.1). Malformed where the bytes are no item's
+/// text, OutOfMemory where memory ran out before that was known: the tree grows as it is read. Only bytes that begin
+/// with the head of a byte string, an array or a map with something in it ask for memory. Linear in the bytes.
 ///
 /// ```text
 /// let item = cbor::decode(alloc, b"\x82\x01\xf6")?; // the array of 1 and null
@@ -166,6 +179,9 @@ pub fn read(alloc: Global, bytes: &[u8]) -> Result<(Item, usize), CborFault>
 pub fn decode(alloc: Global, bytes: &[u8]) -> Result<Item, CborFault>
     ensures found { IfOk result (λ item. Spells (item_of item) bytes.now) }
     ensures malformed { IfErr result (λ fault. IfMalformed fault ((item : cbor.Item) → Spells item bytes.now → ⊥)) }
+    ensures want { IfErr result (λ fault. IfWant fault ((item : cbor.Item) → Spells item bytes.now → IsBareItem item
+        → ⊥)) }
+    ensures begins { IfErr result (λ fault. IfWant fault (BeginsWithParts bytes.now)) }
 {
     let (item, length) = read(alloc, bytes)?;
     if length != bytes.len() {

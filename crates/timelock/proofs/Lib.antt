@@ -1,5 +1,6 @@
 pub mod Members
 pub mod Opened
+pub mod Bare
 pub mod ScriptTexts
 pub mod Fits
 pub mod ScriptClauses

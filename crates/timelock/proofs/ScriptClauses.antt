@@ -6,13 +6,14 @@ use Rattle.sha2.specs.Sha256.{sha256}
 use Rattle.model.specs.Cbor.{text_of, nesting, items_nesting, HasRisingKeys, ItemsHaveRisingKeys, HasText}
 use Rattle.model.specs.Script.{Script, Scripts, RequireSignature, RequireAllOf, RequireAnyOf, RequireMOf, RequireTimeStart, RequireTimeExpire, NoScripts, NextScript, item_of_script, items_of_scripts, IsScript, SpellsScript, script_hash_of}
 use Rattle.model.proofs.ScriptTexts.{scripts_apart}
-use Rattle.cbor.specs.Gives.{Gives, Refuses, IfMalformed}
+use Rattle.cbor.specs.Gives.{Gives, GivesNo, Refuses, IfMalformed, IfWant}
 use Rattle.cbor.specs.Texts.{BeginsWithText}
 use Rattle.cbor.specs.declared.fault.CborFault.{CborFault}
 use Rattle.cbor.specs.declared.fault.CborFault.TheVariants as faults
-use Rattle.cbor.proofs.ForCallers.{IsBytes, Fits, text_fits, has_text, reads_found, reads_refused}
+use Rattle.cbor.proofs.ForCallers.{IsBytes, Fits, text_fits, has_text, reads_found, reads_refused, want_map}
 use Rattle.timelock.specs.Depth.{depth_of_script, depth_of_scripts}
 use Rattle.timelock.specs.Fitting.{FitsIn}
+use Rattle.timelock.specs.Bare.{IsBareScript}
 use Rattle.timelock.specs.Reading.{script_at}
 use Rattle.timelock.proofs.ScriptTexts.{IsWithin, levels_of, script_reads}
 
@@ -22,15 +23,16 @@ use Rattle.timelock.proofs.ScriptTexts.{IsWithin, levels_of, script_reads}
 pub script_found : (depth : ℕ) → levels_of depth ≤ 64 → (bytes : List ℕ) (script : Script) (rest : List ℕ) → IsBytes bytes → script_at depth bytes ≡ Some (script, rest) → BeginsWithText (SpellsScript script) bytes rest
 script_found depth le = reads_found (script_reads depth) SpellsScript le (λ s p t. record { shape = p.shape; text = record { has_text = t; spelled = refl } })
 
+-- what a script's text has
+spelled : (s : Script) (text : List ℕ) → SpellsScript s text → IsWithin 64 s × Fits (item_of_script s) × (text ≡ text_of (item_of_script s))
+spelled s text spells =
+    let t = spells.text in
+    let has = t.has_text in
+    (record { shape = spells.shape; nests = has.nests }, text_fits has, t.spelled)
+
 -- where none is read none stands first
 pub script_refused : (fault : CborFault) (bytes : List ℕ) → Refuses fault (script_at 32 bytes) → IfMalformed fault ((script : Script) (rest : List ℕ) → BeginsWithText (SpellsScript script) bytes rest → ⊥)
-script_refused = reads_refused (script_reads 32) SpellsScript within
-  where
-    within : (s : Script) (text : List ℕ) → SpellsScript s text → IsWithin 64 s × Fits (item_of_script s) × (text ≡ text_of (item_of_script s))
-    within s text spells =
-        let t = spells.text in
-        let has = t.has_text in
-        (record { shape = spells.shape; nests = has.nests }, text_fits has, t.spelled)
+script_refused = reads_refused (script_reads 32) SpellsScript spelled
 
 -- ---- making
 
@@ -86,6 +88,22 @@ first_refused bytes (Err fault) e = script_refused fault bytes e
 pub whole_refused : (fault : CborFault) (bytes : List ℕ) → IfMalformed fault ((script : Script) (rest : List ℕ) → BeginsWithText (SpellsScript script) bytes rest → ⊥) → IfMalformed fault ((script : Script) → SpellsScript script bytes → ⊥)
 whole_refused faults.Malformed bytes h = λ script p. h script [] (record { text = bytes; spelled = p; parts = sym (append-nil bytes) })
 whole_refused faults.OutOfMemory bytes h = tt
+
+-- where nothing that is read was bare, no bytes that begin with a bare script's text were read
+first_bare : (bytes : List ℕ) → GivesNo (λ x. IsBareScript x.0) (script_at 32 bytes) → (script : Script) (rest : List ℕ) → BeginsWithText (SpellsScript script) bytes rest → IsBareScript script → ⊥
+first_bare bytes none script rest b bare =
+    let laws = script_reads 32 in
+    let s = spelled script b.text b.spelled in
+    none (script, rest) (ap (script_at 32) (b.parts ∙ ap (λ (text : List ℕ). text ++ rest) s.2) ∙ laws.again script rest s.1 s.0) bare
+
+pub first_wants : {X : Type 0} (r : Result X CborFault) (bytes : List ℕ) → IfErr r (λ fault. IfWant fault (GivesNo (λ x. IsBareScript x.0) (script_at 32 bytes)))
+    → IfErr r (λ fault. IfWant fault ((script : Script) (rest : List ℕ) → BeginsWithText (SpellsScript script) bytes rest → IsBareScript script → ⊥))
+first_wants (Ok x) bytes w = tt
+first_wants (Err fault) bytes w = want_map fault (first_bare bytes) w
+
+-- the same of a script that is all of the bytes
+pub whole_wants : (fault : CborFault) (bytes : List ℕ) → IfWant fault ((script : Script) (rest : List ℕ) → BeginsWithText (SpellsScript script) bytes rest → IsBareScript script → ⊥) → IfWant fault ((script : Script) → SpellsScript script bytes → IsBareScript script → ⊥)
+whole_wants fault bytes = want_map fault (λ none script p. none script [] (record { text = bytes; spelled = p; parts = sym (append-nil bytes) }))
 
 -- bytes of which only the front is a script's text are none
 pub more_follows : (bytes : List ℕ) (found : Script) (rest : List ℕ) → (rest ≡ [] → ⊥) → BeginsWithText (SpellsScript found) bytes rest → (script : Script) → SpellsScript script bytes → ⊥

@@ -1,18 +1,21 @@
 //! Reading timelocks (RFC 8949, sections 3.1 and 4.2.1). Recursion goes down the nesting alone, so its depth is
 //! bounded; the time is linear in the bytes. A count that the bytes claim reserves nothing.
 
-ghost use Rattle.std.specs.Prelude.{◌≡◌, map};
+ghost use Rattle.std.specs.Prelude.{◌≡◌, ◌<◌, map, IfErr, OnErr};
+ghost use Rattle.model.specs.Script.{NoScripts};
 ghost use Rattle.cbor.specs.Shapes.{list_at};
-ghost use Rattle.cbor.specs.Gives.{Gives};
+ghost use Rattle.cbor.specs.Gives.{Gives, GivesNo, IfWant};
 ghost use Rattle.timelock.specs.View.{timelock_of};
 ghost use Rattle.timelock.specs.Reading.{scripts_at, members_of_kind, of_kind_at, script_at};
+ghost use Rattle.timelock.specs.Bare.{IsBareScript, BeginsLikeScript};
 
 use crate::timelock::{Timelock, Timelocks};
 use cbor::CborFault;
 use ident::KeyHash;
 use std::alloc::Global;
 
-/// So many timelocks, one after the other, of which at most `depth` stand in one another.
+/// So many timelocks, one after the other, of which at most `depth` stand in one another. Where there is none no memory
+/// is asked for.
 #[cycle(reading)]
 fn list(
     alloc: Global,
@@ -20,7 +23,9 @@ fn list(
     count: u64,
     bytes: &[u8],
 ) -> Result<(Vec<Timelock>, &[u8]), CborFault>
-    ensures { Gives (λ x. (map timelock_of x.0.items, x.1.now)) result (list_at (script_at depth) count bytes.now) }
+    ensures exact { Gives (λ x. (map timelock_of x.0.items, x.1.now)) result
+        (list_at (script_at depth) count bytes.now) }
+    ensures some { OnErr result (0 < count) }
 {
     let mut list = Vec::new(alloc);
     let mut rest = bytes;
@@ -32,11 +37,13 @@ fn list(
     Ok((list, rest))
 }
 
-/// An array of timelocks, of which at most `depth` stand in one another.
+/// An array of timelocks, of which at most `depth` stand in one another. The empty array asks for no memory.
 #[cycle(reading)]
 #[tactic(auto, using(crate::proofs::Members::scripts_are), unfolding(crate::specs::Reading::scripts_at, cbor::specs::Shapes::as_at, cbor::specs::Shapes::list_array_at))]
 fn members(alloc: Global, depth: usize, bytes: &[u8]) -> Result<(Timelocks, &[u8]), CborFault>
-    ensures { Gives (λ x. (x.0, x.1.now)) result (scripts_at (script_at depth) bytes.now) }
+    ensures exact { Gives (λ x. (x.0, x.1.now)) result (scripts_at (script_at depth) bytes.now) }
+    ensures want { IfErr result (λ fault. IfWant fault
+        (GivesNo (λ x. x.0 ≡ NoScripts) (scripts_at (script_at depth) bytes.now))) }
 {
     let (count, rest) = cbor::array(bytes).ok_or(CborFault::Malformed)?;
     let (list, rest) = list(alloc, depth, count, rest)?;
@@ -59,7 +66,9 @@ fn of_kind(
     kind: u64,
     bytes: &[u8],
 ) -> Result<(Timelock, &[u8]), CborFault>
-    ensures { Gives (λ x. (timelock_of x.0, x.1.now)) result (of_kind_at (script_at depth) kind bytes.now) }
+    ensures exact { Gives (λ x. (timelock_of x.0, x.1.now)) result (of_kind_at (script_at depth) kind bytes.now) }
+    ensures want { IfErr result (λ fault. IfWant fault
+        (GivesNo (λ x. IsBareScript x.0) (of_kind_at (script_at depth) kind bytes.now))) }
 {
     match kind {
         0 => {
@@ -91,11 +100,14 @@ fn of_kind(
     }
 }
 
-/// The timelock that stands first, of which at most `depth` stand in one another, and the bytes after it.
+/// The timelock that stands first, of which at most `depth` stand in one another, and the bytes after it. Only those
+/// that stand in others ask for memory.
 #[cycle(reading)]
 #[tactic(auto, unfolding(crate::specs::Reading::script_at, crate::specs::Reading::script_with))]
 pub fn timelock(alloc: Global, depth: usize, bytes: &[u8]) -> Result<(Timelock, &[u8]), CborFault>
-    ensures { Gives (λ x. (timelock_of x.0, x.1.now)) result (script_at depth bytes.now) }
+    ensures exact { Gives (λ x. (timelock_of x.0, x.1.now)) result (script_at depth bytes.now) }
+    ensures want { IfErr result (λ fault. IfWant fault (GivesNo (λ x. IsBareScript x.0) (script_at depth bytes.now))) }
+    ensures begins { IfErr result (λ fault. IfWant fault (BeginsLikeScript bytes.now)) }
 {
     if depth == 0 {
         return Err(CborFault::Malformed);

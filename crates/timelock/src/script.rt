@@ -6,10 +6,11 @@ ghost use Rattle.model.specs.Limits.{nesting_limit};
 ghost use Rattle.model.specs.Cbor.{text_of, nesting};
 ghost use Rattle.model.specs.Script as model;
 ghost use Rattle.model.specs.Script.{item_of_script, SpellsScript, script_hash_of, Holds};
-ghost use Rattle.cbor.specs.Gives.{Gives, IfMalformed};
+ghost use Rattle.cbor.specs.Gives.{Gives, GivesNo, IfMalformed, IfWant};
 ghost use Rattle.cbor.specs.Texts.{BeginsWithText, Writes};
 ghost use Rattle.timelock.specs.View.{timelock_of, interval_of, key_bytes};
 ghost use Rattle.timelock.specs.Reading.{script_at};
+ghost use Rattle.timelock.specs.Bare.{IsBareScript, BeginsLikeScript};
 ghost use Rattle.timelock.specs.Made.{IsRefused};
 
 use crate::copying::clone_timelock;
@@ -87,7 +88,10 @@ impl Script {
     /// The script that stands first, of which at most `depth` timelocks stand in one another, and the bytes after it.
     fn first(alloc: Global, depth: usize, bytes: &[u8]) -> Result<(Script, &[u8]), CborFault>
         requires { depth ≤ 32 }
-        ensures { Gives (λ x. (x.0, x.1.now)) result (script_at depth bytes.now) }
+        ensures exact { Gives (λ x. (x.0, x.1.now)) result (script_at depth bytes.now) }
+        ensures want { IfErr result (λ fault. IfWant fault
+            (GivesNo (λ x. IsBareScript x.0) (script_at depth bytes.now))) }
+        ensures begins { IfErr result (λ fault. IfWant fault (BeginsLikeScript bytes.now)) }
     {
         let (timelock, rest) = timelock(alloc, depth, bytes)?;
         let (text, _) = bytes.split_at(bytes.len() - rest.len());
@@ -101,8 +105,9 @@ impl Script {
     }
 
     /// The script whose text stands first, and the bytes after it (RFC 8949, section 4.2.1). Malformed where no
-    /// script's text stands there, OutOfMemory where memory ran out before that was known. Linear in the bytes of the
-    /// text, which are hashed where they stand.
+    /// script's text stands there, OutOfMemory where memory ran out before that was known: scripts that stand in others
+    /// alone ask for memory, and none is asked for where the bytes don't begin with the head of an array of two or
+    /// three. Linear in the bytes of the text, which are hashed where they stand.
     ///
     /// ```text
     /// let (script, rest) = Script::read(alloc, b"\x82\x04\x05\xf6")?; // from slot 5 on, and null after it
@@ -112,6 +117,9 @@ impl Script {
         ensures found { IfOk result (λ x. BeginsWithText (SpellsScript x.0) bytes.now x.1.now) }
         ensures malformed { IfErr result (λ fault. IfMalformed fault ((script : model.Script) (rest : List ℕ) →
             BeginsWithText (SpellsScript script) bytes.now rest → ⊥)) }
+        ensures want { IfErr result (λ fault. IfWant fault ((script : model.Script) (rest : List ℕ) →
+            BeginsWithText (SpellsScript script) bytes.now rest → IsBareScript script → ⊥)) }
+        ensures begins { IfErr result (λ fault. IfWant fault (BeginsLikeScript bytes.now)) }
     {
         Script::first(alloc, MAX_DEPTH, bytes)
     }
@@ -122,6 +130,9 @@ impl Script {
         ensures found { IfOk result (λ script. SpellsScript script bytes.now) }
         ensures malformed { IfErr result (λ fault. IfMalformed fault ((script : model.Script) →
             SpellsScript script bytes.now → ⊥)) }
+        ensures want { IfErr result (λ fault. IfWant fault ((script : model.Script) →
+            SpellsScript script bytes.now → IsBareScript script → ⊥)) }
+        ensures begins { IfErr result (λ fault. IfWant fault (BeginsLikeScript bytes.now)) }
     {
         let (script, rest) = Script::read(alloc, bytes)?;
         if !rest.is_empty() {

@@ -3,15 +3,11 @@ use Rattle.std.proofs.Common.{◌≡◌, ℕ, List, [], Some, Result, IfErr}
 use Rattle.cbor.specs.declared.fault.CborFault.{CborFault}
 use Rattle.cbor.specs.Gives.{IfWant, GivesNo}
 use Rattle.cbor.specs.Shapes.{key_at, optional_field_at}
-use Rattle.cbor.proofs.ForCallers.{whatever_err, wants_at_err, no_as_fields, no_optional_field, no_such, no_empty}
+use Rattle.cbor.proofs.ForCallers.{wants_anyway, no_as_fields, no_optional_field, no_such, no_empty}
 use Rattle.value.specs.Reading.{mint_at}
 use Rattle.tx.specs.BodyReading.{or_nothing, minted_field_at}
 use Rattle.tx.specs.TransactionReading.{or_none, signatures_field_at, scripts_field_at, scripts_at}
 use Rattle.tx.specs.Reading.{signatures_at}
-
--- what holds anyway holds where memory was wanting
-wants_anyway : {T : Type 0} (r : Result T CborFault) (P : Type 0) → P → IfErr r (λ fault. IfWant fault P)
-wants_anyway r P p = wants_at_err r P (whatever_err r P p)
 
 -- what is minted is not nothing
 pub minted_wants : {T : Type 0} (r : Result T CborFault) (left : ℕ) (bytes : List ℕ) (n : ℕ) (text : List ℕ) → key_at 9 left bytes ≡ Some (n, text) → IfErr r (λ fault. IfWant fault (GivesNo (λ x. x.0 ≡ []) (minted_field_at left bytes)))

@@ -9,6 +9,7 @@ ghost use Rattle.model.specs.Transaction.{item_of_transaction, SpellsTransaction
 ghost use Rattle.model.specs.Transaction.{interval_of_transaction};
 ghost use Rattle.cbor.specs.Gives.{Gives, GivesNo, IfMalformed, IfWant};
 ghost use Rattle.cbor.specs.Texts.{BeginsWithText, Keeps, Writes};
+ghost use Rattle.cbor.specs.Bare.{BeginsWithHead};
 ghost use Rattle.timelock.specs.View.{interval_of};
 ghost use Rattle.tx.specs.View.{input_of, output_of, witness_of};
 ghost use Rattle.tx.specs.TransactionReading.{transaction_at};
@@ -68,6 +69,7 @@ impl Tx {
         ensures exact { Gives (λ x. (x.0, x.1.now)) result (transaction_at depth bytes.now) }
         ensures want { IfErr result (λ fault. IfWant fault
             (GivesNo (λ x. IsBare x.0) (transaction_at depth bytes.now))) }
+        ensures begins { IfErr result (λ fault. IfWant fault (BeginsWithHead 4 3 bytes.now)) }
     {
         let members = cbor::members(bytes, 3).ok_or(CborFault::Malformed)?;
         let (body, after_body) = Body::read(alloc, members)?;
@@ -131,14 +133,16 @@ impl Tx {
 
     /// The transaction whose text stands first, and the bytes after it (RFC 8949, section 4.2.1; an array of the body,
     /// the witness set and null). Malformed where no transaction's text stands there, OutOfMemory where memory ran out
-    /// before that was known: memory is asked for by inputs, outputs, mints, signatures and scripts alone. Linear in
-    /// the bytes of the text; the body's are hashed where they stand.
+    /// before that was known: memory is asked for by inputs, outputs, mints, signatures and scripts alone, and only
+    /// where the bytes begin with the head of an array of three. Linear in the bytes of the text; the body's are hashed
+    /// where they stand.
     pub fn read(alloc: Global, bytes: &[u8]) -> Result<(Tx, &[u8]), CborFault>
         ensures found { IfOk result (λ x. BeginsWithText (SpellsTransaction x.0) bytes.now x.1.now) }
         ensures malformed { IfErr result (λ fault. IfMalformed fault ((tx : model.Transaction) (rest : List ℕ) →
             BeginsWithText (SpellsTransaction tx) bytes.now rest → ⊥)) }
         ensures want { IfErr result (λ fault. IfWant fault ((tx : model.Transaction) (rest : List ℕ) →
             BeginsWithText (SpellsTransaction tx) bytes.now rest → IsBare tx → ⊥)) }
+        ensures begins { IfErr result (λ fault. IfWant fault (BeginsWithHead 4 3 bytes.now)) }
     {
         Tx::first(alloc, MAX_SCRIPT_NESTING, bytes)
     }
@@ -156,6 +160,7 @@ impl Tx {
             SpellsTransaction tx bytes.now → ⊥)) }
         ensures want { IfErr result (λ fault. IfWant fault ((tx : model.Transaction) →
             SpellsTransaction tx bytes.now → IsBare tx → ⊥)) }
+        ensures begins { IfErr result (λ fault. IfWant fault (BeginsWithHead 4 3 bytes.now)) }
     {
         let (tx, rest) = Tx::read(alloc, bytes)?;
         if !rest.is_empty() {

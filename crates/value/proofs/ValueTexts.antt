@@ -4,14 +4,15 @@ use Rattle.std.proofs.Common.{◌≡◌, ◌≢◌, ℕ, ◌≤◌, List, [], �
 use Rattle.std.specs.Prelude.{◌⊎◌}
 use Rattle.std.specs.List.{AllByRecursion}
 use Rattle.model.specs.Limits.{hash_size, name_size_limit}
-use Rattle.model.specs.Cbor.{Item, Unsigned, text_of, array_of}
+use Rattle.model.specs.Cbor.{Item, Unsigned, head, text_of, array_of}
 use Rattle.model.specs.Value.{Token, Policy, Value, Mint, item_of_number, entry_of_token, entry_of_policy, item_of_assets, coin_with, item_of_value, IsPolicy, IsValue, IsMint, IsMintedQuantity, SpellsValue, SpellsMint}
 use Rattle.cbor.specs.Reading.{head_at}
-use Rattle.cbor.specs.Gives.{Refuses, IfMalformed}
+use Rattle.cbor.specs.Gives.{Refuses, IfMalformed, IfWant}
+use Rattle.cbor.specs.Bare.{BeginsWithHead}
 use Rattle.cbor.specs.Shapes.{Reading, as_at}
 use Rattle.cbor.specs.Texts.{BeginsWithText}
 use Rattle.cbor.specs.declared.fault.CborFault.{CborFault}
-use Rattle.cbor.proofs.ForCallers.{IsBytes, Fits, ReadsItem, ReadsEntry, unsigned_reads, fixed_reads, short_reads, as_reads, same_reads, either_reads, nonempty_reads, last_reads, both_reads, array_reads, entry_reads, same_entries_read, map_reads, major_of, other_major, text_fits, reads_found, reads_refused}
+use Rattle.cbor.proofs.ForCallers.{IsBytes, Fits, ReadsItem, ReadsEntry, unsigned_reads, fixed_reads, short_reads, as_reads, same_reads, either_reads, nonempty_reads, last_reads, both_reads, array_reads, entry_reads, same_entries_read, map_reads, major_of, other_major, text_fits, reads_found, reads_refused, want_map, one_head}
 use Rattle.value.specs.Quantities.{held_at, minted_at}
 use Rattle.value.specs.Reading.{token_with, token_at, policy_with, policy_at, assets_at, coin_alone, coin_and, coin_and_at, value_at, mint_at}
 use Rattle.value.proofs.QuantityTexts.{held_reads, minted_reads}
@@ -102,3 +103,17 @@ mint_found = reads_found mint_reads SpellsMint (omega arith) (λ m p t. record {
 -- where nothing is read nothing stands first
 pub mint_refused : (fault : CborFault) (bytes : List ℕ) → Refuses fault (mint_at bytes) → IfMalformed fault ((mint : Mint) (rest : List ℕ) → BeginsWithText (SpellsMint mint) bytes rest → ⊥)
 mint_refused = reads_refused mint_reads SpellsMint (λ m text s. ((s.is_mint, s.not_empty), text_fits s.spelled.has_text, s.spelled.spelled))
+
+-- ---- where memory is wanting
+
+-- bytes that begin with the head of an array begin with no value of coin alone
+no_coin : (bytes : List ℕ) → BeginsWithHead 4 2 bytes → (value : Value) (rest : List ℕ) → BeginsWithText (SpellsValue value) bytes rest → value.assets ≡ [] → ⊥
+no_coin bytes begins value rest b none =
+    let spells = b.spelled in
+    let text : b.text ≡ head 0 value.coin = spells.spelled.spelled ∙ ap (λ (ps : List (Policy ℕ)). text_of (coin_with value.coin ps)) none in
+    let one = one_head 0 value.coin 4 2 rest begins.rest (ap (λ (t : List ℕ). t ++ rest) (sym text) ∙ sym b.parts ∙ begins.parts) in
+    let same = one.0 in
+    omega (arith, same)
+
+pub value_wants : (fault : CborFault) (bytes : List ℕ) → IfWant fault (BeginsWithHead 4 2 bytes) → IfWant fault ((value : Value) (rest : List ℕ) → BeginsWithText (SpellsValue value) bytes rest → value.assets ≡ [] → ⊥)
+value_wants fault bytes = want_map fault (no_coin bytes)

@@ -5,8 +5,9 @@ ghost use Rattle.std.specs.Prelude.{OnOk, OnErr, vec_len, vec_capacity};
 ghost use Rattle.model.specs.Cbor.{text_of, HasText, nesting};
 ghost use Rattle.model.specs.Value as model;
 ghost use Rattle.model.specs.Value.{item_of_number, item_of_assets, IsMint, SpellsMint, Asset, minted_amount};
-ghost use Rattle.cbor.specs.Gives.{IfMalformed};
+ghost use Rattle.cbor.specs.Gives.{IfMalformed, IfWant};
 ghost use Rattle.cbor.specs.Texts.{BeginsWithText};
+ghost use Rattle.cbor.specs.Bare.{BeginsWithSome};
 ghost use Rattle.value.specs.Totals.{total_of, policies_met};
 ghost use Rattle.value.specs.Listed.{listed};
 ghost use Rattle.value.specs.Parts.{IsMintOf, IsAssetFault, IfAtFault};
@@ -103,13 +104,15 @@ impl Mint {
         })
     }
 
-    /// What is minted by the text that stands first, and the bytes after it (RFC 8949, section 4.2.1; the
-    /// mint field of Shelley-MA's bodies, which is never empty). Malformed where no such text stands there,
-    /// OutOfMemory where memory ran out before that was known. Linear in the bytes of the text.
+    /// What is minted by the text that stands first, and the bytes after it (RFC 8949, section 4.2.1; the mint field of
+    /// Shelley-MA's bodies, which is never empty). Malformed where no such text stands there, OutOfMemory where memory
+    /// ran out before that was known: only bytes that begin with the head of a map with entries ask for memory. Linear
+    /// in the bytes of the text.
     pub fn read(alloc: Global, bytes: &[u8]) -> Result<(Mint, &[u8]), CborFault>
         ensures found { IfOk result (λ x. BeginsWithText (SpellsMint x.0) bytes.now x.1.now) }
         ensures malformed { IfErr result (λ fault. IfMalformed fault ((mint : model.Mint) (rest : List ℕ) →
             BeginsWithText (SpellsMint mint) bytes.now rest → ⊥)) }
+        ensures begins { IfErr result (λ fault. IfWant fault (BeginsWithSome 5 bytes.now)) }
     {
         let (policies, rest) = cbor::nonempty_map(alloc, bytes)?;
         let mint = Mint { alloc, policies };

@@ -1,9 +1,10 @@
 //! Readers of assets (RFC 8949, sections 3.1 and 4.2.1): from a slice to what stands first and the bytes
 //! after it. They take time in proportion to the bytes, and a count that the bytes claim reserves nothing.
 
-ghost use Rattle.std.specs.Prelude.{◌≡◌, map};
+ghost use Rattle.std.specs.Prelude.{◌≡◌, map, IfErr};
 ghost use Rattle.model.specs.Value as model;
-ghost use Rattle.cbor.specs.Gives.{Gives};
+ghost use Rattle.cbor.specs.Gives.{Gives, IfWant};
+ghost use Rattle.cbor.specs.Bare.{BeginsWithHead};
 ghost use Rattle.value.specs.Reading.{token_at, policy_at, coin_and_at, value_at};
 ghost use Rattle.value.specs.View.{token_of, policy_of, value_with};
 
@@ -57,10 +58,11 @@ impl<Q: Quantity> DecodeEntry for Policy<Q> {
     }
 }
 
-/// Coin and assets in an array, and the bytes after them.
+/// Coin and assets in an array, and the bytes after them. Only where such an array begins memory is asked for.
 #[tactic(auto, unfolding(crate::specs::Reading::coin_and_at, cbor::specs::Shapes::as_at, cbor::specs::Shapes::array_at, cbor::specs::Shapes::both_at))]
 fn coin_and_assets(alloc: Global, bytes: &[u8]) -> Result<(u64, Vec<Policy<u64>>, &[u8]), CborFault>
-    ensures { Gives (λ x. (value_with x.0 x.1.items, x.2.now)) result (coin_and_at bytes.now) }
+    ensures exact { Gives (λ x. (value_with x.0 x.1.items, x.2.now)) result (coin_and_at bytes.now) }
+    ensures begins { IfErr result (λ fault. IfWant fault (BeginsWithHead 4 2 bytes.now)) }
 {
     let members = cbor::members(bytes, 2).ok_or(CborFault::Malformed)?;
     let (coin, rest) = cbor::unsigned(members).ok_or(CborFault::Malformed)?;
@@ -68,10 +70,11 @@ fn coin_and_assets(alloc: Global, bytes: &[u8]) -> Result<(u64, Vec<Policy<u64>>
     Ok((coin, assets, rest))
 }
 
-/// Coin alone or with assets, and the bytes after them.
+/// Coin alone or with assets, and the bytes after them. Coin alone asks for no memory.
 #[tactic(auto, unfolding(crate::specs::Reading::value_at, cbor::specs::Shapes::either_at, cbor::specs::Shapes::as_at))]
 pub fn coin_with(alloc: Global, bytes: &[u8]) -> Result<(u64, Vec<Policy<u64>>, &[u8]), CborFault>
-    ensures { Gives (λ x. (value_with x.0 x.1.items, x.2.now)) result (value_at bytes.now) }
+    ensures exact { Gives (λ x. (value_with x.0 x.1.items, x.2.now)) result (value_at bytes.now) }
+    ensures begins { IfErr result (λ fault. IfWant fault (BeginsWithHead 4 2 bytes.now)) }
 {
     if let Some((coin, rest)) = cbor::unsigned(bytes) {
         return Ok((coin, Vec::new(alloc), rest));

@@ -5,8 +5,9 @@ ghost use Rattle.std.specs.Prelude.{OnOk, OnErr, vec_len, vec_capacity, pos};
 ghost use Rattle.model.specs.Cbor.{text_of, HasText, nesting};
 ghost use Rattle.model.specs.Value as model;
 ghost use Rattle.model.specs.Value.{item_of_value, IsValue, SpellsValue, Asset, amount_of};
-ghost use Rattle.cbor.specs.Gives.{IfMalformed};
+ghost use Rattle.cbor.specs.Gives.{IfMalformed, IfWant};
 ghost use Rattle.cbor.specs.Texts.{BeginsWithText};
+ghost use Rattle.cbor.specs.Bare.{BeginsWithHead};
 ghost use Rattle.value.specs.Totals.{total_of, policies_met};
 ghost use Rattle.value.specs.Listed.{listed};
 ghost use Rattle.value.specs.Parts.{IsValueOf, IsAssetFault, IfAtFault};
@@ -117,9 +118,10 @@ impl Value {
         })
     }
 
-    /// The value whose text stands first, and the bytes after it (RFC 8949, section 4.2.1; the value of
-    /// Shelley-MA's outputs). Malformed where no value's text stands there, OutOfMemory where memory ran out before
-    /// that was known: the assets are kept as they are read. Linear in the bytes of the text.
+    /// The value whose text stands first, and the bytes after it (RFC 8949, section 4.2.1; the value of Shelley-MA's
+    /// outputs). Malformed where no value's text stands there, OutOfMemory where memory ran out before that was known:
+    /// the assets are kept as they are read. Coin alone asks for no memory, nor do bytes that don't begin with the head
+    /// of an array of two. Linear in the bytes of the text.
     ///
     /// ```text
     /// let (value, rest) = Value::read(alloc, b"\x19\x03\x20\xf6")?; // 800 lovelace, and null after it
@@ -129,6 +131,9 @@ impl Value {
         ensures found { IfOk result (λ x. BeginsWithText (SpellsValue x.0) bytes.now x.1.now) }
         ensures malformed { IfErr result (λ fault. IfMalformed fault ((value : model.Value) (rest : List ℕ) →
             BeginsWithText (SpellsValue value) bytes.now rest → ⊥)) }
+        ensures want { IfErr result (λ fault. IfWant fault ((value : model.Value) (rest : List ℕ) →
+            BeginsWithText (SpellsValue value) bytes.now rest → value.assets ≡ [] → ⊥)) }
+        ensures begins { IfErr result (λ fault. IfWant fault (BeginsWithHead 4 2 bytes.now)) }
     {
         let (coin, assets, rest) = reader::coin_with(alloc, bytes)?;
         let value = Value {

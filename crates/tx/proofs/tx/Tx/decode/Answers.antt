@@ -17,3 +17,8 @@ returns-in_err-tx-clause-want c =
 
 pub returns-clause-found : goal.returns-clause-found
 returns-clause-found c = whole_found c.in_ok-tx.tx c.args.bytes.now c.in_ok-tx.rest.now c.is_empty.result c.is_empty.ensures c.if-not-is_empty.false c.in_ok-tx.ensures.found
+
+pub returns-in_err-tx-clause-begins : goal.returns-in_err-tx-clause-begins
+returns-in_err-tx-clause-begins c =
+    let p = err_from_is_err_and c.from_residual.result c.from_residual.ensures.1 in
+    rw (p.1, p.2) c.in_err-tx.ensures.begins
