@@ -1,6 +1,6 @@
 //! Transactions in the making.
 
-ghost use Rattle.std.specs.Prelude.{◌≡◌, [], ◌∷◌, ◌++◌, map, IfOk, OnOk, OnErr};
+ghost use Rattle.std.specs.Prelude.{◌≡◌, [], ◌∷◌, ◌++◌, map, IfOk, IfErr, OnOk, OnErr};
 ghost use Rattle.model.specs.Cbor.{text_of};
 ghost use Rattle.model.specs.Transaction.{SpellsTransaction, item_of_transaction};
 ghost use Rattle.value.specs.View.{asset_of};
@@ -11,6 +11,7 @@ ghost use Rattle.draft.specs.Draft.{with_input, with_output, with_fee, with_star
 ghost use Rattle.draft.specs.Draft.{with_signer, with_script};
 ghost use Rattle.draft.specs.View.{IsDraftOf, Adds};
 ghost use Rattle.draft.specs.SignerView.{is_good};
+ghost use Rattle.draft.specs.declared.draft_fault.DraftFault.TheVariants.{NotBuilt};
 
 use crate::draft_fault::DraftFault;
 use crate::keyed::Keyed;
@@ -98,7 +99,8 @@ impl Draft {
 
     /// Sets the fee, in lovelace. NotBuilt where it is set. Takes no memory. Constant time.
     pub fn set_fee(&mut self, fee: u64) -> Result<(), DraftFault>
-        ensures { Adds (with_fee fee) self.old self.new result }
+        ensures adds { Adds (with_fee fee) self.old self.new result }
+        ensures refused { IfErr result (λ fault. fault ≡ NotBuilt) }
     {
         if self.fee.is_some() {
             return Err(DraftFault::NotBuilt);
@@ -109,7 +111,8 @@ impl Draft {
 
     /// Sets the slot from which on the transaction holds. NotBuilt where it is set. Takes no memory. Constant time.
     pub fn set_start(&mut self, slot: u64) -> Result<(), DraftFault>
-        ensures { Adds (with_start slot) self.old self.new result }
+        ensures adds { Adds (with_start slot) self.old self.new result }
+        ensures refused { IfErr result (λ fault. fault ≡ NotBuilt) }
     {
         if self.start.is_some() {
             return Err(DraftFault::NotBuilt);
@@ -120,7 +123,8 @@ impl Draft {
 
     /// Sets the slot before which the transaction holds. NotBuilt where it is set. Takes no memory. Constant time.
     pub fn set_end(&mut self, slot: u64) -> Result<(), DraftFault>
-        ensures { Adds (with_end slot) self.old self.new result }
+        ensures adds { Adds (with_end slot) self.old self.new result }
+        ensures refused { IfErr result (λ fault. fault ≡ NotBuilt) }
     {
         if self.end.is_some() {
             return Err(DraftFault::NotBuilt);

@@ -1,14 +1,19 @@
 -- What a look-up and a change of a key do in a list that is split at one of its entries.
-use Rattle.std.proofs.Common.{◌≡◌, Bool, true, false, cond, not, ◌&&◌, T, List, [], ◌∷◌, ◌++◌, is_some, refl, sym, ap, subst, ◌∙◌}
+use Rattle.std.proofs.Common.{◌≡◌, Bool, true, false, cond, not, ◌&&◌, T, List, [], ◌∷◌, ◌++◌, is_some, Result, Ok, Err, OnErr, refl, sym, ap, subst, ◌∙◌}
+use Rattle.std.specs.Prelude.{IsSome}
 use Rattle.std.specs.declared.cmp.Ordering.{Ordering}
 use Rattle.std.specs.declared.cmp.Ordering.TheVariants.{Less, Equal, Greater}
 use Rattle.std.specs.declared.option.Option.{Option}
 use Rattle.std.specs.declared.option.Option.TheVariants.{None, Some}
+use Rattle.std.specs.declared.alloc.Global.{Global}
+use Rattle.std.specs.declared.sync.Arc.{Arc}
+use Rattle.std.specs.Option.{option_map}
+use Rattle.std.specs.Arc.{arc_value}
 use Rattle.std.specs.Ordering.{is_lt, is_eq, ordering_reverse}
 use Rattle.std.specs.Cmp.{IsTotalOrder}
 use Rattle.std.specs.FinMap.{find, put, is_sorted}
 use Rattle.std.specs.FinMap.Entries.{below_all, by_order}
-use Rattle.persistent_map.specs.Order.{Rise, without}
+use Rattle.persistent_map.specs.Order.{Rise, without, WasFound, IsThere}
 
 both : (a b : Bool) → T a → T b → T (a && b)
 both true b p q = q
@@ -164,3 +169,22 @@ module _ {K V : Type 0} {R : K → K → Ordering} (o : IsTotalOrder R) where
       → Facts R q es (find R q r) (λ w. l ++ e ∷ put R q w r) (l ++ e ∷ without R q r)
   split_greater q es l e r is h p =
       subst (λ x. Facts R q x (find R q r) (λ w. l ++ e ∷ put R q w r) (l ++ e ∷ without R q r)) (sym is) (at_greater q l e r (subst (Rise R) is h).rises p)
+
+  -- where q is on its side, or is the middle one, it is there
+  pub there_left : (q : K) (es l : List (K × V)) (e : K × V) (r : List (K × V)) → es ≡ l ++ e ∷ r → R q e.0 ≡ Less → IsThere R q l → IsThere R q es
+  there_left q es l e r is p there rise = subst IsSome (sym (split_less q es l e r is rise p).found) (there (rise_left R es l e r is rise))
+
+  pub there_here : (q : K) (es l : List (K × V)) (e : K × V) (r : List (K × V)) → es ≡ l ++ e ∷ r → R q e.0 ≡ Equal → IsThere R q es
+  there_here q es l e r is p rise = subst IsSome (sym (split_equal q es l e r is rise p).found) refl
+
+  pub there_right : (q : K) (es l : List (K × V)) (e : K × V) (r : List (K × V)) → es ≡ l ++ e ∷ r → R q e.0 ≡ Greater → IsThere R q r → IsThere R q es
+  there_right q es l e r is p there rise = subst IsSome (sym (split_greater q es l e r is rise p).found) (there (rise_right R es l e r is rise))
+
+-- what was found is there
+pub found_there : {K V : Type 0} (R : K → K → Ordering) (q : K) (es : List (K × V)) (old : Option (Arc V Global)) (value : Arc V Global) → old ≡ Some value → WasFound R q es old → IsThere R q es
+found_there R q es old value is found rise = subst IsSome (ap (option_map arc_value) (sym is) ∙ found rise) refl
+
+-- what holds anyway holds where there was no memory
+pub whatever_err : {T E : Type 0} (r : Result T E) (P : Type 0) → P → OnErr r P
+whatever_err (Ok x) P p = tt
+whatever_err (Err e) P p = p

@@ -1,5 +1,5 @@
 -- Lists of entries in the order of their keys. `find`, `put` and `is_sorted` are std's, and R compares keys.
-use Rattle.std.specs.Prelude.{◌≡◌, ◌≢◌, not, List, T}
+use Rattle.std.specs.Prelude.{◌≡◌, ◌≢◌, not, List, IsSome, T}
 use Rattle.std.specs.Ordering.{eq_by_cmp}
 use Rattle.std.specs.declared.cmp.Ordering.{Ordering}
 use Rattle.std.specs.declared.cmp.Ordering.TheVariants.{Equal}
@@ -23,6 +23,10 @@ module _ {K V : Type 0} (R : K → K → Ordering) where
   -- where es rises, old is the value of q in it
   abbrev pub WasFound : K → List (K × V) → Option (Arc V Global) → Type 0
   WasFound q es old = Rise R es → option_map arc_value old ≡ find R q es
+
+  -- where es rises, q is in it
+  abbrev pub IsThere : K → List (K × V) → Type 0
+  IsThere q es = Rise R es → IsSome (find R q es)
 
   -- where es rises, new is es with v at q
   abbrev pub IsPut : K → V → List (K × V) → List (K × V) → Type 0

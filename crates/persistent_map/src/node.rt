@@ -3,7 +3,7 @@
 ghost use Rattle.std.specs.Prelude.{◌≡◌, [], ◌∷◌, IfOk, OnOk, OnErr};
 ghost use Rattle.std.specs.Arc.{arc_value};
 ghost use Rattle.persistent_map.specs.Entries.{entries_of_node};
-ghost use Rattle.persistent_map.specs.Order.{WasFound, IsPut, IsWithout, IsBeside};
+ghost use Rattle.persistent_map.specs.Order.{WasFound, IsPut, IsWithout, IsThere, IsBeside};
 
 use crate::tree::{Link, Tree};
 use std::alloc::{AllocError, Global};
@@ -64,6 +64,23 @@ impl<K: Copy, V> Node<K, V> {
     {
         let value = Arc::try_clone(&self.value)?;
         let right = self.right.try_clone()?;
+        Ok(Node {
+            left,
+            key: self.key,
+            value,
+            right,
+        })
+    }
+
+    /// The same entry and left child, with another right one.
+    pub(crate) fn with_right(&self, right: Tree<K, V>) -> Result<Node<K, V>, AllocError>
+    where
+        V: Drop,
+        ensures { IfOk result (λ node.
+            entries_of_node node ≡ entries_of_node (record self.now { right = right })) }
+    {
+        let value = Arc::try_clone(&self.value)?;
+        let left = self.left.try_clone()?;
         Ok(Node {
             left,
             key: self.key,
@@ -190,7 +207,7 @@ impl<K: Copy + Ord, V: Drop> Node<K, V> {
         }
     }
 
-    /// Takes the key out on its side of the node's own, and answers the value that it had.
+    /// Takes the key out on its side of the node's own, and answers the value that it had. Err only where it is there.
     #[cycle(remove)]
     pub(crate) fn remove_beside(
         &mut self,
@@ -203,6 +220,8 @@ impl<K: Copy + Ord, V: Drop> Node<K, V> {
         ensures ok { IsBeside K.cmp order key.now self.old.key
             → OnOk result (IsWithout K.cmp key.now (entries_of_node self.old) (entries_of_node self.new)) }
         ensures err { OnErr result (entries_of_node self.new ≡ entries_of_node self.old) }
+        ensures there { IsBeside K.cmp order key.now self.old.key
+            → OnErr result (IsThere K.cmp key.now (entries_of_node self.old)) }
     {
         let old = match order {
             Ordering::Less => self.left.remove(alloc, key)?,

@@ -1,6 +1,6 @@
 //! The map.
 
-ghost use Rattle.std.specs.Prelude.{◌≡◌, ◌↔◌, ◌≤◌, [], length, IsTrue, IfOk, OnOk, OnErr};
+ghost use Rattle.std.specs.Prelude.{◌≡◌, ◌↔◌, ◌≤◌, [], length, IsTrue, IsSome, IfOk, OnOk, OnErr};
 ghost use Rattle.std.specs.Option.{option_copied, option_map};
 ghost use Rattle.std.specs.FinMap.{find, put};
 ghost use Rattle.std.specs.Arc.{arc_value};
@@ -125,12 +125,13 @@ impl<K: Copy + Ord, V: Drop> PersistentMap<K, V> {
 
     /// Takes the key out, and answers the value that it had, or None where it was not there. Takes time in proportion
     /// to the logarithm of the length, and memory for a copy of each node on the way that another map shares, and of
-    /// those from the key to the next one; none where the key is not there. Err where there is none: the map is as it
-    /// was.
+    /// those from the key to the next one. Err where there is none, which is never so where the key is not there: the
+    /// map is as it was.
     pub fn remove(&mut self, key: &K) -> Result<Option<Arc<V>>, AllocError>
         ensures found { IfOk result (λ old. option_map arc_value old ≡ find K.cmp key.now self.old) }
         ensures ok { OnOk result (self.new ≡ without K.cmp key.now self.old) }
         ensures err { OnErr result (self.new ≡ self.old) }
+        ensures there { OnErr result (IsSome (find K.cmp key.now self.old)) }
         ensures rose { Rise K.cmp self.old }
         ensures rise { Rise K.cmp self.new }
     {

@@ -5,7 +5,7 @@ ghost use Rattle.std.specs.Option.{option_copied, option_map, option_map_or};
 ghost use Rattle.std.specs.FinMap.{find};
 ghost use Rattle.std.specs.Arc.{arc_value};
 ghost use Rattle.persistent_map.specs.Entries.{entries_of_node};
-ghost use Rattle.persistent_map.specs.Order.{Rise, WasFound, IsPut, IsWithout};
+ghost use Rattle.persistent_map.specs.Order.{Rise, WasFound, IsPut, IsWithout, IsThere};
 
 use crate::node::Node;
 use std::alloc::{AllocError, Global};
@@ -265,12 +265,13 @@ impl<K: Copy + Ord, V: Drop> Tree<K, V> {
     }
 
     /// Takes the key out, and answers the value that it had. Changes the nodes that are this tree's own in place, and
-    /// copies those that it shares. Err where there is no memory for the copies.
+    /// copies those that it shares. Err where there is no memory for the copies, and only where the key is there.
     #[cycle(remove)]
     pub(crate) fn remove(&mut self, alloc: Global, key: &K) -> Result<Option<Arc<V>>, AllocError>
         ensures found { IfOk result (WasFound K.cmp key.now self.old) }
         ensures ok { OnOk result (IsWithout K.cmp key.now self.old self.new) }
         ensures err { OnErr result (self.new ≡ self.old) }
+        ensures there { OnErr result (IsThere K.cmp key.now self.old) }
     {
         if let Link::Fork(weight, node) = &mut self.link {
             if let Some(node) = Arc::get_mut(node) {
@@ -292,29 +293,36 @@ impl<K: Copy + Ord, V: Drop> Tree<K, V> {
     }
 
     /// A tree without the key, over copies of the nodes on the way to it, and the value that it had. None where there
-    /// is no such key.
-    #[cycle(remove)]
+    /// is no such key, and then nothing was copied.
     fn without(&self, alloc: Global, key: &K) -> Result<Option<(Tree<K, V>, Arc<V>)>, AllocError>
         ensures found { IfOk result (λ made. WasFound K.cmp key.now self.now (option_map (λ m. m.1) made)) }
         ensures tree { IfOk result (λ made.
             IsWithout K.cmp key.now self.now (option_map_or (λ m. m.0) made self.now)) }
+        ensures there { OnErr result (IsThere K.cmp key.now self.now) }
     {
         let Link::Fork(_, node) = &self.link else {
             return Ok(None);
         };
-        let order = key.cmp(&node.key);
-        if order.is_eq() {
-            let old = Arc::try_clone(&node.value)?;
-            let tree = Tree::join(alloc, &node.left, &node.right)?;
-            return Ok(Some((tree, old)));
-        }
-        let mut copy = node.try_clone()?;
-        match copy.remove_beside(alloc, key, order)? {
-            None => Ok(None),
-            Some(old) => {
-                let tree = Tree::fork(alloc, copy)?;
+        match key.cmp(&node.key) {
+            Ordering::Less => match node.left.without(alloc, key)? {
+                None => Ok(None),
+                Some((left, old)) => {
+                    let tree = Tree::fork_balanced(alloc, node.with_left(left)?)?;
+                    Ok(Some((tree, old)))
+                }
+            },
+            Ordering::Equal => {
+                let old = Arc::try_clone(&node.value)?;
+                let tree = Tree::join(alloc, &node.left, &node.right)?;
                 Ok(Some((tree, old)))
             }
+            Ordering::Greater => match node.right.without(alloc, key)? {
+                None => Ok(None),
+                Some((right, old)) => {
+                    let tree = Tree::fork_balanced(alloc, node.with_right(right)?)?;
+                    Ok(Some((tree, old)))
+                }
+            },
         }
     }
 }

@@ -1,13 +1,8 @@
-use Rattle.std.proofs.Common.{◌≡◌, T, ◌∷◌, ◌++◌, Some, refl, sym, ap, subst, ◌∙◌}
-use Rattle.std.specs.declared.cmp.Ordering.TheVariants.{Equal}
-use Rattle.std.specs.Ordering.{is_eq}
-use Rattle.std.specs.Cmp.{Equal-is}
-use Rattle.std.specs.FinMap.{find}
+use Rattle.std.proofs.Common.{◌∷◌, ◌++◌, refl, sym, ap, ◌∙◌}
 use Rattle.std.specs.Option.{option_map}
 use Rattle.std.specs.Arc.{arc_value}
-use Rattle.persistent_map.specs.Entries.{entries_of, entries_of_node}
-use Rattle.persistent_map.specs.Order.{Rise}
-use Rattle.persistent_map.proofs.Split.{rise_left, rise_right, split_less, split_equal, split_greater, is_greater, without_absent}
+use Rattle.persistent_map.specs.Entries.{entries_of_node}
+use Rattle.persistent_map.proofs.Split.{rise_left, rise_right, split_less, split_greater, is_greater, there_left, there_right, whatever_err}
 use Rattle.persistent_map.proofs.+remove.Goals as goal
 use Rattle.persistent_map.proofs.+remove.Goals.{node::Node::remove_beside-in-Less+in_ok-old-in-Less, node::Node::remove_beside-in_default+in_ok-old-in_default}
 
@@ -41,30 +36,13 @@ node::Node::remove_beside-returns-clause-ok g t c = λ beside rise.
           ∙ sym (split_greater g.met.K.Ord.total c.args.key.now (entries_of_node n) n.left (n.key, n.value.value) n.right refl rise order).left_out
     ]
 
-pub tree::Tree::without-returns-then-is_eq-clause-found : goal.tree::Tree::without-returns-then-is_eq-clause-found
-tree::Tree::without-returns-then-is_eq-clause-found g t c = λ rise.
-    let n = c.in-Fork.node.value in
-    let e : c.args.self.now ≡ n.left ++ (n.key, n.value.value) ∷ n.right = sym c.self.view_is ∙ ap entries_of c.in-Fork.is in
-    let tied = (Equal-is c.cmp-order.result).0 (sym c.is_eq.ensures ∙ c.if-is_eq.true) in
-    let order = ap (λ d. g.K.Ord.cmp c.args.key.now d.key) (sym c.deref.ensures) ∙ sym c.cmp-order.ensures ∙ tied in
-    ap Some (c.in_ok-old.ensures ∙ ap (λ d. d.value.value) c.deref-then-is_eq.ensures)
-    ∙ sym (split_equal g.met.K.Ord.total c.args.key.now c.args.self.now n.left (n.key, n.value.value) n.right e rise order).found
+pub node::Node::remove_beside-returns-in_err-old-in-Less-clause-there : goal.node::Node::remove_beside-returns-in_err-old-in-Less-clause-there
+node::Node::remove_beside-returns-in_err-old-in-Less-clause-there g t c = λ beside.
+    let n = c.args.self.now in
+    whatever_err c.from_residual.result _ (there_left g.met.K.Ord.total c.args.key.now (entries_of_node n) n.left (n.key, n.value.value) n.right refl (sym beside.0 ∙ c.in-Less.is) c.in_err-old-in-Less.ensures.there)
 
-pub tree::Tree::without-returns-then-is_eq-clause-tree : goal.tree::Tree::without-returns-then-is_eq-clause-tree
-tree::Tree::without-returns-then-is_eq-clause-tree g t c = λ rise.
-    let n = c.in-Fork.node.value in
-    let e : c.args.self.now ≡ n.left ++ (n.key, n.value.value) ∷ n.right = sym c.self.view_is ∙ ap entries_of c.in-Fork.is in
-    let tied = (Equal-is c.cmp-order.result).0 (sym c.is_eq.ensures ∙ c.if-is_eq.true) in
-    let order = ap (λ d. g.K.Ord.cmp c.args.key.now d.key) (sym c.deref.ensures) ∙ sym c.cmp-order.ensures ∙ tied in
-    c.in_ok-tree.ensures ∙ ap (λ d. d.left ++ c.deref-then-is_eq-3.result.now.right) c.deref-then-is_eq-2.ensures ∙ ap (λ d. n.left ++ d.right) c.deref-then-is_eq-3.ensures
-    ∙ sym (split_equal g.met.K.Ord.total c.args.key.now c.args.self.now n.left (n.key, n.value.value) n.right e rise order).left_out
-
-pub tree::Tree::without-returns-in-None-clause-tree : goal.tree::Tree::without-returns-in-None-clause-tree
-tree::Tree::without-returns-in-None-clause-tree g t c = λ rise.
-    let same : entries_of_node c.in_ok-copy.copy ≡ c.args.self.now =
-    c.in_ok-copy.ensures.entries ∙ ap entries_of_node c.deref-2.ensures ∙ sym (ap entries_of c.in-Fork.is) ∙ c.self.view_is in
-    let key = c.in_ok-copy.ensures.key ∙ ap (λ d. d.key) c.deref-2.ensures ∙ ap (λ d. d.key) (sym c.deref.ensures) in
-    let order = c.cmp-order.ensures ∙ ap (λ k. g.K.Ord.cmp c.args.key.now k) (sym key) in
-    let other : c.cmp-order.result ≡ Equal → ⊥ = λ p. subst T (sym (ap is_eq p) ∙ sym c.is_eq.ensures ∙ c.if-is_eq.false) tt in
-    let found = c.in_ok-remove_beside.ensures.found (order, other) (subst (Rise g.K.Ord.cmp) (sym same) rise) in
-    sym (without_absent g.K.Ord.cmp c.args.key.now c.args.self.now (ap (find g.K.Ord.cmp c.args.key.now) (sym same) ∙ sym found ∙ ap (option_map arc_value) c.in-None.is))
+pub node::Node::remove_beside-returns-in_err-old-in_default-clause-there : goal.node::Node::remove_beside-returns-in_err-old-in_default-clause-there
+node::Node::remove_beside-returns-in_err-old-in_default-clause-there g t c = λ beside.
+    let n = c.args.self.now in
+    let order = sym beside.0 ∙ is_greater c.args.order c.in_default.not-Less beside.1 in
+    whatever_err c.from_residual-in_err-old-in_default.result _ (there_right g.met.K.Ord.total c.args.key.now (entries_of_node n) n.left (n.key, n.value.value) n.right refl order c.in_err-old-in_default.ensures.there)
