@@ -6,3 +6,4 @@ pub mod Facts
 pub mod HeldSeen
 pub mod Written
 pub mod Same
+pub mod Texts

@@ -1,11 +1,12 @@
 -- Why a header or a block of transactions has no text.
-use Rattle.std.specs.Prelude.{◌≡◌, ℕ, ◌<◌, ◌≤◌, List, take, Option, Some, slice_get}
+use Rattle.std.specs.Prelude.{◌≡◌, ℕ, ◌<◌, ◌≤◌, List, ◌++◌, take, Option, Some, slice_get}
 use Rattle.std.specs.List.{AllByRecursion}
 use Rattle.sha2.specs.Sha256.{sha256}
 use Rattle.model.specs.Limits.{transaction_nesting_limit}
-use Rattle.model.specs.Cbor.{nesting, text_of}
+use Rattle.model.specs.Cbor.{head, nesting, text_of}
 use Rattle.model.specs.Transaction.{Transaction, item_of_transaction, SpellsTransaction}
-use Rattle.model.specs.Block.{Header, Block, IsHeader, SpellsBlock, body_hash_of, item_of_transactions}
+use Rattle.model.specs.Block.{Header, Block, IsHeader, SpellsBlock, body_hash_of, item_of_header}
+use Rattle.model.specs.Block.{item_of_transactions}
 use Rattle.block.specs.declared.fault.WriteFault.{WriteFault}
 use Rattle.block.specs.declared.fault.WriteFault.TheVariants.{OutOfRange, OutOfMemory}
 use Rattle.block.specs.declared.fault.NoText.{NoText}
@@ -38,6 +39,10 @@ pub record IsBodyText (txs : List Transaction) (text : List ℕ) : Type 0 where
 abbrev pub header_over : ℕ → ℕ → Option (List ℕ) → List ℕ → Header
 header_over number slot previous body =
     record { number = number; slot = slot; previous = previous; body_hash = sha256 body }
+
+-- the header's text in an array of two, and these bytes after it, whatever they are
+abbrev pub text_over : Header → List ℕ → List ℕ
+text_over header body = head 4 2 ++ (text_of (item_of_header header) ++ body)
 
 -- the first transaction that does not fit stands there, and nests too deep
 pub record IsFirstTooDeep (index : ℕ) (transactions : List Transaction) : Type 0 where

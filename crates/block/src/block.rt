@@ -155,9 +155,16 @@ impl PartialEq for Block {
 }
 
 impl fmt::Debug for Block {
+    ghost use Rattle.std.specs.Prelude.{Some, codes};
+    ghost use Rattle.block.specs.Texts.{block_shown};
+
+    ghost debug_output = { λ block. Some (block_shown (codes "Block") block) };
+
+    /// Writes `Block`, and in brackets the number and the hash in 64 lower case hexadecimal digits.
     fn fmt<W: fmt::Write>(&self, f: &mut fmt::Formatter<W>) -> fmt::Result {
-        let header = self.header();
-        write!(f, "Block({header:?})")
+        let number = self.number();
+        let hash = self.hash();
+        write!(f, "Block({number} {hash})")
     }
 }
 

@@ -178,9 +178,16 @@ impl<S: SigScheme> PartialEq for CheckedBlock<S> {
 }
 
 impl<S: SigScheme> fmt::Debug for CheckedBlock<S> {
+    ghost use Rattle.std.specs.Prelude.{Some, codes};
+    ghost use Rattle.block.specs.Texts.{block_shown};
+
+    ghost debug_output = { λ block. Some (block_shown (codes "CheckedBlock") block) };
+
+    /// Writes `CheckedBlock`, and in brackets the number and the hash in 64 lower case hexadecimal digits.
     fn fmt<W: fmt::Write>(&self, f: &mut fmt::Formatter<W>) -> fmt::Result {
-        let header = self.header();
-        write!(f, "CheckedBlock({header:?})")
+        let number = self.number();
+        let hash = self.hash();
+        write!(f, "CheckedBlock({number} {hash})")
     }
 }
 

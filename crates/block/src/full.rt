@@ -7,8 +7,8 @@ ghost use Rattle.model.specs.Cbor.{head, text_of};
 ghost use Rattle.model.specs.Transaction.{Transaction};
 ghost use Rattle.model.specs.Block.{SpellsBlock, block_hash_of, item_of_header, item_of_transactions};
 ghost use Rattle.block.specs.View.{bytes_of, header_of};
-ghost use Rattle.block.specs.Written.{full_block, header_over, FitsBlock, IsBodyText, IsFirstTooDeep, IsNoText};
-ghost use Rattle.block.specs.Written.{IsUnspelled, IsWriteFault};
+ghost use Rattle.block.specs.Written.{full_block, header_over, text_over, FitsBlock, IsBodyText, IsFirstTooDeep};
+ghost use Rattle.block.specs.Written.{IsNoText, IsUnspelled, IsWriteFault};
 
 use crate::fault::{NoText, WriteFault};
 use crate::header::{Header, NUMBER_LIMIT};
@@ -110,7 +110,8 @@ pub fn write_with_hash(
 
 /// The text of the block whose body has this text, with its hash: what [`write_with_hash`] writes of the transactions
 /// that the body holds. OutOfRange where the number or the slot is 2^63 or more, else OutOfMemory where memory runs
-/// out. Linear in the body, which is hashed once and copied once. Whether the bytes are a body's is not looked at.
+/// out. Linear in the body, which is hashed once and copied once. Whether the bytes are a body's is not looked at:
+/// where they are none, they stand after a header that names their digest all the same.
 pub fn write_with_body(
     alloc: Global,
     number: u64,
@@ -122,6 +123,11 @@ pub fn write_with_body(
         SpellsBlock (full_block number slot (option_map bytes_of previous) txs) x.0.items) }
     ensures hash { IfOk result (λ x. (txs : List Transaction) → IsBodyText txs body.now →
         x.1.bytes ≡ block_hash_of (full_block number slot (option_map bytes_of previous) txs)) }
+    // Of whatever bytes it is these bytes after a header that names their digest, and the digest of that.
+    ensures text { IfOk result (λ x.
+        x.0.items ≡ text_over (header_over number slot (option_map bytes_of previous) body.now) body.now) }
+    ensures digest { IfOk result (λ x. x.1.bytes ≡
+        sha256 (text_of (item_of_header (header_over number slot (option_map bytes_of previous) body.now)))) }
     ensures fault { IfErr result (IsWriteFault (header_over number slot (option_map bytes_of previous) body.now)) }
 {
     if number >= NUMBER_LIMIT || slot >= NUMBER_LIMIT {

@@ -145,7 +145,7 @@ impl<'a> IntoIterator for &'a Items {
     type IntoIter = slice::Iter<'a, Item>;
 
     ghost into_iter_gives = { λ items it. (members_of (iter_rest it) ≡ items.now) × (length (iter_rest it) < 2 ^ 64)
-        × IterYieldsInOrder Item };
+        × IterYieldsInOrder Item × IterYieldsInReverse Item };
 
     fn into_iter(self) -> slice::Iter<'a, Item> {
         self.iter()
@@ -158,7 +158,7 @@ impl<'a> IntoIterator for &'a Entries {
     type IntoIter = slice::Iter<'a, Entry>;
 
     ghost into_iter_gives = { λ entries it. (entries_of (iter_rest it) ≡ entries.now) × (length (iter_rest it) < 2 ^ 64)
-        × IterYieldsInOrder Entry };
+        × IterYieldsInOrder Entry × IterYieldsInReverse Entry };
 
     fn into_iter(self) -> slice::Iter<'a, Entry> {
         self.iter()

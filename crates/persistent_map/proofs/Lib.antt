@@ -1,4 +1,5 @@
 pub mod Counts
+pub mod Depths
 pub mod ForCallers
 pub mod Pending
 pub mod Split

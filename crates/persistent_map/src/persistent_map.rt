@@ -1,6 +1,6 @@
 //! The map.
 
-ghost use Rattle.std.specs.Prelude.{◌≡◌, ◌↔◌, ◌≤◌, [], length, IsTrue, IsSome, IfOk, OnOk, OnErr};
+ghost use Rattle.std.specs.Prelude.{◌≡◌, ◌↔◌, ◌≤◌, ◌<◌, ◌^◌, [], length, IsTrue, IsSome, IfOk, OnOk, OnErr};
 ghost use Rattle.std.specs.Option.{option_copied, option_map};
 ghost use Rattle.std.specs.FinMap.{find, put};
 ghost use Rattle.std.specs.Arc.{arc_value};
@@ -61,12 +61,15 @@ impl<K: Copy + Ord, V> PersistentMap<K, V> {
         self.len == 0
     }
 
-    /// How many entries stand on the longest way down the tree: a measure of what a look-up costs, which no clause
-    /// bounds but by the length. In practice it stays below twice the binary logarithm of that. Meets each entry.
+    /// How many entries stand on the longest way down the tree: a measure of what a look-up costs, which the clauses
+    /// bound by the length and by its binary logarithm alone. In practice it stays below twice that. Meets each entry.
     pub fn depth(&self) -> usize
-        ensures depth { result ≤ length self.now }
+        ensures most { result ≤ length self.now }
+        ensures least { length self.now < 2 ^ result }
         ensures rise { Rise K.cmp self.now }
     {
+        // The length is below 2^64, and so the depth has a place, too.
+        let _len = self.len;
         self.tree.depth()
     }
 

@@ -1,6 +1,6 @@
 //! The tree beneath a map.
 
-ghost use Rattle.std.specs.Prelude.{◌≡◌, ◌≤◌, [], ◌∷◌, ◌++◌, length, IfOk, OnOk, OnErr, MatchOption};
+ghost use Rattle.std.specs.Prelude.{◌≡◌, ◌≤◌, ◌<◌, ◌^◌, [], ◌∷◌, ◌++◌, length, IfOk, OnOk, OnErr, MatchOption};
 ghost use Rattle.std.specs.Option.{option_copied, option_map, option_map_or};
 ghost use Rattle.std.specs.FinMap.{find};
 ghost use Rattle.std.specs.Arc.{arc_value};
@@ -85,7 +85,8 @@ impl<K, V> Tree<K, V> {
 
     /// How many entries stand on the longest way down. Takes time in proportion to the number of entries.
     pub(crate) fn depth(&self) -> usize
-        ensures { result ≤ length self.now }
+        ensures most { result ≤ length self.now }
+        ensures least { length self.now < 2 ^ 64 → length self.now < 2 ^ result }
     {
         match &self.link {
             Link::Leaf => 0,

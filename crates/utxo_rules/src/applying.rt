@@ -111,14 +111,3 @@ pub fn applied_diff(utxo: Utxo, tx: &Tx) -> Result<(Utxo, Diff), AllocError>
     };
     Ok((after, diff))
 }
-
-/// The same as [`apply`], and answers what changed.
-pub fn apply_diff(utxo: &mut Utxo, tx: &Tx) -> Result<Diff, AllocError>
-    ensures ok { OnOk result (utxo.new ≡ utxo_after utxo.old tx.now) }
-    ensures diff { IfOk result (λ diff. diff ≡ diff_of utxo.old tx.now) }
-    ensures err { OnErr result (utxo.new ≡ utxo.old) }
-{
-    let (after, diff) = applied_diff(utxo.try_clone()?, tx)?;
-    *utxo = after;
-    Ok(diff)
-}

@@ -2,12 +2,12 @@
 //!
 //! ```text
 //! check(alloc, &params, &utxo, slot, &tx)?; // the first reason against it, if there is one
-//! let diff = apply_diff(&mut utxo, tx.tx())?;
-//! undo(&mut utxo, &diff)?; // the same outputs as before
+//! let (after, diff) = applied_diff(utxo, tx.tx())?;
+//! let before = undone(after, &diff)?; // the same outputs as before
 //! ```
 //!
-//! [`applied`], [`applied_diff`] and [`undone`] do the same to outputs that are given away, and copy nothing that isn't
-//! shared.
+//! These take outputs that are given away, and copy nothing that isn't shared. [`apply`] and [`undo`] do the same to
+//! outputs that are borrowed, and leave them as they were where memory runs out.
 #![tactic(auto)]
 
 mod applying;
@@ -27,7 +27,7 @@ mod undoing;
 mod utxo;
 mod witnesses;
 
-pub use applying::{applied, applied_diff, apply, apply_diff};
+pub use applying::{applied, applied_diff, apply};
 pub use check_fault::CheckFault;
 pub use diff::Diff;
 pub use entries::Entries;

@@ -1,5 +1,10 @@
-use Rattle.std.proofs.Common.{arith}
+use Rattle.std.proofs.Common.{List, ℕ, option_map, ap, ◌∙◌, arith}
+use Rattle.sha2.specs.Sha256.{sha256}
+use Rattle.model.specs.Cbor.{text_of}
+use Rattle.model.specs.Block.{item_of_header}
 use Rattle.block.specs.declared.header.Header as code
+use Rattle.block.specs.View.{bytes_of}
+use Rattle.block.specs.Written.{text_over}
 use Rattle.block.proofs.FullBlocks.{full_is_written, full_is_hashed, few_in_body}
 use Rattle.block.proofs.full.write_with_body.Goals as goal
 
@@ -12,3 +17,11 @@ pub returns-clause-hash : goal.returns-clause-hash
 returns-clause-hash c = λ txs is.
     let header : code.Header = record { number = c.args.number; slot = c.args.slot; previous = c.args.previous; body_hash = c.of_body.result } in
     full_is_hashed header txs c.args.body.now c.in_ok-join.field-0.1.bytes is.spelled c.of_body.ensures c.in_ok-join.ensures.hash
+
+pub returns-clause-text : goal.returns-clause-text
+returns-clause-text c =
+    c.in_ok-join.ensures.text ∙ ap (λ (digest : List ℕ). text_over (record { number = c.args.number; slot = c.args.slot; previous = option_map bytes_of c.args.previous; body_hash = digest }) c.args.body.now) c.of_body.ensures
+
+pub returns-clause-digest : goal.returns-clause-digest
+returns-clause-digest c =
+    c.in_ok-join.ensures.hash ∙ ap (λ (digest : List ℕ). sha256 (text_of (item_of_header (record { number = c.args.number; slot = c.args.slot; previous = option_map bytes_of c.args.previous; body_hash = digest })))) c.of_body.ensures
