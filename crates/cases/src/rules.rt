@@ -90,7 +90,7 @@ impl LedgerRun {
 
     /// Tells what is unspent.
     fn utxo(&self, came: &mut String) -> Result<(), AllocError> {
-        let (pairs, coin) = (self.state.utxo().len(), self.state.utxo().coin()?);
+        let (pairs, coin) = (self.state.utxo().len(), self.state.utxo().coin());
         let fees = self.state.fees();
         write!(came, "utxo: pairs {pairs} coin {coin} fees {fees}\n")
     }

@@ -62,7 +62,7 @@ pub fn undo_block(state: LedgerState, diff: &BlockDiff) -> Result<LedgerState, A
     ensures { IfOk result (λ before. before ≡ undone_block diff.now state) }
 {
     let utxo = before_all(state.utxo, &diff.diffs)?;
-    if !is_within(utxo.coin()?, diff.fees) {
+    if !is_within(utxo.coin(), diff.fees) {
         return Err(AllocError);
     }
     Ok(LedgerState {

@@ -321,11 +321,8 @@ impl Session {
             → IsDone (core_network self.now.core) s PrintsUtxo result self.now }
     {
         let utxo = self.core.utxo();
-        let Ok(coin) = utxo.coin() else {
-            return Err(Stop::OutOfMemory);
-        };
         let mut line = Vec::new(self.alloc);
-        match print_utxo(&mut line, utxo.len(), coin, self.core.fees()) {
+        match print_utxo(&mut line, utxo.len(), utxo.coin(), self.core.fees()) {
             Ok(()) => Ok(line),
             Err(AllocError) => Err(Stop::OutOfMemory),
         }

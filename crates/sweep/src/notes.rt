@@ -66,19 +66,11 @@ pub fn note(into: &mut String, core: &Core<TestScheme>) {
     }
 }
 
-/// How much lovelace the unspent outputs hold, once more where memory ran out.
-fn coin_of(utxo: &Utxo) -> u128 {
-    match utxo.coin() {
-        Ok(coin) => coin,
-        Err(_) => utxo.coin().unwrap_or(0),
-    }
-}
-
 /// Tells the numbers of a core: its height, its unspent outputs and what they hold, its fees, and what waits.
 pub fn put_numbers(out: &mut String, core: &Core<TestScheme>) {
     let height = core.height();
     let outputs = core.utxo().len();
-    let coin = coin_of(core.utxo());
+    let coin = core.utxo().coin();
     let fees = core.fees();
     let waiting = core.mempool().len();
     let _ = write!(

@@ -88,10 +88,10 @@ impl Utxo {
     }
 
     /// How much lovelace all of them hold together, in constant time and with no memory.
-    pub fn coin(&self) -> Result<u128, AllocError>
-        ensures { IfOk result (λ coin. coin ≡ coin_of (outputs_of self.now)) }
+    pub fn coin(&self) -> u128
+        ensures { result ≡ coin_of (outputs_of self.now) }
     {
-        Ok(self.coin)
+        self.coin
     }
 
     /// The same unspent outputs again, in constant time and with no memory. Err where 2^63 copies share them already.

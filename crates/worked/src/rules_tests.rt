@@ -104,6 +104,5 @@ fn a_thousand_inputs(rt: HostRuntime) {
     same(&rt, "told again", told(rt.alloc(), &FREE, &utxo, &tx), 5);
     same(&rt, "outputs", utxo.len() as u64, 1);
     same(&rt, "its own", coin_at(&utxo, &first_of(&tx)), 9000);
-    let coin = utxo.coin().expect(&rt, MEMORY);
-    assert!(rt; coin == 9000);
+    assert!(rt; utxo.coin() == 9000);
 }

@@ -22,8 +22,7 @@ fn arrive_seen(
 /// The core's tip has this number, and one output is unspent, of this lovelace, beside these fees.
 fn is_seen(rt: &impl Abort, core: &Core<TestScheme>, tip: u64, coin: u64, fees: u64) {
     let utxo = core.utxo();
-    let found = utxo.coin().expect(rt, MEMORY);
-    assert!(rt; found == u128::from(coin));
+    assert!(rt; utxo.coin() == u128::from(coin));
     same(rt, "tip", core.tip().number, tip);
     same(rt, "outputs", utxo.len() as u64, 1);
     same(rt, "fees", core.fees(), fees);

@@ -86,8 +86,7 @@ fn outputs_in_order(rt: HostRuntime) {
     for index in [256, 1, 2u16] {
         put_unspent(&rt, &mut utxo, &input(index), u64::from(index));
     }
-    let coin = utxo.coin().expect(&rt, MEMORY);
-    assert!(rt; coin == 259);
+    assert!(rt; utxo.coin() == 259);
     let mut entries = utxo.iter();
     for index in [1, 2, 256u16] {
         meets(&rt, &mut entries, index);

@@ -2,7 +2,7 @@ use Rattle.scenario.specs.SessionView.{core_network}
 use Rattle.scenario.proofs.UtxoLines.{utxo_acted}
 use Rattle.scenario.proofs.session.Session.utxo.Goals as goal
 
-pub returns-in-Ok-print_utxo : goal.returns-in-Ok-print_utxo
-returns-in-Ok-print_utxo c = λ s holds.
-    utxo_acted (core_network c.args.self.now.core) s c.utxo-utxo.result.now c.len.result c.in-Ok.coin c.fees.result c.new-line.result.items c.print_utxo.new.line.items c.args.self.now holds
-    c.utxo-utxo.ensures c.fees.ensures.fees c.len.ensures c.in-Ok.ensures c.new-line.ensures.items c.in-Ok-print_utxo.ensures
+pub returns-in-Ok : goal.returns-in-Ok
+returns-in-Ok c = λ s holds.
+    utxo_acted (core_network c.args.self.now.core) s c.utxo-utxo.result.now c.len.result c.coin.result c.fees.result c.new-line.result.items c.print_utxo.new.line.items c.args.self.now holds
+    c.utxo-utxo.ensures c.fees.ensures.fees c.len.ensures c.coin.ensures c.new-line.ensures.items c.in-Ok.ensures
