@@ -13,6 +13,7 @@ use Rattle.model.specs.Mempool.{utxo_after_all, passed, utxo_of, next_slot, reva
 use Rattle.model.proofs.MempoolSteps.{up_to_date, nothing_valid, submitted_valid}
 use Rattle.mempool.specs.Contents.{Mempool, Waiting}
 use Rattle.mempool.specs.Calls.{resynced_on, IsSubmission, IsWantFor}
+use Rattle.mempool.proofs.ForCallers.{left_txs, left_capacity, left_unspent}
 use Rattle.chain_core.specs.Mempools.{IsMempoolOf, IsResynced, IsWantOf}
 
 module _ (network : Network) (chain : List Block) (state : LedgerState) (is : IsStateOf network chain state) where
@@ -54,14 +55,14 @@ module _ (network : Network) (chain : List Block) (state : LedgerState) (is : Is
           (subst (λ (u : Utxo). Answers network.verifies network.genesis.params (next_slot chain) u mempool.capacity mempool.waiting.txs bytes reply) (of.unspent state.ledger.utxo outputs_are)
           (subst (λ (n : ℕ). Answers network.verifies network.genesis.params n mempool.waiting.unspent mempool.capacity mempool.waiting.txs bytes reply) (ap (λ n. n + 1) slot_of ∙ slot_is)
           (subst (λ (p : Params). Answers network.verifies p (slot + 1) mempool.waiting.unspent mempool.capacity mempool.waiting.txs bytes reply) (params_is ∙ is.params) submission.answers)));
-      mempool = submission.after;
+      mempool = left_txs mempool bytes reply new submission.left;
     }
 
     pub mempool_after : IsMempoolOf network chain new
     mempool_after = record {
-      capacity = submission.capacity ∙ of.capacity;
+      capacity = left_capacity mempool bytes reply new submission.left ∙ of.capacity;
       valid = submitted_valid network chain mempool.waiting.txs bytes reply new.waiting.txs submits of.valid;
-      unspent = λ utxo of_chain. submission.unspent utxo (of.unspent utxo of_chain);
+      unspent = λ utxo of_chain. left_unspent mempool bytes reply new utxo submission.left (of.unspent utxo of_chain);
     }
 
   -- where memory was wanting in the code's mempool it was wanting beside the chain

@@ -4,12 +4,12 @@ use Rattle.model.specs.Transaction.{Transaction, SpellsTransaction, transaction_
 use Rattle.model.specs.Signature.{Verifies}
 use Rattle.model.specs.Utxo.{Utxo, utxo_after}
 use Rattle.model.specs.Rules.{Params, Reason, NoInputs, reasons, passes, reason_against}
-use Rattle.model.specs.Mempool.{utxo_after_all, IsInMempool, Malformed, Known, Refused, Full, Added}
+use Rattle.model.specs.Mempool.{utxo_after_all, IsInMempool, IsMempoolAfter, SubmitReply, Malformed, Known, Refused, Full, Added}
 use Rattle.model.proofs.Reasons.{fails_in}
 use Rattle.model.proofs.TransactionTexts.{one_transaction}
 use Rattle.tx.specs.Bare.{IsBare}
 use Rattle.mempool.specs.Contents.{Mempool}
-use Rattle.mempool.specs.Calls.{with_tx, IsSubmission, IsNew, IsWantFor}
+use Rattle.mempool.specs.Calls.{with_tx, IsLeft, IsSubmission, IsNew, IsWantFor}
 
 after_last : (utxo : Utxo) (ts : List Transaction) (t : Transaction) → utxo_after_all utxo (ts ++ t ∷ []) ≡ utxo_after (utxo_after_all utxo ts) t
 after_last utxo [] t = refl
@@ -25,28 +25,54 @@ module _ (verifies : Verifies) (params : Params) (slot : ℕ) (old : Mempool) (t
   pub known : (id : List ℕ) → id ≡ transaction_id_of t → Contains (map transaction_id_of old.waiting.txs) id → IsSubmission verifies params slot old bytes Known old
   known id is there = record {
     answers = (t, spells, subst (Contains (map transaction_id_of old.waiting.txs)) is there);
-    after = refl;
-    unspent = λ utxo e. e;
-    capacity = refl;
+    left = refl;
   }
 
   -- there is a reason against it
   pub against : (reason : Reason) → (IsInMempool old.waiting.txs t → ⊥) → reason_against verifies params old.waiting.unspent slot t ≡ Some reason → IsSubmission verifies params slot old bytes (Refused reason) old
-  against reason fresh is = record { answers = (t, spells, (fresh, is)); after = refl; unspent = λ utxo e. e; capacity = refl }
+  against reason fresh is = record { answers = (t, spells, (fresh, is)); left = refl }
 
   -- there is no room for it
   pub full : (IsInMempool old.waiting.txs t → ⊥) → reason_against verifies params old.waiting.unspent slot t ≡ None → old.capacity ≤ length old.waiting.txs → IsSubmission verifies params slot old bytes Full old
-  full fresh none no_room = record { answers = (t, spells, ((fresh, none), no_room)); after = refl; unspent = λ utxo e. e; capacity = refl }
+  full fresh none no_room = record { answers = (t, spells, ((fresh, none), no_room)); left = refl }
 
   -- it waits, after the others
   pub added : (new : Mempool) → (IsInMempool old.waiting.txs t → ⊥) → reason_against verifies params old.waiting.unspent slot t ≡ None → length old.waiting.txs < old.capacity
       → new ≡ record { capacity = old.capacity; waiting = with_tx old.waiting t } → IsSubmission verifies params slot old bytes Added new
   added new fresh none room is = subst (λ (p : Mempool). IsSubmission verifies params slot old bytes Added p) (sym is) record {
     answers = (t, spells, ((fresh, none), room));
-    after = (t, spells, refl);
-    unspent = λ utxo e. ap (λ u. utxo_after u t) e ∙ sym (after_last utxo old.waiting.txs t);
-    capacity = refl;
+    left = (t, spells, refl);
   }
+
+-- ---- what a submission leaves
+
+-- what waits is the mempool of the definitions after it
+pub left_txs : (old : Mempool) (bytes : List ℕ) (reply : SubmitReply) (new : Mempool) → IsLeft old bytes reply new → IsMempoolAfter old.waiting.txs bytes reply new.waiting.txs
+left_txs old bytes Malformed new is = ap (λ (p : Mempool). p.waiting.txs) is
+left_txs old bytes Known new is = ap (λ (p : Mempool). p.waiting.txs) is
+left_txs old bytes (Refused r) new is = ap (λ (p : Mempool). p.waiting.txs) is
+left_txs old bytes Full new is = ap (λ (p : Mempool). p.waiting.txs) is
+left_txs old bytes Added new is = (is.0, is.1, ap (λ (p : Mempool). p.waiting.txs) is.2)
+
+-- as many may wait
+pub left_capacity : (old : Mempool) (bytes : List ℕ) (reply : SubmitReply) (new : Mempool) → IsLeft old bytes reply new → new.capacity ≡ old.capacity
+left_capacity old bytes Malformed new is = ap (λ (p : Mempool). p.capacity) is
+left_capacity old bytes Known new is = ap (λ (p : Mempool). p.capacity) is
+left_capacity old bytes (Refused r) new is = ap (λ (p : Mempool). p.capacity) is
+left_capacity old bytes Full new is = ap (λ (p : Mempool). p.capacity) is
+left_capacity old bytes Added new is = ap (λ (p : Mempool). p.capacity) is.2
+
+-- what is unspent are the outputs that what waits leaves of some outputs
+abbrev pub IsUnspentOf : Utxo → Mempool → Type 0
+IsUnspentOf utxo p = p.waiting.unspent ≡ utxo_after_all utxo p.waiting.txs
+
+-- and it is so still
+pub left_unspent : (old : Mempool) (bytes : List ℕ) (reply : SubmitReply) (new : Mempool) (utxo : Utxo) → IsLeft old bytes reply new → IsUnspentOf utxo old → IsUnspentOf utxo new
+left_unspent old bytes Malformed new utxo is e = subst (IsUnspentOf utxo) (sym is) e
+left_unspent old bytes Known new utxo is e = subst (IsUnspentOf utxo) (sym is) e
+left_unspent old bytes (Refused r) new utxo is e = subst (IsUnspentOf utxo) (sym is) e
+left_unspent old bytes Full new utxo is e = subst (IsUnspentOf utxo) (sym is) e
+left_unspent old bytes Added new utxo is e = subst (IsUnspentOf utxo) (sym is.2) (ap (λ u. utxo_after u is.0) e ∙ sym (after_last utxo old.waiting.txs is.0))
 
 -- ---- where memory is wanting
 

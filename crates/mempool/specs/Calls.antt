@@ -4,8 +4,8 @@ use Rattle.model.specs.Transaction.{Transaction, SpellsTransaction}
 use Rattle.model.specs.Signature.{Verifies}
 use Rattle.model.specs.Utxo.{Utxo, utxo_after}
 use Rattle.model.specs.Rules.{Params, reason_number, reason_against}
-use Rattle.model.specs.Mempool.{utxo_after_all, passed, SubmitReply, Known, Refused, Answers, IsMempoolAfter}
-use Rattle.model.specs.Mempool.{IsInMempool}
+use Rattle.model.specs.Mempool.{utxo_after_all, passed, SubmitReply, Known, Refused, Added, Answers, IsInMempool}
+use Rattle.model.specs.Mempool.{IsTransactionWith}
 use Rattle.utxo_rules.specs.Check.{PassesEarly}
 use Rattle.mempool.specs.Contents.{Waiting, Mempool}
 
@@ -26,14 +26,16 @@ resynced_on verifies params slot utxo txs =
       unspent = utxo_after_all utxo (passed verifies params slot utxo txs);
     }
 
--- bytes that were submitted were answered so, and left this: what waits, and what that leaves unspent
+-- what bytes that are answered so leave: one more transaction waits where it is added, and else nothing changes
+abbrev pub IsLeft : Mempool → List ℕ → SubmitReply → Mempool → Type 0
+IsLeft old bytes Added new = IsTransactionWith bytes (λ t. new ≡ record old { waiting = with_tx old.waiting t })
+IsLeft old bytes reply new = new ≡ old
+
+-- bytes that were submitted were answered so, and left this mempool
 pub record IsSubmission (verifies : Verifies) (params : Params) (slot : ℕ) (old : Mempool) (bytes : List ℕ)
     (reply : SubmitReply) (new : Mempool) : Type 0 where
   pub answers : Answers verifies params slot old.waiting.unspent old.capacity old.waiting.txs bytes reply
-  pub after : IsMempoolAfter old.waiting.txs bytes reply new.waiting.txs
-  pub unspent : (utxo : Utxo) → old.waiting.unspent ≡ utxo_after_all utxo old.waiting.txs
-      → new.waiting.unspent ≡ utxo_after_all utxo new.waiting.txs
-  pub capacity : new.capacity ≡ old.capacity
+  pub left : IsLeft old bytes reply new
 
 -- the same of a transaction, whatever bytes spell it
 abbrev pub IsSubmissionOf : Verifies → Params → ℕ → Mempool → Transaction → SubmitReply → Mempool → Type 0
