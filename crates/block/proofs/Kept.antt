@@ -9,6 +9,7 @@ use Rattle.model.specs.Transaction.{Transaction, item_of_transaction}
 use Rattle.model.specs.Limits.{block_size_limit}
 use Rattle.model.specs.Block.{Block, item_of_header, item_of_transactions, block_text, block_hash_of, body_hash_of, body_size_of}
 use Rattle.model.proofs.BlockTexts.{one_block, block_text_is}
+use Rattle.cbor.specs.Bare.{BeginsWithHead}
 use Rattle.cbor.proofs.ForCallers.{IsBytes, head-length}
 use Rattle.block.specs.View.{header_of}
 use Rattle.block.specs.Reading.{block_at}
@@ -38,12 +39,19 @@ is_mismatched bytes b digest body fits size read is spelled other =
     record { size = size; block = b; read = block_takes bytes b fits read; body = λ same. other (is ∙ ap sha256 spelled ∙ sym same) }
 
 -- where memory ran out while transactions were read, no block without any is spelled
-pub is_unread : (bytes : List ℕ) → length bytes ≤ block_size_limit → ((b : Block) → block_at bytes ≡ Some b → b.transactions ≡ [] → ⊥) → IsUnread bytes
-is_unread bytes size some = record { size = size; full = λ b spells none. some b (block_again b bytes spells) none }
+pub is_unread : (bytes : List ℕ) → length bytes ≤ block_size_limit → BeginsWithHead 4 2 bytes → ((b : Block) → block_at bytes ≡ Some b → b.transactions ≡ [] → ⊥) → IsUnread bytes
+is_unread bytes size begins some = record { size = size; begins = begins; full = λ b spells none. some b (block_again b bytes spells) none }
+
+-- the text of a block begins with the head of an array of two
+block_begins : (b : Block) (bytes : List ℕ) → IsRead b bytes → BeginsWithHead 4 2 bytes
+block_begins b bytes read =
+    let spells = read.read in
+    let text = spells.text in
+    record { rest = text_of (item_of_header b.header) ++ (text_of (item_of_transactions b.transactions) ++ []); parts = text.spelled }
 
 -- where it ran out after that, the bytes are read
 pub is_readable : (bytes : List ℕ) (b : Block) → IsRead b bytes → IsReadable bytes
-is_readable bytes b read = record { size = read.size; empty = λ c spells none. subst (λ (x : Block). IsRead x bytes) (one_block b c bytes read.read spells) read }
+is_readable bytes b read = record { size = read.size; begins = block_begins b bytes read; empty = λ c spells none. subst (λ (x : Block). IsRead x bytes) (one_block b c bytes read.read spells) read }
 
 -- what is known of a block that was read
 pub are_facts : (facts : Facts) (ts : List Transaction) (bytes header_text body_text : List ℕ) → IsRead (block_of facts ts) bytes → facts.hash.bytes ≡ sha256 header_text → facts.body_size ≡ length body_text

@@ -2,6 +2,7 @@
 use Rattle.std.specs.Prelude.{◌≡◌, ◌≢◌, ℕ, ◌≤◌, ◌<◌, List, [], length}
 use Rattle.model.specs.Limits.{block_size_limit}
 use Rattle.model.specs.Block.{Block, SpellsBlock, body_hash_of}
+use Rattle.cbor.specs.Bare.{BeginsWithHead}
 use Rattle.block.specs.declared.fault.BadBytes.{BadBytes}
 use Rattle.block.specs.declared.fault.BadBytes.TheVariants as bad
 use Rattle.block.specs.declared.fault.ReadFault.{ReadFault}
@@ -26,9 +27,11 @@ pub record IsMismatched (bytes : List ℕ) : Type 0 where
   pub read : SpellsBlock block bytes
   pub body : block.header.body_hash ≢ body_hash_of block.transactions
 
--- The bytes are not too many, and spell no block without transactions: memory is asked for by transactions alone.
+-- The bytes are not too many, begin with the head of an array of two, and spell no block without transactions: memory
+-- is asked for by transactions alone.
 pub record IsUnread (bytes : List ℕ) : Type 0 where
   pub size : length bytes ≤ block_size_limit
+  pub begins : BeginsWithHead 4 2 bytes
   pub full : (b : Block) → SpellsBlock b bytes → b.transactions ≡ [] → ⊥
 
 -- when each reason comes why bytes are no block, whatever the memory: the first one that applies
@@ -37,10 +40,11 @@ IsBadBytes bytes bad.TooLarge = block_size_limit < length bytes
 IsBadBytes bytes bad.Malformed = IsMalformed bytes
 IsBadBytes bytes bad.BodyHashMismatch = IsMismatched bytes
 
--- The bytes are not too many, and where they spell a block without transactions they are read as it, if only there is
--- memory for it.
+-- The bytes are not too many and begin with the head of an array of two, and where they spell a block without
+-- transactions they are read as it, if only there is memory for it.
 pub record IsReadable (bytes : List ℕ) : Type 0 where
   pub size : length bytes ≤ block_size_limit
+  pub begins : BeginsWithHead 4 2 bytes
   pub empty : (b : Block) → SpellsBlock b bytes → b.transactions ≡ [] → IsRead b bytes
 
 -- when each fault comes: the first reason that applies, or want of memory

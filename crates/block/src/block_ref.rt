@@ -113,9 +113,9 @@ fn is_same(a: &BodyHash, b: &BodyHash) -> bool
 }
 
 /// The block that the bytes spell, or the first reason why they are none: [`crate::read`] without the copy. Err where
-/// memory runs out, which is asked for while transactions are read, and by a block without transactions never. The cost
-/// grows with the bytes: one digest of the body's text, one of the header's, and those that identify transactions and
-/// scripts.
+/// memory runs out, which is asked for while transactions are read, and never by a block without transactions, nor by
+/// bytes that don't begin with the head of an array of two. The cost grows with the bytes: one digest of the body's
+/// text, one of the header's, and those that identify transactions and scripts.
 pub fn look(alloc: Global, bytes: &[u8]) -> Result<Result<BlockRef<'_>, BadBytes>, AllocError>
     ensures block { IfOk result (λ found. IfOk found (λ b. IsRead b bytes.now)) }
     ensures bad { IfOk result (λ found. IfErr found (λ bad. IsBadBytes bytes.now bad)) }

@@ -1,10 +1,11 @@
 //! Readers of the parts of a block's text (RFC 8949, sections 3 and 4.2.1): from a slice to what stands first and the
 //! bytes after it. Transactions alone ask for memory; the time is linear in the bytes.
 
-ghost use Rattle.std.specs.Prelude.{◌≡◌, ℕ, List, [], Some, option_map, IfOk, OnErr};
+ghost use Rattle.std.specs.Prelude.{◌≡◌, ℕ, List, [], Some, option_map, IfOk, IfErr, OnErr};
 ghost use Rattle.model.specs.Cbor.{text_of};
 ghost use Rattle.model.specs.Block.{Block, item_of_header, item_of_transactions};
-ghost use Rattle.cbor.specs.Gives.{Gives};
+ghost use Rattle.cbor.specs.Gives.{Gives, IfWant};
+ghost use Rattle.cbor.specs.Bare.{BeginsWithHead};
 ghost use Rattle.block.specs.View.{bytes_of, header_of};
 ghost use Rattle.block.specs.PartsView.{parts_block};
 ghost use Rattle.block.specs.Reading.{previous_at, header_at, transactions_at, block_at};
@@ -63,12 +64,13 @@ pub struct Parts<'a> {
     pub body_text: &'a [u8],
 }
 
-/// The parts of the block that the bytes spell. Malformed where they spell no block. Where the body is empty no memory
-/// is asked for.
+/// The parts of the block that the bytes spell. Malformed where they spell no block. Where the body is empty, and where
+/// the bytes don't begin with the head of an array of two, no memory is asked for.
 #[tactic(auto, unfolding(crate::specs::Reading::block_at, crate::specs::Reading::parts_at, cbor::specs::Shapes::as_at, cbor::specs::Shapes::array_at, cbor::specs::Shapes::both_at))]
 pub fn parts_of(alloc: Global, bytes: &[u8]) -> Result<Parts<'_>, CborFault>
     ensures exact { Gives parts_block result (block_at bytes.now) }
     ensures some { OnErr result ((b : Block) → block_at bytes.now ≡ Some b → b.transactions ≡ [] → ⊥) }
+    ensures begins { IfErr result (λ fault. IfWant fault (BeginsWithHead 4 2 bytes.now)) }
     ensures header_text { IfOk result (λ p. p.header_text.now ≡ text_of (item_of_header (header_of p.header))) }
     ensures body_text { IfOk result (λ p. p.body_text.now ≡ text_of (item_of_transactions p.transactions.items)) }
 {

@@ -1,5 +1,6 @@
 use Rattle.std.proofs.Common.{◌≡◌, length, false, true, refl, subst, arith}
-use Rattle.cbor.specs.Gives.{Refuses}
+use Rattle.cbor.specs.Bare.{BeginsWithHead}
+use Rattle.cbor.specs.Gives.{Refuses, IfWant}
 use Rattle.cbor.specs.declared.fault.CborFault.{CborFault}
 use Rattle.cbor.specs.declared.fault.CborFault.TheVariants as faults
 use Rattle.block.specs.Reading.{block_at}
@@ -26,4 +27,6 @@ returns-in-Err-Malformed-clause-bad c =
     is_malformed c.args.bytes.now c.if-bytes-gt-MAX_BLOCK_SIZE.false none
 
 pub returns-in-Err-OutOfMemory-clause-memory : goal.returns-in-Err-OutOfMemory-clause-memory
-returns-in-Err-OutOfMemory-clause-memory c = is_unread c.args.bytes.now c.if-bytes-gt-MAX_BLOCK_SIZE.false c.in-Err-OutOfMemory.ensures.some
+returns-in-Err-OutOfMemory-clause-memory c =
+    let begins : IfWant faults.OutOfMemory (BeginsWithHead 4 2 c.args.bytes.now) = subst (λ (f : CborFault). IfWant f (BeginsWithHead 4 2 c.args.bytes.now)) c.in-Err-OutOfMemory.field-0-is c.in-Err-OutOfMemory.ensures.begins in
+    is_unread c.args.bytes.now c.if-bytes-gt-MAX_BLOCK_SIZE.false begins c.in-Err-OutOfMemory.ensures.some

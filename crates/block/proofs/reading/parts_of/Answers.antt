@@ -4,7 +4,8 @@ use Rattle.std.proofs.lemmas.List.{length-append, nil_from_length}
 use Rattle.model.specs.Cbor.{text_of}
 use Rattle.model.specs.Block.{item_of_header}
 use Rattle.cbor.specs.Shapes.{members_at}
-use Rattle.cbor.proofs.ForCallers.{whatever_err}
+use Rattle.cbor.specs.Bare.{BeginsWithHead}
+use Rattle.cbor.proofs.ForCallers.{whatever_err, members_takes, wants_anyway}
 use Rattle.block.specs.Reading.{header_at}
 use Rattle.block.specs.View.{header_of}
 use Rattle.block.proofs.Blocks.{header_before_body, body_at_end, front_is, empty_body_read}
@@ -38,3 +39,9 @@ returns-in_err-transactions-clause-some c =
     whatever_err c.from_residual-in_err-transactions.result _ (λ b e none.
     let r = empty_body_read c.args.bytes.now c.in_ok-members.members.now (header_of c.in_ok-header.header) c.in_ok-header.body_text.now m h b e none in
     c.in_err-transactions.ensures.some r.0 r.1)
+
+pub returns-in_err-transactions-clause-begins : goal.returns-in_err-transactions-clause-begins
+returns-in_err-transactions-clause-begins c =
+    let m : members_at 2 c.args.bytes.now ≡ Some c.in_ok-members.members.now = search rules in
+    let taken = members_takes 2 c.args.bytes.now c.in_ok-members.members.now (λ i. omega (arith, c.type_inv.bytes i)) m in
+    wants_anyway c.from_residual-in_err-transactions.result (BeginsWithHead 4 2 c.args.bytes.now) (record { rest = c.in_ok-members.members.now; parts = taken.parts })
