@@ -24,7 +24,7 @@ use Rattle.model.proofs.MappedLists.{contains_map, contains_before, filter_membe
 use Rattle.blockstore.specs.Stored.{Stored}
 use Rattle.blockstore.specs.Placed.{Placed, stored_at, blocks_in, IsKeyed}
 use Rattle.blockstore.specs.Keys.{hash_cmp, link_cmp, IsLinkOf, AreKeysOf, first_link, last_link}
-use Rattle.blockstore.specs.Shelves.{AreAfter, AreLinksAfter}
+use Rattle.blockstore.specs.Shelves.{AreAfter, HasAfter, AreLinksAfter}
 use Rattle.blockstore.specs.declared.keys.Link.{Link}
 use Rattle.blockstore.proofs.KeySets.{exact_link, tied_link, exact_hashes, tied_hashes, has_member, none_some}
 use Rattle.blockstore.proofs.Shelves.{stands_at, value_at, holds_at, apart_on, distinct_by_keys}
@@ -120,6 +120,12 @@ apart_links : (previous : Option (List ℕ)) (k j : Link) → k.previous ≡ pre
 apart_links previous k j here there apart same =
     let one : k ≡ j = λ i. record { previous = (here ∙ sym there) i; hash = same i } in
     let e : true ≡ false = sym (ap is_eq (tied_link k)) ∙ (ap (eq_by_cmp link_cmp k) one ∙ apart) in cc
+
+-- where a link is there a block follows
+pub one_after : (m : BTreeMap (List ℕ) Placed) (previous : Option (List ℕ)) (links : List Link) (k : Link) → AreLinksAfter (blocks_in m) previous links → Contains links k → HasAfter (blocks_in m) previous
+one_after m previous links k are member =
+    let named = are.named k member in
+    (named.0, named.1, sym named.2.0 ∙ are.same k member)
 
 -- what the links name is what comes after
 pub are_after : (m : BTreeMap (List ℕ) Placed) (previous : Option (List ℕ)) (links : List Link) (found : List Stored) → IsOrdered hash_cmp m → IsKeyed m → AreLinksAfter (blocks_in m) previous links

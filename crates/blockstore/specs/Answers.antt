@@ -21,6 +21,10 @@ pub record AreSuccessors (store : Store) (previous : Option (List ℕ)) (found :
   pub members : (x : Stored) → Contains found x ↔ (Contains store.blocks x × (x.block.header.previous ≡ previous))
   pub once : HaveDistinctHashes (map (λ s. s.block) found)
 
+-- a live block names this one as the block before it
+abbrev pub HasSuccessor : Store → Option (List ℕ) → Type 0
+HasSuccessor store previous = (x : Stored) × Contains store.blocks x × (x.block.header.previous ≡ previous)
+
 -- ---- changes
 
 -- the same block, with a mark if it has this hash, and else as it was

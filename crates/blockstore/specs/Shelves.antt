@@ -28,6 +28,10 @@ pub record AreAfter (xs : List Stored) (previous : Option (List ℕ)) (found : L
   pub members : (x : Stored) → Contains found x ↔ (Contains xs x × (x.block.header.previous ≡ previous))
   pub once : HaveDistinctHashes (map (λ s. s.block) found)
 
+-- there is one, at least
+abbrev pub HasAfter : List Stored → Option (List ℕ) → Type 0
+HasAfter xs previous = (x : Stored) × Contains xs x × (x.block.header.previous ≡ previous)
+
 -- their links, each once
 pub record AreLinksAfter (xs : List Stored) (previous : Option (List ℕ)) (links : List Link) : Type 0 where
   pub named : (l : Link) → Contains links l → (x : Stored) × Contains xs x × IsLinkOf x.block l

@@ -13,7 +13,7 @@ ghost use Rattle.blockstore.specs.Keys.{hash_cmp, link_cmp, first_link, last_lin
 ghost use Rattle.std.specs.BTreeMap as tree;
 ghost use Rattle.blockstore.specs.Placed.{is_noted, nothing_held, blocks_in, notes_in, stored_at};
 ghost use Rattle.blockstore.specs.Placed.{IsKeyed, AreSameBlocks};
-ghost use Rattle.blockstore.specs.Shelves.{IsSame, AreApart, AreAfter, AreLinksAfter};
+ghost use Rattle.blockstore.specs.Shelves.{IsSame, AreApart, AreAfter, HasAfter, AreLinksAfter};
 ghost use Rattle.blockstore.specs.Shelves.{HasNone, HasPast, ArePast, IsThere, IsWithout};
 ghost use Rattle.blockstore.specs.Ways.{HasStep, HasParent, IsNotedAt, IsPlaceOf, FollowsOne, Stands, AllStand};
 ghost use Rattle.blockstore.specs.Ways.{AreTurning, AreSameNotes, IsLookedAt, may_turn};
@@ -167,14 +167,16 @@ impl<S: SigScheme> Shelf<S> {
         parent.is_reached() && Tip::at(parent.block()).precedes(block)
     }
 
-    /// The blocks that name this one as the block before them. A look-up, and one more for each.
+    /// The blocks that name this one as the block before them. A look-up, and one more for each. Err only where there are
+    /// some.
     pub fn after(
         &self,
         alloc: Global,
         previous: Option<BlockHash>,
     ) -> Result<Vec<&StoredBlock<S>>, AllocError>
-        ensures { IfOk result (λ found.
+        ensures found { IfOk result (λ found.
             AreAfter self.now.blocks (option_map hash_bytes previous) (map (λ x. x.now) found.items)) }
+        ensures some { OnErr result (HasAfter self.now.blocks (option_map hash_bytes previous)) }
     {
         let mut found = Vec::new(alloc);
         for link in links_of(&self.links, bytes_of(previous)) {

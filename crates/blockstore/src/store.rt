@@ -1,6 +1,6 @@
 //! The store of live blocks.
 
-ghost use Rattle.std.specs.Prelude.{◌≡◌, ◌↔◌, [], length, map, option_map, IsTrue, MatchOption, OnOk, IfOk, IfErr};
+ghost use Rattle.std.specs.Prelude.{◌≡◌, ◌↔◌, [], length, map, option_map, IsTrue, MatchOption, OnOk, OnErr, IfOk, IfErr};
 ghost use Rattle.std.specs.List.{AllByRecursion};
 ghost use Rattle.model.specs.Block.{Block, block_text};
 ghost use Rattle.block.specs.Read.{IsRead};
@@ -8,7 +8,7 @@ ghost use Rattle.model.specs.Chain.{genesis_tip};
 ghost use Rattle.block.specs.View.{bytes_of, tip_of};
 ghost use Rattle.blockstore.specs.Stored.{empty_store, IsSet, HasBlock};
 ghost use Rattle.blockstore.specs.Insertion.{IsKnown, IsFull, IsAllowed, IsInsertFault, IsInserted};
-ghost use Rattle.blockstore.specs.Answers.{HasNoneAt, IsAt, AreSuccessors, IsMarkSet, IsCutTo};
+ghost use Rattle.blockstore.specs.Answers.{HasNoneAt, IsAt, AreSuccessors, HasSuccessor, IsMarkSet, IsCutTo};
 ghost use Rattle.blockstore.specs.Shelves.{HasPast};
 ghost use Rattle.blockstore.specs.Ways.{HasWay};
 ghost use Rattle.blockstore.specs.Live.{HoldsNothing, GainsLive, FollowsChain, KeepsLive};
@@ -110,13 +110,14 @@ impl<S: SigScheme> BlockStore<S> {
 
     /// The live blocks that name this one as the block before them, in no order that is promised: None asks for the
     /// first blocks of chains. Takes a look-up more for each of them, and copies no block. Err where there is no memory
-    /// for the references.
+    /// for the references, which is so only where there are some.
     pub fn successors(
         &self,
         previous: Option<BlockHash>,
     ) -> Result<Vec<&StoredBlock<S>>, AllocError>
-        ensures { IfOk result (λ found.
+        ensures found { IfOk result (λ found.
             AreSuccessors self.now (option_map bytes_of previous) (map (λ x. x.now) found.items)) }
+        ensures some { OnErr result (HasSuccessor self.now (option_map bytes_of previous)) }
     {
         self.blocks.after(self.alloc, previous)
     }

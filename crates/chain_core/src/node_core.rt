@@ -71,8 +71,8 @@ impl<S: SigScheme> Model for Core<S> {
 }
 
 impl<S: SigScheme> Core<S> {
-    ghost use Rattle.std.specs.Prelude.{◌≡◌, ◌≤◌, ◌+◌, ℕ, List, [], length, None, Some, IfOk, IfErr, OnErr, map};
-    ghost use Rattle.std.specs.Prelude.{MatchOption, drop, option_map, IsTrue, ◌↔◌};
+    ghost use Rattle.std.specs.Prelude.{◌≡◌, ◌≤◌, ◌<◌, ◌+◌, ℕ, List, [], length, None, Some, IfOk, IfErr, OnErr};
+    ghost use Rattle.std.specs.Prelude.{MatchOption, map, drop, option_map, IsTrue, ◌↔◌};
     ghost use Rattle.std.specs.List.{AllByRecursion};
     ghost use Rattle.model.specs.Transaction.{SpellsTransaction};
     ghost use Rattle.model.specs.Utxo.{coin_of, outputs_of};
@@ -497,12 +497,14 @@ impl<S: SigScheme> Core<S> {
     }
 
     /// Copies of the texts of the blocks that are never rolled back, but for the first `from` of them; none where
-    /// there are no more. Err where memory runs out for these. Copies the bytes of each once.
+    /// there are no more. Err where memory runs out for these, and never where there are none. Copies the bytes of each
+    /// once.
     pub fn copy_immutable(&self, from: u64) -> Result<Vec<Vec<u8>>, AllocError>
         ensures texts { IfOk result (λ texts.
             texts_in texts.items ≡ drop from (immutable_texts S.verifies self.now)) }
         // Each has 1 to 1,048,576 bytes.
         ensures sizes { IfOk result (λ texts. AllByRecursion IsLogBlock (texts_in texts.items)) }
+        ensures some { OnErr result (from < immutable_length (network_held self.now S.verifies) self.now.chain) }
     {
         let mut texts = Vec::new(self.alloc);
         for number in from..self.immutable() {

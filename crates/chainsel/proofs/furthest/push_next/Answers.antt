@@ -60,6 +60,6 @@ returns g c =
     (take_all c.loop-stored.stored-index items c.loop-stored-test.false ∙ c.deref-stored-items.ensures.value) before.2 in (
       before.0,
       before.1,
-      taken_all c.args.store.now c.args.found.now.hashes.items c.args.end.now c.hash.result.bytes (map (λ x. x.now) c.in_ok-successors.successors.items) before.0 c.in_ok-successors.ensures c.hash.ensures all,
+      taken_all c.args.store.now c.args.found.now.hashes.items c.args.end.now c.hash.result.bytes (map (λ x. x.now) c.in_ok-successors.successors.items) before.0 c.in_ok-successors.ensures.found c.hash.ensures all,
       before.3,
     )

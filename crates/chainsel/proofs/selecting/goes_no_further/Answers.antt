@@ -9,7 +9,7 @@ returns g c = λ ends. (
   (let short = c.if-number-chain.false in omega (arith, short)),
   (λ x member names.
       let found = c.in_ok-successors.field-0.items in
-      let there = (c.in_ok-successors.ensures.members x).1 (member, names ∙ ap Some (sym c.hash.ensures)) in
+      let there = (c.in_ok-successors.ensures.found.members x).1 (member, names ∙ ap Some (sym c.hash.ensures)) in
       let none : length found ≡ 0 = sym c.in_ok-successors.field-0.ok.0 ∙ eqb-true c.in_ok-successors.field-0.len 0 (sym c.is_empty.ensures ∙ ends) in
       omega (arith, there.1, none, length-map found (λ (y : Bor Stored). y.now))),
 )

@@ -17,7 +17,7 @@ judge-requires-clause-fit g c =
     (contains_map (λ x. x.now) items stored (c.loop-stored.stored-index, c.loop-stored-test.true, sym c.stored-item.is)) in
     record {
       stored = stored.now;
-      member = ((c.in_ok-successors.ensures.members stored.now).0 among).0;
+      member = ((c.in_ok-successors.ensures.found.members stored.now).0 among).0;
       block = sym c.block-then-follows.ensures;
       fit = c.if-is_fit.ensures.0 refl;
     }
