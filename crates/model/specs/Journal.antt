@@ -1,8 +1,9 @@
 -- THE JOURNAL (this project's own): which caller brought which event, and what was answered, in the order in which the
 -- calls of all threads took effect. Without the callers it is a history.
-use Rattle.std.specs.Prelude.{◌≡◌, ℕ, ◌+◌, ◌==◌, List, [], ◌∷◌, ◌++◌, Option, Some, None, map, filter, length}
+use Rattle.std.specs.Prelude.{◌≡◌, ◌≤◌, ℕ, ◌+◌, ◌==◌, List, [], ◌∷◌, ◌++◌, Option, Some, None, map, filter, length}
 use Rattle.std.specs.List.{AllByRecursion}
 use Rattle.model.specs.Ledger.{Network}
+use Rattle.model.specs.Limits.{greatest_peer}
 use Rattle.model.specs.History.{State, Event, Arrive, Entry, IsLegal, length_after}
 
 -- an event with its reply; the number of the caller who brought it; and of an arrival the peer that it came from
@@ -22,9 +23,9 @@ history_of journal = map (λ e. e.entry) journal
 abbrev pub calls_of : ℕ → Journal → Journal
 calls_of caller journal = filter (λ e. e.caller == caller) journal
 
--- an arrival came from a peer, and nothing else did
+-- an arrival came from a peer, whose number is one that there is, and nothing else did
 abbrev pub IsFrom : Event → Option ℕ → Type 0
-IsFrom (Arrive bytes) (Some peer) = Unit {0}
+IsFrom (Arrive bytes) (Some peer) = (1 ≤ peer) × (peer ≤ greatest_peer)
 IsFrom (Arrive bytes) None = ⊥
 IsFrom event (Some peer) = ⊥
 IsFrom event None = Unit {0}

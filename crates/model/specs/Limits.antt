@@ -90,3 +90,7 @@ mempool_limit = 100000
 -- how many grants there are
 abbrev pub grant_count_limit : ℕ
 grant_count_limit = 10000
+
+-- peers have the numbers from 1 to this one
+abbrev pub greatest_peer : ℕ
+greatest_peer = 8

@@ -22,7 +22,6 @@ use Rattle.shared.specs.Heights.{Role, Calls, Spent, SeatView, height_after, Kno
 use Rattle.shared.specs.Sealing.{IsSealed}
 use Rattle.shared.specs.Entries.{call_by}
 use Rattle.shared.specs.Answers.{IsAnswered, IsJournaled}
-use Rattle.shared.specs.Arrivals.{IsOfAPeer}
 use Rattle.shared.specs.Standing.{IsCoreOf}
 
 -- a journal without entries
@@ -88,9 +87,9 @@ call_of verifies start number writer e v w here own legal sealed =
 -- ---- the core under the lock
 
 -- a step of the core, and the journal with one more call
-pub core_after : (verifies : Verifies) (start : Start) (journal now : Journal) (held new : Held) (made e : JournalEntry) → IsCoreOf verifies start journal held → now ≡ journal → Steps verifies held made.entry.event made.entry.reply new → KeepsStart held new → NamesItsPeer made → IsOfAPeer made → e ≡ made
+pub core_after : (verifies : Verifies) (start : Start) (journal now : Journal) (held new : Held) (made e : JournalEntry) → IsCoreOf verifies start journal held → now ≡ journal → Steps verifies held made.entry.event made.entry.reply new → KeepsStart held new → NamesItsPeer made → e ≡ made
     → IsCoreOf verifies start (now ++ e ∷ []) new
-core_after verifies start journal now held new made e core same steps keeps names from is =
+core_after verifies start journal now held new made e core same steps keeps names is =
     let step = steps core.state core.stands in
     let network = network_from start verifies in
     let legal = legal_on network journal core.state made step.0 core.legal (subst (λ (n : Network). Step n core.state made.entry.event made.entry.reply step.0) (λ i. network_from (core.start_is i) verifies) step.1) in
@@ -100,7 +99,6 @@ core_after verifies start journal now held new made e core same steps keeps name
       state = step.0;
       legal = subst (λ (x : Journal × JournalEntry). IsLegal network (history_of (x.0 ++ x.1 ∷ [])) step.0) (λ i. (sym same i, sym is i)) legal;
       named = subst (λ (x : Journal × JournalEntry). AllByRecursion NamesItsPeer (x.0 ++ x.1 ∷ [])) (λ i. (sym same i, sym is i)) (all_push NamesItsPeer journal made core.named names);
-      peers = subst (λ (x : Journal × JournalEntry). AllByRecursion IsOfAPeer (x.0 ++ x.1 ∷ [])) (λ i. (sym same i, sym is i)) (all_push IsOfAPeer journal made core.peers from);
       stands = step.2;
     }
 

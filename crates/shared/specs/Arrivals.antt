@@ -1,9 +1,9 @@
 -- What of a journal came from peers.
-use Rattle.std.specs.Prelude.{ℕ, List, [], ◌∷◌, Option, Some, IfSome}
+use Rattle.std.specs.Prelude.{ℕ, List, [], ◌∷◌, Option, Some}
 use Rattle.std.specs.List.{flat_map}
 use Rattle.model.specs.History.{Event, Arrive}
 use Rattle.model.specs.Journal.{JournalEntry, Journal}
-use Rattle.inbox.specs.Arrivals.{Arrival, IsPeer}
+use Rattle.inbox.specs.Arrivals.{Arrival}
 
 abbrev pub arrival_from : Option ℕ → Event → List Arrival
 arrival_from (Some peer) (Arrive bytes) = record { peer = peer; bytes = bytes } ∷ []
@@ -16,7 +16,3 @@ arrival_in e = arrival_from e.peer e.entry.event
 -- all arrivals of a journal, in its order
 abbrev pub arrivals_in : Journal → List Arrival
 arrivals_in journal = flat_map arrival_in journal
-
--- what came from a peer came from one of the inbox's
-abbrev pub IsOfAPeer : JournalEntry → Type 0
-IsOfAPeer e = IfSome e.peer IsPeer

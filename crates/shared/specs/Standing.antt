@@ -14,7 +14,6 @@ use Rattle.model.specs.Chain.{IsOpening}
 use Rattle.model.specs.History.{State, IsLegal}
 use Rattle.model.specs.Journal.{Journal, history_of, NamesItsPeer}
 use Rattle.chain_core.specs.Held.{Held, Stands}
-use Rattle.shared.specs.Arrivals.{IsOfAPeer}
 use Rattle.shared.specs.Heights.{Deals, SeatView}
 
 -- the word of this name, for what this core begins from
@@ -28,14 +27,13 @@ pub height_is_fact : {S P : Type 0} (name : TableId) (start : Start) (t : Table 
 height_is_fact name start t =
     ×₃_prop (Coded-set table_id_coded _ _) (Coded-set coded_ℕ _ _) (Coded-set coded_start _ _)
 
--- the journal is legal, each arrival names its peer, which is one of the inbox's, and the core is the journal's state
+-- the journal is legal, each arrival names its peer, and the core is the journal's state
 pub record IsCoreOf (verifies : Verifies) (start : Start) (journal : Journal) (held : Held) : Type 0 where
   pub start_is : start_of held ≡ start
   pub opens : IsOpening (network_from start verifies)
   pub state : State
   pub legal : IsLegal (network_from start verifies) (history_of journal) state
   pub named : AllByRecursion NamesItsPeer journal
-  pub peers : AllByRecursion IsOfAPeer journal
   pub stands : Stands held state
 
 -- the seat is one of this word, and has the right to write

@@ -13,13 +13,13 @@ use Rattle.shared.proofs.desk.Desk.arrive.Goals as goal
 pub write-requires-clause-core : goal.write-requires-clause-core
 write-requires-clause-core g c =
     core_after g.S.SigScheme.verifies g.B.Room.start c.self.inside.journal c.self.inside.journal c.self.inside.core c.arrive_seen.new.self (arrival_by c.args.caller.now.caller c.args.peer c.deref.result.now (arrive_reply_of (Ok c.in-Ok.reply))) c.entry-entry.result c.self.invariant refl
-    (subst (λ (bs : List ℕ). Steps g.S.SigScheme.verifies c.self.inside.core (Arrive bs) (arrive_reply_of (Ok c.in-Ok.reply)) c.arrive_seen.new.self) (c.requires.seen ∙ sym c.deref.ensures.value) c.in-Ok.ensures.step) c.arrive_seen.ensures.start tt c.requires.peer c.entry-entry.ensures
+    (subst (λ (bs : List ℕ). Steps g.S.SigScheme.verifies c.self.inside.core (Arrive bs) (arrive_reply_of (Ok c.in-Ok.reply)) c.arrive_seen.new.self) (c.requires.seen ∙ sym c.deref.ensures.value) c.in-Ok.ensures.step) c.arrive_seen.ensures.start c.requires.peer c.entry-entry.ensures
 
 pub invariant_of-self-2 : goal.invariant_of-self-2
 invariant_of-self-2 g c =
     let core =
     core_after g.S.SigScheme.verifies g.B.Room.start c.self.inside.journal c.self.inside.journal c.self.inside.core c.arrive_seen.new.self (arrival_by c.args.caller.now.caller c.args.peer c.deref.result.now (arrive_reply_of (Ok c.in-Ok.reply))) c.entry-entry.result c.self.invariant refl
-    (subst (λ (bs : List ℕ). Steps g.S.SigScheme.verifies c.self.inside.core (Arrive bs) (arrive_reply_of (Ok c.in-Ok.reply)) c.arrive_seen.new.self) (c.requires.seen ∙ sym c.deref.ensures.value) c.in-Ok.ensures.step) c.arrive_seen.ensures.start tt c.requires.peer c.entry-entry.ensures in
+    (subst (λ (bs : List ℕ). Steps g.S.SigScheme.verifies c.self.inside.core (Arrive bs) (arrive_reply_of (Ok c.in-Ok.reply)) c.arrive_seen.new.self) (c.requires.seen ∙ sym c.deref.ensures.value) c.in-Ok.ensures.step) c.arrive_seen.ensures.start c.requires.peer c.entry-entry.ensures in
     subst (λ (j : Journal). IsCoreOf g.S.SigScheme.verifies g.B.Room.start j c.arrive_seen.new.self) (sym c.write.ensures.entries) core
 
 pub returns-in_default-clause-memory : goal.returns-in_default-clause-memory

@@ -10,11 +10,11 @@ use Rattle.shared.proofs.desk.Desk.close.Goals as goal
 pub write-requires-clause-core : goal.write-requires-clause-core
 write-requires-clause-core g c =
     core_after g.S.SigScheme.verifies g.B.Room.start c.self.inside.journal c.self.inside.journal c.self.inside.core c.close-answer.new.self (call_by c.args.caller.now.caller (Close c.args.id.number) (close_reply_of c.close-answer.result)) c.entry-entry.result c.self.invariant refl
-    (c.close-answer.ensures.step) c.close-answer.ensures.start tt tt c.entry-entry.ensures
+    (c.close-answer.ensures.step) c.close-answer.ensures.start tt c.entry-entry.ensures
 
 pub invariant_of-self : goal.invariant_of-self
 invariant_of-self g c =
     let core =
     core_after g.S.SigScheme.verifies g.B.Room.start c.self.inside.journal c.self.inside.journal c.self.inside.core c.close-answer.new.self (call_by c.args.caller.now.caller (Close c.args.id.number) (close_reply_of c.close-answer.result)) c.entry-entry.result c.self.invariant refl
-    (c.close-answer.ensures.step) c.close-answer.ensures.start tt tt c.entry-entry.ensures in
+    (c.close-answer.ensures.step) c.close-answer.ensures.start tt c.entry-entry.ensures in
     subst (λ (j : Journal). IsCoreOf g.S.SigScheme.verifies g.B.Room.start j c.close-answer.new.self) (sym c.write.ensures.entries) core

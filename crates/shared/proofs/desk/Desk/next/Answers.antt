@@ -13,13 +13,13 @@ use Rattle.shared.proofs.desk.Desk.next.Goals as goal
 pub write-requires-clause-core : goal.write-requires-clause-core
 write-requires-clause-core g c =
     core_after g.S.SigScheme.verifies g.B.Room.start c.self.inside.journal c.self.inside.journal c.self.inside.core c.next-answer.new.self (call_by c.args.caller.now.caller (Next c.args.id.number) (next_reply_of c.next-answer.result)) c.entry-entry.result c.self.invariant refl
-    (c.next-answer.ensures.step) c.next-answer.ensures.start tt tt c.entry-entry.ensures
+    (c.next-answer.ensures.step) c.next-answer.ensures.start tt c.entry-entry.ensures
 
 pub invariant_of-self-2 : goal.invariant_of-self-2
 invariant_of-self-2 g c =
     let core =
     core_after g.S.SigScheme.verifies g.B.Room.start c.self.inside.journal c.self.inside.journal c.self.inside.core c.next-answer.new.self (call_by c.args.caller.now.caller (Next c.args.id.number) (next_reply_of c.next-answer.result)) c.entry-entry.result c.self.invariant refl
-    (c.next-answer.ensures.step) c.next-answer.ensures.start tt tt c.entry-entry.ensures in
+    (c.next-answer.ensures.step) c.next-answer.ensures.start tt c.entry-entry.ensures in
     subst (λ (j : Journal). IsCoreOf g.S.SigScheme.verifies g.B.Room.start j c.next-answer.new.self) (sym c.write.ensures.entries) core
 
 pub returns-clause-answered : goal.returns-clause-answered

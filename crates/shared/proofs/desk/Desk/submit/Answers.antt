@@ -10,11 +10,11 @@ use Rattle.shared.proofs.desk.Desk.submit.Goals as goal
 pub write-requires-clause-core : goal.write-requires-clause-core
 write-requires-clause-core g c =
     core_after g.S.SigScheme.verifies g.B.Room.start c.self.inside.journal c.self.inside.journal c.self.inside.core c.submit.new.self (call_by c.args.caller.now.caller (Submit c.args.bytes.now) (submit_reply_of (Ok c.in_ok-reply.reply))) c.entry-entry.result c.self.invariant refl
-    c.in_ok-reply.ensures.step c.submit.ensures.start tt tt c.entry-entry.ensures
+    c.in_ok-reply.ensures.step c.submit.ensures.start tt c.entry-entry.ensures
 
 pub invariant_of-self-2 : goal.invariant_of-self-2
 invariant_of-self-2 g c =
     let core =
     core_after g.S.SigScheme.verifies g.B.Room.start c.self.inside.journal c.self.inside.journal c.self.inside.core c.submit.new.self (call_by c.args.caller.now.caller (Submit c.args.bytes.now) (submit_reply_of (Ok c.in_ok-reply.reply))) c.entry-entry.result c.self.invariant refl
-    c.in_ok-reply.ensures.step c.submit.ensures.start tt tt c.entry-entry.ensures in
+    c.in_ok-reply.ensures.step c.submit.ensures.start tt c.entry-entry.ensures in
     subst (λ (j : Journal). IsCoreOf g.S.SigScheme.verifies g.B.Room.start j c.submit.new.self) (sym c.write.ensures.entries) core

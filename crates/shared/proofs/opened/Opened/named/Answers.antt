@@ -5,7 +5,6 @@ use Rattle.chain_core.specs.Held.{Stands}
 use Rattle.model.specs.History.{opening, IsLegal}
 use Rattle.std.specs.List.{AllByRecursion}
 use Rattle.model.specs.Journal.{Journal, history_of, NamesItsPeer}
-use Rattle.shared.specs.Arrivals.{IsOfAPeer}
 use Rattle.shared.specs.Heights.{first_view}
 use Rattle.shared.proofs.Calls.{opening_stands}
 use Rattle.shared.proofs.opened.Opened.named.Goals as goal
@@ -48,7 +47,6 @@ invariant_of-desk g c =
       state = opening (network_from g.B.Room.start g.S.SigScheme.verifies);
       legal = subst (λ (j : Journal). IsLegal (network_from g.B.Room.start g.S.SigScheme.verifies) (history_of j) (opening (network_from g.B.Room.start g.S.SigScheme.verifies))) (sym none) refl;
       named = subst (AllByRecursion NamesItsPeer) (sym none) tt;
-      peers = subst (AllByRecursion IsOfAPeer) (sym none) tt;
       stands = subst (λ (start : Start). Stands c.self.inside.core (opening (network_from start g.S.SigScheme.verifies))) begins (opening_stands g.S.SigScheme.verifies c.self.inside.core i.new i.opens);
     }
 
