@@ -10,6 +10,7 @@
 
 mod checked_tx;
 mod dealing;
+mod ed25519_scheme;
 mod gate;
 mod pool;
 mod pool_fault;
@@ -18,6 +19,7 @@ mod test_scheme;
 mod verdicts;
 
 pub use checked_tx::{CheckedTx, plain};
+pub use ed25519_scheme::Ed25519;
 pub use gate::{Gate, OpenGate};
 pub use pool::{MAX_WORKERS, Pool};
 pub use pool_fault::PoolFault;

@@ -3,7 +3,7 @@
 use super::fixture::{KEY_HASH, MEMORY, ONES, boxed, check, is_spelled};
 use super::transactions::{MINTING_BODY, PAYING_BODY, read};
 use std::process::Abort;
-use witness_pool::{CheckedTx, SigScheme, TestScheme, plain};
+use witness_pool::{CheckedTx, Ed25519, SigScheme, TestScheme, plain};
 
 /// The SHA-256 digest of 32 bytes 01 followed by the identifier of the payment, which is the digest of its body.
 pub const DIGEST: &str = "7720038b2e76ccb282aafeb87e011adf346efe4af0e408c41b734fcfbbcedf12";
@@ -108,6 +108,36 @@ pub const SIGNED_MINTING: &[&str] = &[
     "0181820180 f6",
 ];
 
+/// The Ed25519 public key whose secret has 32 bytes 01, and its signature of the payment's identifier, in two halves:
+/// made by OpenSSL 3.0 (`pkeyutl -sign -rawin`).
+const ED25519_KEY: &str = "8a88e3dd7409f195fd52db2d3cba5d72ca6709bf1d94121bf3748801b40f6f5c";
+const ED25519_R: &str = "d4fb30556f08117f347609fc15daced4dad4fb918d3253870dcc1b0ab96807e8";
+const ED25519_S: &str = "712d3ecfb283f956e8caaac11373cef48f155fb7084b0b4250079f90de2dc008";
+
+/// The payment with that signature, and with the script that asks for all of none.
+const SIGNED_BY_ED25519: &[&str] = &[
+    "83",
+    PAYING_BODY,
+    "a2 0081825820",
+    ED25519_KEY,
+    "5840",
+    ED25519_R,
+    ED25519_S,
+    "0181820180 f6",
+];
+
+/// The same with the halves of the signature the other way round.
+const BADLY_BY_ED25519: &[&str] = &[
+    "83",
+    PAYING_BODY,
+    "a2 0081825820",
+    ED25519_KEY,
+    "5840",
+    ED25519_S,
+    ED25519_R,
+    "0181820180 f6",
+];
+
 /// A payment with its verdicts.
 fn checked<S: SigScheme, R: Abort + AllocGlobal>(rt: &R, text: &[&str]) -> Box<CheckedTx<S>> {
     boxed(
@@ -158,6 +188,15 @@ fn verdicts_on_payments(rt: HostRuntime) {
         has_verdicts::<TestScheme, _>(&rt, *text, *signed, *holding);
     }
     has_verdicts::<Nothing, _>(&rt, SIGNED, false, true);
+}
+
+// Each scheme takes its own signature alone.
+#[test]
+fn verdicts_by_ed25519(rt: HostRuntime) {
+    has_verdicts::<Ed25519, _>(&rt, SIGNED_BY_ED25519, true, true);
+    has_verdicts::<Ed25519, _>(&rt, BADLY_BY_ED25519, false, true);
+    has_verdicts::<Ed25519, _>(&rt, SIGNED, false, true);
+    has_verdicts::<TestScheme, _>(&rt, SIGNED_BY_ED25519, false, true);
 }
 
 /// The one key of a transaction is that of the payment's output.
