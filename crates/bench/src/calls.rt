@@ -1,5 +1,5 @@
-//! Calls of a shared core that change nothing, and arrivals that are refused: what one takes, and how much memory is held
-//! after many.
+//! Calls of a shared core that change nothing, and arrivals that are refused: what one takes, and how much memory is
+//! held after many.
 
 ghost use Rattle.std.specs.Prelude.{◌≡◌};
 

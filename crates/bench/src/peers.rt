@@ -215,8 +215,8 @@ fn two_of<B: Room>(callers: &mut Vec<Caller<B>>) -> Option<(Caller<B>, Caller<B>
     Some((one, other))
 }
 
-/// Each peer sends from a thread of its own what this thread brings, while another asks. None where a thread couldn't be
-/// started.
+/// Each peer sends from a thread of its own what this thread brings, while another asks. None where a thread couldn't
+/// be started.
 fn run_all<B: Room + Send + Sync, M: Mailroom + Send + Sync, R: Threads + Wait + Clock + Sync>(
     rt: &R,
     shared: &Shared<TestScheme, B>,

@@ -19,8 +19,8 @@ abbrev pub opening_fault : OpenFault → SharedOnFault
 opening_fault opening.BadCallers = BadCallers
 opening_fault opening.OutOfMemory = OutOfMemory
 
--- when each fault comes: there are too few callers or too many; or there aren't, and this is the first of the texts that
--- is no block which may come next, or memory ran out
+-- when each fault comes: there are too few callers or too many; or there aren't, and this is the first of the texts
+-- that is no block which may come next, or memory ran out
 abbrev pub IsSharedOnFault : Network → (texts : List (List ℕ)) → (callers : ℕ) → SharedOnFault → Type 0
 IsSharedOnFault network texts callers BadCallers = AreCallers callers → ⊥
 IsSharedOnFault network texts callers (InvalidBlock number) =

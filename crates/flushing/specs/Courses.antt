@@ -13,8 +13,8 @@ pub data Act : Type 0 where
   Flushed : List (List ℕ) → Act
 
 -- These acts lead a core and the texts of a log beside it to others. An event is a step of the core, which keeps what
--- it began from. A flush of a log with the first of the core's texts that are never rolled back leaves it with the first
--- of these, all, some or none more, those that it had among them.
+-- it began from. A flush of a log with the first of the core's texts that are never rolled back leaves it with the
+-- first of these, all, some or none more, those that it had among them.
 abbrev pub IsCourse : Verifies → Held → List (List ℕ) → List Act → Held → List (List ℕ) → Type 0
 IsCourse verifies held log [] end left = (end ≡ held) × (left ≡ log)
 IsCourse verifies held log (Came event reply ∷ acts) end left = (next : Held)

@@ -40,8 +40,8 @@ pub fn immutable_blocks_grow()
 
 /// What [`crate::flush`] puts onto a log can be opened again: [`crate::core_on`] tells no block of it as invalid.
 pub fn flushed_blocks_open_again()
-    // Of a core that was opened on blocks that were read, or on none, and that stands for what a legal history left, the
-    // first of its blocks that are never rolled back are such.
+    // Of a core that was opened on blocks that were read, or on none, and that stands for what a legal history left,
+    // the first of its blocks that are never rolled back are such.
     ensures { (verifies : Verifies) (core : Held) (history : List Entry) (state : State) (log : List (List ℕ))
         → IsChainOf (network_of core.genesis verifies) (texts_of core.opened) core.opened
         → IsLegal (network_held core verifies) history state → Stands core state

@@ -23,8 +23,8 @@ use std::sync::Wait;
 use witness_pool::SigScheme;
 
 /// Opens a shared core for so many callers, 1 to 64, on the log's blocks: its journal begins there, and its height is
-/// how many they are. Err where the callers are fewer or more, else where a block of the log is none that may come next,
-/// or where memory ran out. Costs what [`core_on`] costs.
+/// how many they are. Err where the callers are fewer or more, else where a block of the log is none that may come
+/// next, or where memory ran out. Costs what [`core_on`] costs.
 pub fn shared_on<D: Disk, S: SigScheme>(
     alloc: Global,
     genesis: Genesis,
