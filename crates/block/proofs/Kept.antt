@@ -43,7 +43,7 @@ pub is_unread : (bytes : List ℕ) → length bytes ≤ block_size_limit → Beg
 is_unread bytes size begins some = record { size = size; begins = begins; full = λ b spells none. some b (block_again b bytes spells) none }
 
 -- the text of a block begins with the head of an array of two
-block_begins : (b : Block) (bytes : List ℕ) → IsRead b bytes → BeginsWithHead 4 2 bytes
+pub block_begins : (b : Block) (bytes : List ℕ) → IsRead b bytes → BeginsWithHead 4 2 bytes
 block_begins b bytes read =
     let spells = read.read in
     let text = spells.text in

@@ -27,11 +27,15 @@ pub record IsMismatched (bytes : List ℕ) : Type 0 where
   pub read : SpellsBlock block bytes
   pub body : block.header.body_hash ≢ body_hash_of block.transactions
 
--- The bytes are not too many, begin with the head of an array of two, and spell no block without transactions: memory
--- is asked for by transactions alone.
+-- bytes begin as the text of a block does: with the head of an array of two
+abbrev pub BeginsLikeBlock : List ℕ → Type 0
+BeginsLikeBlock bytes = BeginsWithHead 4 2 bytes
+
+-- The bytes are not too many, begin as a block does, and spell no block without transactions: memory is asked for by
+-- transactions alone.
 pub record IsUnread (bytes : List ℕ) : Type 0 where
   pub size : length bytes ≤ block_size_limit
-  pub begins : BeginsWithHead 4 2 bytes
+  pub begins : BeginsLikeBlock bytes
   pub full : (b : Block) → SpellsBlock b bytes → b.transactions ≡ [] → ⊥
 
 -- when each reason comes why bytes are no block, whatever the memory: the first one that applies
@@ -40,11 +44,11 @@ IsBadBytes bytes bad.TooLarge = block_size_limit < length bytes
 IsBadBytes bytes bad.Malformed = IsMalformed bytes
 IsBadBytes bytes bad.BodyHashMismatch = IsMismatched bytes
 
--- The bytes are not too many and begin with the head of an array of two, and where they spell a block without
--- transactions they are read as it, if only there is memory for it.
+-- The bytes are not too many and begin as a block does, and where they spell a block without transactions they are
+-- read as it, if only there is memory for it.
 pub record IsReadable (bytes : List ℕ) : Type 0 where
   pub size : length bytes ≤ block_size_limit
-  pub begins : BeginsWithHead 4 2 bytes
+  pub begins : BeginsLikeBlock bytes
   pub empty : (b : Block) → SpellsBlock b bytes → b.transactions ≡ [] → IsRead b bytes
 
 -- when each fault comes: the first reason that applies, or want of memory

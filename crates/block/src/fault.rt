@@ -35,8 +35,8 @@ pub enum ReadFault {
     /// The header names another body hash than the body's.
     #[error("the body has another hash than the header names")]
     BodyHashMismatch,
-    /// Memory ran out: the bytes are not too many, and where they are the text of a block without transactions they are
-    /// read as it.
+    /// Memory ran out: the bytes are not too many and begin with the head of an array of two, and where they are the
+    /// text of a block without transactions they are read as it.
     #[error("out of memory")]
     OutOfMemory,
 }

@@ -1,11 +1,11 @@
 //! The text of a block of transactions that are handed in (RFC 8949, section 4.2.1).
 
-ghost use Rattle.std.specs.Prelude.{◌≡◌, ◌<◌, ◌^◌, ◌++◌, List, length, None, option_map, IfOk, IfErr, IfSome};
+ghost use Rattle.std.specs.Prelude.{◌≡◌, ◌<◌, ◌^◌, ◌++◌, List, length, None, option_map, OnOk, IfOk, IfErr, IfSome};
 ghost use Rattle.std.specs.List.{AllByRecursion};
 ghost use Rattle.sha2.specs.Sha256.{sha256};
 ghost use Rattle.model.specs.Cbor.{head, text_of};
 ghost use Rattle.model.specs.Transaction.{Transaction};
-ghost use Rattle.model.specs.Block.{SpellsBlock, block_hash_of, item_of_header, item_of_transactions};
+ghost use Rattle.model.specs.Block.{IsHeader, SpellsBlock, block_hash_of, item_of_header, item_of_transactions};
 ghost use Rattle.block.specs.View.{bytes_of, header_of};
 ghost use Rattle.block.specs.Written.{full_block, header_over, text_over, FitsBlock, IsBodyText, IsFirstTooDeep};
 ghost use Rattle.block.specs.Written.{IsNoText, IsUnspelled, IsWriteFault};
@@ -128,6 +128,8 @@ pub fn write_with_body(
         x.0.items ≡ text_over (header_over number slot (option_map bytes_of previous) body.now) body.now) }
     ensures digest { IfOk result (λ x. x.1.bytes ≡
         sha256 (text_of (item_of_header (header_over number slot (option_map bytes_of previous) body.now)))) }
+    // So it is out of range exactly where a number is.
+    ensures range { OnOk result (IsHeader (header_over number slot (option_map bytes_of previous) body.now)) }
     ensures fault { IfErr result (IsWriteFault (header_over number slot (option_map bytes_of previous) body.now)) }
 {
     if number >= NUMBER_LIMIT || slot >= NUMBER_LIMIT {

@@ -1,5 +1,5 @@
 -- Where only bytes that begin with the head of something with parts ask for memory, no text of an item without parts does.
-use Rattle.std.proofs.Common.{◌≡◌, ℕ, ◌+◌, ◌*◌, ◌<◌, List, [], ◌++◌, length, take, drop, get_or, Result, Ok, Err, IfErr, OnErr, refl, sym, ap, subst, ◌∙◌, append_assoc, append-nil, arith, inl, inr}
+use Rattle.std.proofs.Common.{◌≡◌, ℕ, ◌+◌, ◌*◌, ◌<◌, ◌^◌, List, [], ◌++◌, length, take, drop, get_or, Result, Ok, Err, IfErr, OnErr, refl, sym, ap, subst, ◌∙◌, append_assoc, append-nil, arith, inl, inr}
 use Rattle.std.proofs.lemmas.List.{take-append-drop, take_all}
 use Rattle.model.specs.Cbor.{Item, Unsigned, Negative, Bytes, Array, Map, Null, items_count, pairs_count, items_text, pairs_text, head, text_of, Spells}
 use Rattle.cbor.specs.declared.fault.CborFault.{CborFault}
@@ -18,9 +18,9 @@ one_head m k n c after rest e =
     (same, λ none. g.back (omega (arith, first, same, f.none none)))
 
 -- where memory was wanting for what a head announces, it announces something
-pub some_wants : {T : Type 0} (r : Result T CborFault) (major count : ℕ) (bytes rest : List ℕ) → OnErr r (0 < count) → bytes ≡ head major count ++ rest → IfErr r (λ fault. IfWant fault (BeginsWithSome major bytes))
-some_wants (Ok x) major count bytes rest some is = tt
-some_wants (Err fault) major count bytes rest some is = if_want fault (record { count = count; some = some; begins = record { rest = rest; parts = is } })
+pub some_wants : {T : Type 0} (r : Result T CborFault) (major count : ℕ) (bytes rest : List ℕ) → count < 2 ^ 64 → OnErr r (0 < count) → bytes ≡ head major count ++ rest → IfErr r (λ fault. IfWant fault (BeginsWithSome major bytes))
+some_wants (Ok x) major count bytes rest fits some is = tt
+some_wants (Err fault) major count bytes rest fits some is = if_want fault (record { count = count; some = some; fits = fits; begins = record { rest = rest; parts = is } })
 
 -- ---- items
 

@@ -1,5 +1,5 @@
 -- Items without parts, whose reading asks for no memory, and what bytes begin with where a reading may ask for some.
-use Rattle.std.specs.Prelude.{◌≡◌, ◌⊎◌, ℕ, ◌<◌, List, [], ◌++◌}
+use Rattle.std.specs.Prelude.{◌≡◌, ◌⊎◌, ℕ, ◌<◌, ◌^◌, List, [], ◌++◌}
 use Rattle.model.specs.Cbor.{Item, Unsigned, Negative, Bytes, Array, Map, Null, NoItems, NoPairs, head}
 
 -- no byte, no member and no entry is in the item
@@ -20,6 +20,7 @@ pub record BeginsWithHead (major argument : ℕ) (bytes : List ℕ) : Type 0 whe
 pub record BeginsWithSome (major : ℕ) (bytes : List ℕ) : Type 0 where
   pub count : ℕ
   pub some : 0 < count
+  pub fits : count < 2 ^ 64
   pub begins : BeginsWithHead major count bytes
 
 -- they begin with the head of a byte string, an array or a map that is not empty

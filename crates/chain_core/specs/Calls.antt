@@ -2,10 +2,10 @@
 use Rattle.std.specs.Prelude.{◌≡◌, ℕ, ◌≤◌, List, [], ◌∷◌, length, IfErr, OnErr}
 use Rattle.model.specs.Limits.{block_size_limit}
 use Rattle.model.specs.Signature.{Verifies}
-use Rattle.model.specs.Transaction.{Transaction, SpellsTransaction}
 use Rattle.model.specs.Block.{Block, SpellsBlock}
 use Rattle.model.specs.History.{State, Refusal, Applies}
-use Rattle.tx.specs.Bare.{IsBare}
+use Rattle.block.specs.Read.{BeginsLikeBlock}
+use Rattle.mempool.specs.Calls.{IsWantAtSubmission}
 use Rattle.chain_core.specs.declared.event.RawEvent.{RawEvent}
 use Rattle.chain_core.specs.declared.event.RawEvent.TheVariants as event
 use Rattle.chain_core.specs.declared.event.Reply.{Reply}
@@ -15,14 +15,11 @@ use Rattle.chain_core.specs.Steps.{Steps, KeepsStart}
 use Rattle.chain_core.specs.FollowerCalls.{IsWantAtOpen, IsWantAtNext}
 use Rattle.chain_core.specs.Views.{event_of, reply_of, IsReplyTo}
 
--- where the bytes are the text of a block without transactions, memory is asked for only where no refusal applies
+-- memory is asked for only where the bytes begin as a block does, and, where they are the text of one without
+-- transactions, where no refusal applies
 abbrev pub IsWantAtArrival : Verifies → Held → List ℕ → Type 0
-IsWantAtArrival verifies held bytes = (b : Block) → SpellsBlock b bytes → b.transactions ≡ [] →
-    (s : State) → Stands held s → (refusal : Refusal) → Applies (network_held held verifies) s bytes refusal → ⊥
-
--- where the bytes are the text of a transaction without parts, no memory is asked for
-abbrev pub IsWantAtSubmission : List ℕ → Type 0
-IsWantAtSubmission bytes = (t : Transaction) → SpellsTransaction t bytes → IsBare t → ⊥
+IsWantAtArrival verifies held bytes = BeginsLikeBlock bytes × ((b : Block) → SpellsBlock b bytes → b.transactions ≡ []
+    → (s : State) → Stands held s → (refusal : Refusal) → Applies (network_held held verifies) s bytes refusal → ⊥)
 
 -- where memory ran out, what the event's call promises of that
 abbrev pub IsWantAt : {S : Type 0} → Verifies → Held → RawEvent → Reply S → Type 0

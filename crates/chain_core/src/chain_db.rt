@@ -6,7 +6,7 @@ ghost use Rattle.std.specs.List.{AllByRecursion};
 ghost use Rattle.model.specs.Genesis.{Genesis};
 ghost use Rattle.model.specs.Cbor.{text_of};
 ghost use Rattle.model.specs.Transaction.{Transaction, SpellsTransaction, item_of_transaction};
-ghost use Rattle.tx.specs.Bare.{IsBare};
+ghost use Rattle.mempool.specs.Calls.{IsWantAtSubmission};
 ghost use Rattle.mempool.specs.View.{reply_of};
 ghost use Rattle.model.specs.Block.{Block, SpellsBlock, block_text, block_hash_of};
 ghost use Rattle.model.specs.Ledger.{Network, network_on};
@@ -300,7 +300,7 @@ impl<S: SigScheme> ChainDb<S> {
             IsWhole (network_on genesis S.verifies opened) self.new }
         ensures frame { self.new ≡ record self.old { mempool = self.new.mempool } }
         ensures err { OnErr result (self.new.mempool ≡ self.old.mempool) }
-        ensures memory { OnErr result ((t : Transaction) → SpellsTransaction t bytes.now → IsBare t → ⊥) }
+        ensures memory { OnErr result (IsWantAtSubmission bytes.now) }
     {
         let state = self.db.state();
         self.mempool.submit(state.params(), state.slot() + 1, bytes)

@@ -95,7 +95,8 @@ impl<S: SigScheme> Core<S> {
     ghost use Rattle.chain_core.specs.Views.{next_reply_of, forward_reply_of, close_reply_of, history_of, IsReplyTo};
     ghost use Rattle.chain_core.specs.Views.{AreRepliesTo};
     ghost use Rattle.chain_core.specs.Steps.{Steps, KeepsStart};
-    ghost use Rattle.chain_core.specs.Calls.{IsWantAtArrival, IsWantAtSubmission, IsWantAt, IsLeftAt, AreCalls};
+    ghost use Rattle.chain_core.specs.Calls.{IsWantAtArrival, IsWantAt, IsLeftAt, AreCalls};
+    ghost use Rattle.mempool.specs.Calls.{IsWantAtSubmission};
     ghost use Rattle.chain_core.specs.Mempools.{IsWantOf};
     ghost use Rattle.chain_core.specs.FollowerCalls.{IsWantAtOpen, IsWantAtNext, Peeks};
     ghost use Rattle.chain_core.specs.ForgedBlocks.{IsForgedAs, IsForgeFault};
@@ -174,8 +175,8 @@ impl<S: SigScheme> Core<S> {
     pub fn arrive(&mut self, bytes: &[u8]) -> Result<ArriveReply, AllocError>
         // For every state of the definitions that the core stands for, this is a step to one that it then stands for.
         ensures step { Steps S.verifies self.old (Arrive bytes.now) (arrive_reply_of result) self.new }
-        // Where the bytes are the text of a block without transactions, memory is asked for only where no refusal
-        // applies.
+        // Memory is asked for only where the bytes begin as a block does, and, where they are the text of one without
+        // transactions, where no refusal applies.
         ensures memory { OnErr result (IsWantAtArrival S.verifies self.old bytes.now) }
         ensures size { OnErr result (length bytes.now ≤ block_size_limit) }
         ensures start { KeepsStart self.old self.new }

@@ -1,13 +1,14 @@
 -- What becomes of a transaction that is submitted.
 use Rattle.std.proofs.Common.{◌≡◌, ℕ, ◌<◌, ◌≤◌, Bool, true, false, true≢false, List, [], ◌∷◌, ◌++◌, length, map, nat_lt, Some, None, Contains, refl, sym, ap, subst, ◌∙◌, arith}
-use Rattle.model.specs.Transaction.{Transaction, SpellsTransaction, transaction_id_of}
+use Rattle.model.specs.Cbor.{Null, items_of, items_text}
+use Rattle.model.specs.Transaction.{Transaction, SpellsTransaction, item_of_body, item_of_witnesses, transaction_id_of}
 use Rattle.model.specs.Signature.{Verifies}
 use Rattle.model.specs.Utxo.{Utxo, utxo_after}
 use Rattle.model.specs.Rules.{Params, Reason, NoInputs, reasons, passes, reason_against}
 use Rattle.model.specs.Mempool.{utxo_after_all, IsInMempool, IsMempoolAfter, SubmitReply, Malformed, Known, Refused, Full, Added}
 use Rattle.model.proofs.Reasons.{fails_in}
 use Rattle.model.proofs.TransactionTexts.{one_transaction}
-use Rattle.tx.specs.Bare.{IsBare}
+use Rattle.tx.specs.Bare.{IsBare, BeginsLikeTransaction}
 use Rattle.mempool.specs.Contents.{Mempool}
 use Rattle.mempool.specs.Calls.{with_tx, IsLeft, IsSubmission, IsNew, IsWantFor}
 
@@ -75,6 +76,10 @@ left_unspent old bytes Full new utxo is e = subst (IsUnspentOf utxo) (sym is) e
 left_unspent old bytes Added new utxo is e = subst (IsUnspentOf utxo) (sym is.2) (ap (λ u. utxo_after u is.0) e ∙ sym (after_last utxo old.waiting.txs is.0))
 
 -- ---- where memory is wanting
+
+-- the text of a transaction begins as one does
+pub begins_like : (t : Transaction) (bytes : List ℕ) → SpellsTransaction t bytes → BeginsLikeTransaction bytes
+begins_like t bytes s = record { rest = items_text (items_of (item_of_body t ∷ item_of_witnesses t ∷ Null ∷ [])); parts = s.text.spelled }
 
 module _ (verifies : Verifies) (params : Params) (slot : ℕ) (mempool : Mempool) (t : Transaction) (new : IsNew verifies params slot mempool t) where
   reason_fails : (r : Reason) → reason_against verifies params mempool.waiting.unspent slot t ≡ Some r → passes verifies params mempool.waiting.unspent slot t r ≡ false

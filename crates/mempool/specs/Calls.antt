@@ -6,6 +6,7 @@ use Rattle.model.specs.Utxo.{Utxo, utxo_after}
 use Rattle.model.specs.Rules.{Params, reason_number, reason_against}
 use Rattle.model.specs.Mempool.{utxo_after_all, passed, SubmitReply, Known, Refused, Added, Answers, IsInMempool}
 use Rattle.model.specs.Mempool.{IsTransactionWith}
+use Rattle.tx.specs.Bare.{IsBare, BeginsLikeTransaction}
 use Rattle.utxo_rules.specs.Check.{PassesEarly}
 use Rattle.mempool.specs.Contents.{Waiting, Mempool}
 
@@ -57,3 +58,8 @@ IsEarly other = ⊥
 abbrev pub IsWantFor : Verifies → Params → ℕ → Mempool → List ℕ → Type 0
 IsWantFor verifies params slot mempool bytes = (reply : SubmitReply) → IsEarly reply
     → Answers verifies params slot mempool.waiting.unspent mempool.capacity mempool.waiting.txs bytes reply → ⊥
+
+-- bytes that are submitted want memory only where they begin as a transaction does, and are not the text of one without
+-- parts
+abbrev pub IsWantAtSubmission : List ℕ → Type 0
+IsWantAtSubmission bytes = BeginsLikeTransaction bytes × ((t : Transaction) → SpellsTransaction t bytes → IsBare t → ⊥)

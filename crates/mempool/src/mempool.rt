@@ -9,7 +9,7 @@ ghost use Rattle.model.specs.Transaction.{Transaction, SpellsTransaction, item_o
 ghost use Rattle.model.specs.Block.{item_of_transactions};
 ghost use Rattle.model.specs.Mempool.{IsInMempool, picked};
 ghost use Rattle.model.specs.Rules as model;
-ghost use Rattle.tx.specs.Bare.{IsBare};
+ghost use Rattle.mempool.specs.Calls.{IsWantAtSubmission};
 ghost use Rattle.utxo_rules.specs.View.{params_of};
 ghost use Rattle.mempool.specs.Calls.{resynced_on, IsSubmission, IsSubmissionOf, IsNew, IsWantFor};
 ghost use Rattle.mempool.specs.Picking.{IsSpelled};
@@ -224,8 +224,8 @@ impl<S: SigScheme> Mempool<S> {
         ensures ok { IfOk result (λ reply.
             IsSubmission S.verifies (params_of params.now) slot self.old bytes.now (reply_of reply) self.new) }
         ensures err { OnErr result (self.new ≡ self.old) }
-        // Where the bytes are the text of a transaction without parts, no memory is asked for.
-        ensures memory { OnErr result ((t : Transaction) → SpellsTransaction t bytes.now → IsBare t → ⊥) }
+        // Memory is asked for only where the bytes begin as a transaction does, and not at one without parts.
+        ensures memory { OnErr result (IsWantAtSubmission bytes.now) }
     {
         let tx = match Tx::decode(self.alloc, bytes) {
             Ok(tx) => tx,

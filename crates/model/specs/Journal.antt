@@ -23,19 +23,19 @@ history_of journal = map (λ e. e.entry) journal
 abbrev pub calls_of : ℕ → Journal → Journal
 calls_of caller journal = filter (λ e. e.caller == caller) journal
 
--- an arrival came from a peer, whose number is one that there is, and nothing else did
+-- an arrival came from a peer, of a number from 1 to 8, and nothing else did
 abbrev pub IsFrom : Event → Option ℕ → Type 0
 IsFrom (Arrive bytes) (Some peer) = (1 ≤ peer) × (peer ≤ greatest_peer)
 IsFrom (Arrive bytes) None = ⊥
 IsFrom event (Some peer) = ⊥
 IsFrom event None = Unit {0}
 
--- an entry names a peer just where it is an arrival
+-- an entry names a peer, one from 1 to 8, just where it is an arrival
 abbrev pub NamesItsPeer : JournalEntry → Type 0
 NamesItsPeer e = IsFrom e.entry.event e.peer
 
 -- LEGAL JOURNALS
--- The history is legal, and each arrival, and nothing else, names the peer that it came from.
+-- The history is legal, and each arrival, and nothing else, names the peer that it came from, one from 1 to 8.
 pub record IsLegalJournal (network : Network) (journal : Journal) : Type 0 where
   pub state : State
   pub legal : IsLegal network (history_of journal) state

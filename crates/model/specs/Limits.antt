@@ -91,6 +91,6 @@ mempool_limit = 100000
 abbrev pub grant_count_limit : ℕ
 grant_count_limit = 10000
 
--- peers have the numbers from 1 to this one
+-- peers have the numbers from 1 to this one: as many as an inbox has
 abbrev pub greatest_peer : ℕ
 greatest_peer = 8

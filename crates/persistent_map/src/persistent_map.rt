@@ -62,13 +62,14 @@ impl<K: Copy + Ord, V> PersistentMap<K, V> {
     }
 
     /// How many entries stand on the longest way down the tree: a measure of what a look-up costs, which the clauses
-    /// bound by the length and by its binary logarithm alone. In practice it stays below twice that. Meets each entry.
+    /// bound from above by the length, and from below by its binary logarithm, alone. In practice it stays below twice
+    /// that. Meets each entry.
     pub fn depth(&self) -> usize
         ensures most { result ≤ length self.now }
         ensures least { length self.now < 2 ^ result }
         ensures rise { Rise K.cmp self.now }
     {
-        // The length is below 2^64, and so the depth has a place, too.
+        // The length is below 2^64, and so the depth fits 64 bits, too.
         let _len = self.len;
         self.tree.depth()
     }

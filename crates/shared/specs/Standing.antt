@@ -27,7 +27,7 @@ pub height_is_fact : {S P : Type 0} (name : TableId) (start : Start) (t : Table 
 height_is_fact name start t =
     ×₃_prop (Coded-set table_id_coded _ _) (Coded-set coded_ℕ _ _) (Coded-set coded_start _ _)
 
--- the journal is legal, each arrival names its peer, and the core is the journal's state
+-- the journal is legal, each arrival names its peer, one from 1 to 8, and the core is the journal's state
 pub record IsCoreOf (verifies : Verifies) (start : Start) (journal : Journal) (held : Held) : Type 0 where
   pub start_is : start_of held ≡ start
   pub opens : IsOpening (network_from start verifies)

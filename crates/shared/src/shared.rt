@@ -15,7 +15,7 @@ ghost use Rattle.ident.specs.PointView.{point_of};
 ghost use Rattle.inbox.specs.Arrivals.{IsPeer};
 ghost use Rattle.chain_core.specs.Views.{arrive_reply_of, submit_reply_of, open_reply_of, next_reply_of};
 ghost use Rattle.chain_core.specs.Views.{forward_reply_of, close_reply_of};
-ghost use Rattle.chain_core.specs.Calls.{IsWantAtSubmission};
+ghost use Rattle.mempool.specs.Calls.{IsWantAtSubmission};
 ghost use Rattle.shared.specs.Answers.{IsAnswered};
 ghost use Rattle.chain_core.specs.Numbers.{block_numbered};
 ghost use Rattle.chain_core.specs.Reopening.{texts_in};

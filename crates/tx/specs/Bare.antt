@@ -1,7 +1,8 @@
--- Transactions without parts, whose reading asks for no memory.
-use Rattle.std.specs.Prelude.{◌≡◌, List, []}
+-- Transactions without parts, whose reading asks for no memory, and how those begin whose reading may.
+use Rattle.std.specs.Prelude.{◌≡◌, ℕ, List, []}
 use Rattle.model.specs.Script.{Script}
 use Rattle.model.specs.Transaction.{KeyWitness, Transaction}
+use Rattle.cbor.specs.Bare.{BeginsWithHead}
 use Rattle.tx.specs.Body.{Body}
 
 -- nothing is spent, made or minted
@@ -22,3 +23,7 @@ pub record IsBare (t : Transaction) : Type 0 where
   pub mint : t.mint ≡ []
   pub signatures : t.signatures ≡ []
   pub scripts : t.scripts ≡ []
+
+-- bytes begin as the text of a transaction does: with the head of an array of three
+abbrev pub BeginsLikeTransaction : List ℕ → Type 0
+BeginsLikeTransaction bytes = BeginsWithHead 4 3 bytes

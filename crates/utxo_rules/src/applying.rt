@@ -111,3 +111,18 @@ pub fn applied_diff(utxo: Utxo, tx: &Tx) -> Result<(Utxo, Diff), AllocError>
     };
     Ok((after, diff))
 }
+
+/// The same as [`apply`], and answers what changed.
+pub fn apply_diff(utxo: &mut Utxo, tx: &Tx) -> Result<Diff, AllocError>
+    ensures ok { OnOk result (utxo.new ≡ utxo_after utxo.old tx.now) }
+    ensures diff { IfOk result (λ diff. diff ≡ diff_of utxo.old tx.now) }
+    ensures err { OnErr result (utxo.new ≡ utxo.old) }
+    // No ada is made or lost by a transaction that the rules let through.
+    ensures conserves { OnOk result ((verifies : Verifies) (params : rules.Params) (slot : ℕ) →
+        reason_against verifies params utxo.old slot tx.now ≡ None →
+        coin_of (outputs_of utxo.new) + tx.now.fee ≡ coin_of (outputs_of utxo.old)) }
+{
+    let (after, diff) = applied_diff(utxo.try_clone()?, tx)?;
+    *utxo = after;
+    Ok(diff)
+}

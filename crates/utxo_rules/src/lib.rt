@@ -6,8 +6,8 @@
 //! let before = undone(after, &diff)?; // the same outputs as before
 //! ```
 //!
-//! These take outputs that are given away, and copy nothing that isn't shared. [`apply`] and [`undo`] do the same to
-//! outputs that are borrowed, and leave them as they were where memory runs out.
+//! These take outputs that are given away, and copy nothing that isn't shared. [`apply_diff`] and [`undo`] do the same
+//! to outputs that are borrowed, and leave them as they were where memory runs out.
 #![tactic(auto)]
 
 mod applying;
@@ -27,7 +27,7 @@ mod undoing;
 mod utxo;
 mod witnesses;
 
-pub use applying::{applied, applied_diff, apply};
+pub use applying::{applied, applied_diff, apply, apply_diff};
 pub use check_fault::CheckFault;
 pub use diff::Diff;
 pub use entries::Entries;

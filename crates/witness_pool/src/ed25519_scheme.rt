@@ -3,7 +3,7 @@
 use crate::scheme::SigScheme;
 
 /// Ed25519 (RFC 8032, 5.1): a signature is good where [`ed25519::verify`] says so. A key or an R of small order is
-/// refused, so that there is no key under which one signature is good for many messages.
+/// refused: under such a key one signature would be good for many messages.
 #[derive(Clone, Copy, Debug)]
 pub struct Ed25519;
 

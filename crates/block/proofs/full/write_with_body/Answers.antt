@@ -1,11 +1,12 @@
-use Rattle.std.proofs.Common.{List, ℕ, option_map, ap, ◌∙◌, arith}
+use Rattle.std.proofs.Common.{List, ℕ, option_map, ap, subst, ◌∙◌, arith}
 use Rattle.sha2.specs.Sha256.{sha256}
 use Rattle.model.specs.Cbor.{text_of}
-use Rattle.model.specs.Block.{item_of_header}
+use Rattle.model.specs.Block.{IsHeader, item_of_header}
 use Rattle.block.specs.declared.header.Header as code
 use Rattle.block.specs.View.{bytes_of}
 use Rattle.block.specs.Written.{text_over}
 use Rattle.block.proofs.FullBlocks.{full_is_written, full_is_hashed, few_in_body}
+use Rattle.block.proofs.Texts.{is_header}
 use Rattle.block.proofs.full.write_with_body.Goals as goal
 
 pub returns-clause-ok : goal.returns-clause-ok
@@ -25,3 +26,9 @@ returns-clause-text c =
 pub returns-clause-digest : goal.returns-clause-digest
 returns-clause-digest c =
     c.in_ok-join.ensures.hash ∙ ap (λ (digest : List ℕ). sha256 (text_of (item_of_header (record { number = c.args.number; slot = c.args.slot; previous = option_map bytes_of c.args.previous; body_hash = digest })))) c.of_body.ensures
+
+pub returns-clause-range : goal.returns-clause-range
+returns-clause-range c =
+    let header : code.Header = record { number = c.args.number; slot = c.args.slot; previous = c.args.previous; body_hash = c.of_body.result } in
+    subst (λ (digest : List ℕ). IsHeader (record { number = c.args.number; slot = c.args.slot; previous = option_map bytes_of c.args.previous; body_hash = digest })) c.of_body.ensures
+    (is_header header c.if-number-ge-NUMBER_LIMIT.false c.if-slot-ge-NUMBER_LIMIT.false)

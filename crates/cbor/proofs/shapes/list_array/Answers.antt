@@ -21,4 +21,4 @@ returns-clause-begins g c =
     let h : head_at 4 c.args.bytes.now ≡ Some (c.in_ok-count.count, c.in_ok-count.rest.now) = search rules in
     let taken = head_takes 4 c.args.bytes.now c.in_ok-count.count c.in_ok-count.rest.now (λ i. omega (arith, c.type_inv.bytes i)) h in
     let heads = taken.0 in
-    some_wants c.list.result 4 c.in_ok-count.count c.args.bytes.now c.in_ok-count.rest.now c.list.ensures.some heads.parts
+    some_wants c.list.result 4 c.in_ok-count.count c.args.bytes.now c.in_ok-count.rest.now taken.1 c.list.ensures.some heads.parts

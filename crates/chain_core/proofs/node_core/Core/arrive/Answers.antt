@@ -1,6 +1,7 @@
 use Rattle.std.proofs.Common.{List, ◌≡◌, ◌-◌, ◌∙◌, None, length, sym, ap, subst, rules}
 use Rattle.std.proofs.lemmas.Result.{IfOk-at_ok, IfErr-at_err}
 use Rattle.block.specs.Read.{IsRead, IsBadBytes}
+use Rattle.block.proofs.ForCallers.{block_begins}
 use Rattle.model.specs.Block.{Block}
 use Rattle.model.specs.Chain.{IsOpening}
 use Rattle.model.specs.Ledger.{network_on}
@@ -68,11 +69,11 @@ returns-clause-step g c =
 
 pub returns-in_err-block-clause-memory : goal.returns-in_err-block-clause-memory
 returns-in_err-block-clause-memory g c =
-    on_err c.from_residual-in_err-block.result _ (λ b spells empty. none_applies (network_held (held c.self.inside) g.S.SigScheme.verifies) c.self.inside.chain_db c.self.inside.followers c.args.self.now c.args.bytes.now c.in-Ok.found c.self.view_is (IfOk-at_ok (λ b. IsRead b c.args.bytes.now) c.in-Ok.is c.in_ok-found.ensures.block) (λ s has. c.in_default.ensures (network_held (held c.self.inside) g.S.SigScheme.verifies) s c.in-Ok.found c.self.invariant.whole has c.bytes.ensures (c.point.ensures.number, c.point.ensures.hash)))
+    on_err c.from_residual-in_err-block.result _ (block_begins c.in-Ok.found c.args.bytes.now (IfOk-at_ok (λ b. IsRead b c.args.bytes.now) c.in-Ok.is c.in_ok-found.ensures.block), λ b spells empty. none_applies (network_held (held c.self.inside) g.S.SigScheme.verifies) c.self.inside.chain_db c.self.inside.followers c.args.self.now c.args.bytes.now c.in-Ok.found c.self.view_is (IfOk-at_ok (λ b. IsRead b c.args.bytes.now) c.in-Ok.is c.in_ok-found.ensures.block) (λ s has. c.in_default.ensures (network_held (held c.self.inside) g.S.SigScheme.verifies) s c.in-Ok.found c.self.invariant.whole has c.bytes.ensures (c.point.ensures.number, c.point.ensures.hash)))
 
 pub returns-in_err-change-clause-memory : goal.returns-in_err-change-clause-memory
 returns-in_err-change-clause-memory g c =
-    on_err c.from_residual-in_err-change.result _ (λ b spells empty. none_applies (network_held (held c.self.inside) g.S.SigScheme.verifies) c.self.inside.chain_db c.self.inside.followers c.args.self.now c.args.bytes.now c.in-Ok.found c.self.view_is (IfOk-at_ok (λ b. IsRead b c.args.bytes.now) c.in-Ok.is c.in_ok-found.ensures.block) (λ s has. c.in_default.ensures (network_held (held c.self.inside) g.S.SigScheme.verifies) s c.in-Ok.found c.self.invariant.whole has c.bytes.ensures (c.point.ensures.number, c.point.ensures.hash)))
+    on_err c.from_residual-in_err-change.result _ (block_begins c.in-Ok.found c.args.bytes.now (IfOk-at_ok (λ b. IsRead b c.args.bytes.now) c.in-Ok.is c.in_ok-found.ensures.block), λ b spells empty. none_applies (network_held (held c.self.inside) g.S.SigScheme.verifies) c.self.inside.chain_db c.self.inside.followers c.args.self.now c.args.bytes.now c.in-Ok.found c.self.view_is (IfOk-at_ok (λ b. IsRead b c.args.bytes.now) c.in-Ok.is c.in_ok-found.ensures.block) (λ s has. c.in_default.ensures (network_held (held c.self.inside) g.S.SigScheme.verifies) s c.in-Ok.found c.self.invariant.whole has c.bytes.ensures (c.point.ensures.number, c.point.ensures.hash)))
 
 pub invariant_of-self : goal.invariant_of-self
 invariant_of-self g c =

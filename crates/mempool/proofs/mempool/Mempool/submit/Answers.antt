@@ -3,11 +3,10 @@ use Rattle.std.proofs.lemmas.Result.{IfOk-weaker}
 use Rattle.model.specs.Transaction.{Transaction, SpellsTransaction}
 use Rattle.model.specs.Rules.{Params}
 use Rattle.model.proofs.Results.{on_err}
-use Rattle.tx.specs.Bare.{IsBare}
 use Rattle.utxo_rules.specs.View.{params_of}
-use Rattle.mempool.specs.Calls.{IsSubmission, IsSubmissionOf, IsNew}
+use Rattle.mempool.specs.Calls.{IsSubmission, IsSubmissionOf, IsNew, IsWantAtSubmission}
 use Rattle.mempool.specs.View.{reply_of}
-use Rattle.mempool.proofs.Submissions.{new_spends}
+use Rattle.mempool.proofs.Submissions.{begins_like, new_spends}
 use Rattle.mempool.proofs.mempool.Mempool.submit.Goals as goal
 
 pub returns-in-Some-clause-ok : goal.returns-in-Some-clause-ok
@@ -25,8 +24,8 @@ returns-clause-ok g c =
 
 pub returns-in_err-plain-clause-memory : goal.returns-in_err-plain-clause-memory
 returns-in_err-plain-clause-memory g c =
-    on_err c.from_residual.result ((t : Transaction) → SpellsTransaction t c.args.bytes.now → IsBare t → ⊥) (new_spends g.S.SigScheme.verifies (params_of c.args.params.now) c.args.slot c.args.self.now c.in-Ok.tx c.in_default.ensures c.args.bytes.now c.in-Ok.ensures.found)
+    on_err c.from_residual.result (IsWantAtSubmission c.args.bytes.now) (begins_like c.in-Ok.tx c.args.bytes.now c.in-Ok.ensures.found, new_spends g.S.SigScheme.verifies (params_of c.args.params.now) c.args.slot c.args.self.now c.in-Ok.tx c.in_default.ensures c.args.bytes.now c.in-Ok.ensures.found)
 
 pub returns-clause-memory : goal.returns-clause-memory
 returns-clause-memory g c =
-    on_err c.late_answer.result ((t : Transaction) → SpellsTransaction t c.args.bytes.now → IsBare t → ⊥) (new_spends g.S.SigScheme.verifies (params_of c.args.params.now) c.args.slot c.args.self.now c.in-Ok.tx c.in_default.ensures c.args.bytes.now c.in-Ok.ensures.found)
+    on_err c.late_answer.result (IsWantAtSubmission c.args.bytes.now) (begins_like c.in-Ok.tx c.args.bytes.now c.in-Ok.ensures.found, new_spends g.S.SigScheme.verifies (params_of c.args.params.now) c.args.slot c.args.self.now c.in-Ok.tx c.in_default.ensures c.args.bytes.now c.in-Ok.ensures.found)
