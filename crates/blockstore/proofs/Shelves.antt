@@ -31,7 +31,7 @@ use Rattle.blockstore.specs.Ways.{Agrees, IsLed, IsNotedAt, IsTurned, IsPlaceOf,
 use Rattle.block.specs.declared.tip.Tip.{Tip as Place}
 use Rattle.blockstore.specs.Keys.{hash_cmp, age_cmp, IsAgeOf, AreKeysOf}
 use Rattle.blockstore.specs.declared.keys.Age.{Age}
-use Rattle.blockstore.specs.Shelves.{HasPast, IsSame, AreApart, HasNone, IsThere}
+use Rattle.blockstore.specs.Shelves.{HasPast, IsSame, AreApart, HasNone, HasAge}
 use Rattle.blockstore.proofs.KeySets.{BecomesAt, eq_from, is_hash, at_others, none_some, exact_age, has_member}
 
 same_hash : (a b : List ℕ) → eq_by_cmp hash_cmp a b ≡ true → a ≡ b
@@ -388,7 +388,7 @@ module _ (m : BTreeMap (List ℕ) Placed) (ordered : IsOrdered hash_cmp m) (keye
       (at.1, value_at m at.0 at.1 at.2, omega (arith, past, is))
 
   -- each age is that of a block
-  pub there_at : (k : Age) → contains age_cmp ages k ≡ true → IsThere (blocks_in m) k
+  pub there_at : (k : Age) → contains age_cmp ages k ≡ true → HasAge (blocks_in m) k
   there_at k has = let at = keys.named k has in record { block = at.1; member = value_at m at.0 at.1 at.2; is = at.3 }
 
 pub no_first : {X : Type 0} (r : Option X) → ((x : X) → r ≡ Some x → ⊥) → IsSome r → ⊥

@@ -49,7 +49,7 @@ abbrev pub ArePast : ℕ → List Stored → Type 0
 ArePast number xs = (x : Stored) → Contains xs x → number < x.block.header.number
 
 -- a block of this age is there
-pub record IsThere (xs : List Stored) (age : Age) : Type 0 where
+pub record HasAge (xs : List Stored) (age : Age) : Type 0 where
   pub block : Stored
   pub member : Contains xs block
   pub is : IsAgeOf block.block age

@@ -6,7 +6,7 @@ ghost use Rattle.model.specs.Block.{block_hash_of};
 ghost use Rattle.block.specs.View.{tip_of};
 ghost use Rattle.blockstore.specs.Stored.{unmarked};
 ghost use Rattle.blockstore.specs.Tests.{is_past, marked_at};
-ghost use Rattle.blockstore.specs.Shelves.{IsSame, HasNone, IsThere, IsWithout};
+ghost use Rattle.blockstore.specs.Shelves.{IsSame, HasNone, HasAge, IsWithout};
 ghost use Rattle.blockstore.specs.Ways.{AreNotes, AreTurning, FollowsOne, AllStand, may_turn};
 ghost use Rattle.blockstore.specs.Ways.{IsNotedAt, IsLetGo, AreDropped};
 
@@ -128,7 +128,7 @@ impl Reach {
     /// Takes out the block at this age. Where a way led to it, its place waits, unless it is this one: answers whether
     /// it is.
     fn let_go<S: SigScheme>(&mut self, blocks: &mut Shelf<S>, root: &Tip, age: Age) -> bool
-        requires there { IsThere blocks.old.blocks age }
+        requires there { HasAge blocks.old.blocks age }
         requires room { vec_len self.old.waiting < vec_capacity self.old.waiting }
         ensures blocks { IsWithout blocks.old.blocks age blocks.new.blocks }
         ensures notes { IsNotedAt age.hash false blocks.old.notes blocks.new.notes }

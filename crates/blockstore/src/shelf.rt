@@ -14,7 +14,7 @@ ghost use Rattle.std.specs.BTreeMap as tree;
 ghost use Rattle.blockstore.specs.Placed.{is_noted, nothing_held, blocks_in, notes_in, stored_at};
 ghost use Rattle.blockstore.specs.Placed.{IsKeyed, AreSameBlocks};
 ghost use Rattle.blockstore.specs.Shelves.{IsSame, AreApart, AreAfter, HasAfter, AreLinksAfter};
-ghost use Rattle.blockstore.specs.Shelves.{HasNone, HasPast, ArePast, IsThere, IsWithout};
+ghost use Rattle.blockstore.specs.Shelves.{HasNone, HasPast, ArePast, HasAge, IsWithout};
 ghost use Rattle.blockstore.specs.Ways.{HasStep, HasParent, IsNotedAt, IsPlaceOf, FollowsOne, Stands, AllStand};
 ghost use Rattle.blockstore.specs.Ways.{AreTurning, AreSameNotes, IsLookedAt, may_turn};
 
@@ -167,8 +167,8 @@ impl<S: SigScheme> Shelf<S> {
         parent.is_reached() && Tip::at(parent.block()).precedes(block)
     }
 
-    /// The blocks that name this one as the block before them. A look-up, and one more for each. Err only where there are
-    /// some.
+    /// The blocks that name this one as the block before them. A look-up, and one more for each. Err only where there
+    /// are some.
     pub fn after(
         &self,
         alloc: Global,
@@ -268,7 +268,7 @@ impl<S: SigScheme> Shelf<S> {
     /// The least age, if it is up to this number. A look-up.
     pub fn oldest_up_to(&self, number: u64) -> Option<Age>
         ensures oldest { MatchOption result (ArePast number self.now.blocks)
-            (λ age. IsThere self.now.blocks age × (age.number ≤ number)) }
+            (λ age. HasAge self.now.blocks age × (age.number ≤ number)) }
         // No two blocks have one hash.
         ensures distinct { HaveDistinctHashes (map (λ s. s.block) self.now.blocks) }
     {
@@ -284,7 +284,7 @@ impl<S: SigScheme> Shelf<S> {
     /// Takes out the block at this age. Answers where it stood, if a way led to it. A look-up in each of the three
     /// trees; takes no memory.
     pub fn remove(&mut self, age: Age) -> Option<Tip>
-        requires { IsThere self.old.blocks age }
+        requires { HasAge self.old.blocks age }
         ensures blocks { IsWithout self.old.blocks age self.new.blocks }
         ensures notes { IsNotedAt age.hash false self.old.notes self.new.notes }
         ensures place { IsPlaceOf self.old age.hash (option_map tip_of result) }

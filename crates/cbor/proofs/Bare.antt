@@ -4,7 +4,7 @@ use Rattle.std.proofs.lemmas.List.{take-append-drop, take_all}
 use Rattle.model.specs.Cbor.{Item, Unsigned, Negative, Bytes, Array, Map, Null, items_count, pairs_count, items_text, pairs_text, head, text_of, Spells}
 use Rattle.cbor.specs.declared.fault.CborFault.{CborFault}
 use Rattle.cbor.specs.Gives.{IfWant}
-use Rattle.cbor.specs.Bare.{IsBareItem, BeginsWithSome, BeginsWithParts}
+use Rattle.cbor.specs.Bare.{IsBareItem, BeginsWithSome, AnnouncesParts}
 use Rattle.cbor.proofs.Reading.{first_of}
 use Rattle.cbor.proofs.Wants.{if_want, want_map}
 
@@ -50,7 +50,7 @@ none_of major bytes b m k after is none =
     let some = b.some in
     omega (arith, some, nothing)
 
-no_bare : (bytes : List ℕ) → BeginsWithParts bytes → (item : Item) (n : ℕ) → Spells item (take n bytes) → IsBareItem item → ⊥
+no_bare : (bytes : List ℕ) → AnnouncesParts bytes → (item : Item) (n : ℕ) → Spells item (take n bytes) → IsBareItem item → ⊥
 no_bare bytes begins item n s bare =
     let whole : bytes ≡ text_of item ++ drop n bytes = sym (take-append-drop n bytes) ∙ ap (λ (t : List ℕ). t ++ drop n bytes) s.spelled in
     let h = bare_head item bare in
@@ -64,7 +64,7 @@ no_bare bytes begins item n s bare =
     ]
 
 -- so where memory was wanting the bytes begin with no bare item's text
-pub bare_wants : (fault : CborFault) (bytes : List ℕ) → IfWant fault (BeginsWithParts bytes) → IfWant fault ((item : Item) (n : ℕ) → Spells item (take n bytes) → IsBareItem item → ⊥)
+pub bare_wants : (fault : CborFault) (bytes : List ℕ) → IfWant fault (AnnouncesParts bytes) → IfWant fault ((item : Item) (n : ℕ) → Spells item (take n bytes) → IsBareItem item → ⊥)
 bare_wants fault bytes = want_map fault (no_bare bytes)
 
 -- and are none

@@ -24,5 +24,5 @@ pub record BeginsWithSome (major : ℕ) (bytes : List ℕ) : Type 0 where
   pub begins : BeginsWithHead major count bytes
 
 -- they begin with the head of a byte string, an array or a map that is not empty
-abbrev pub BeginsWithParts : List ℕ → Type 0
-BeginsWithParts bytes = BeginsWithSome 2 bytes ⊎ (BeginsWithSome 4 bytes ⊎ BeginsWithSome 5 bytes)
+abbrev pub AnnouncesParts : List ℕ → Type 0
+AnnouncesParts bytes = BeginsWithSome 2 bytes ⊎ (BeginsWithSome 4 bytes ⊎ BeginsWithSome 5 bytes)

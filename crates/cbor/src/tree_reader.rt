@@ -7,7 +7,7 @@ ghost use Rattle.model.specs.Cbor.{Spells};
 ghost use Rattle.cbor.specs.Tree.{item_of};
 ghost use Rattle.cbor.specs.ItemReading.{single_at, item_at, items_at, pair_at, pairs_at, array_item_at, map_item_at};
 ghost use Rattle.cbor.specs.Gives.{Gives, IfMalformed, IfWant};
-ghost use Rattle.cbor.specs.Bare.{IsBareItem, BeginsWithParts};
+ghost use Rattle.cbor.specs.Bare.{IsBareItem, AnnouncesParts};
 
 use crate::fault::CborFault;
 use crate::item::{Entries, Entry, Item, Items};
@@ -18,7 +18,7 @@ use std::alloc::Global;
 #[tactic(auto, unfolding(crate::specs::ItemReading::single_at))]
 fn single(alloc: Global, major: u8, bytes: &[u8]) -> Result<(Item, &[u8]), CborFault>
     ensures exact { Gives (λ x. (item_of x.0, x.1.now)) result (single_at major bytes.now) }
-    ensures begins { IfErr result (λ fault. IfWant fault (BeginsWithParts bytes.now)) }
+    ensures begins { IfErr result (λ fault. IfWant fault (AnnouncesParts bytes.now)) }
 {
     match major {
         0 => {
@@ -113,7 +113,7 @@ fn entries(
 #[tactic(auto, unfolding(crate::specs::ItemReading::array_item_at))]
 fn array(alloc: Global, depth: usize, bytes: &[u8]) -> Result<(Item, &[u8]), CborFault>
     ensures exact { Gives (λ x. (item_of x.0, x.1.now)) result (array_item_at (item_at depth) bytes.now) }
-    ensures begins { IfErr result (λ fault. IfWant fault (BeginsWithParts bytes.now)) }
+    ensures begins { IfErr result (λ fault. IfWant fault (AnnouncesParts bytes.now)) }
 {
     let (count, rest) = reader::array(bytes).ok_or(CborFault::Malformed)?;
     let (members, rest) = members(alloc, depth, count, rest)?;
@@ -125,7 +125,7 @@ fn array(alloc: Global, depth: usize, bytes: &[u8]) -> Result<(Item, &[u8]), Cbo
 #[tactic(auto, unfolding(crate::specs::ItemReading::map_item_at))]
 fn map(alloc: Global, depth: usize, bytes: &[u8]) -> Result<(Item, &[u8]), CborFault>
     ensures exact { Gives (λ x. (item_of x.0, x.1.now)) result (map_item_at (item_at depth) bytes.now) }
-    ensures begins { IfErr result (λ fault. IfWant fault (BeginsWithParts bytes.now)) }
+    ensures begins { IfErr result (λ fault. IfWant fault (AnnouncesParts bytes.now)) }
 {
     let (count, rest) = reader::map(bytes).ok_or(CborFault::Malformed)?;
     let (entries, rest) = entries(alloc, depth, count, rest)?;
@@ -137,7 +137,7 @@ fn map(alloc: Global, depth: usize, bytes: &[u8]) -> Result<(Item, &[u8]), CborF
 #[tactic(auto, unfolding(crate::specs::ItemReading::item_at, crate::specs::ItemReading::item_with, crate::specs::ItemReading::item_of_major))]
 fn item(alloc: Global, depth: usize, bytes: &[u8]) -> Result<(Item, &[u8]), CborFault>
     ensures exact { Gives (λ x. (item_of x.0, x.1.now)) result (item_at depth bytes.now) }
-    ensures begins { IfErr result (λ fault. IfWant fault (BeginsWithParts bytes.now)) }
+    ensures begins { IfErr result (λ fault. IfWant fault (AnnouncesParts bytes.now)) }
 {
     if depth == 0 {
         return Err(CborFault::Malformed);
@@ -162,7 +162,7 @@ pub fn read(alloc: Global, bytes: &[u8]) -> Result<(Item, usize), CborFault>
         Spells item (take n bytes.now) → ⊥)) }
     ensures want { IfErr result (λ fault. IfWant fault ((item : cbor.Item) (n : ℕ) →
         Spells item (take n bytes.now) → IsBareItem item → ⊥)) }
-    ensures begins { IfErr result (λ fault. IfWant fault (BeginsWithParts bytes.now)) }
+    ensures begins { IfErr result (λ fault. IfWant fault (AnnouncesParts bytes.now)) }
 {
     let (item, rest) = item(alloc, MAX_NESTING, bytes)?;
     Ok((item, bytes.len() - rest.len()))
@@ -181,7 +181,7 @@ pub fn decode(alloc: Global, bytes: &[u8]) -> Result<Item, CborFault>
     ensures malformed { IfErr result (λ fault. IfMalformed fault ((item : cbor.Item) → Spells item bytes.now → ⊥)) }
     ensures want { IfErr result (λ fault. IfWant fault ((item : cbor.Item) → Spells item bytes.now → IsBareItem item
         → ⊥)) }
-    ensures begins { IfErr result (λ fault. IfWant fault (BeginsWithParts bytes.now)) }
+    ensures begins { IfErr result (λ fault. IfWant fault (AnnouncesParts bytes.now)) }
 {
     let (item, length) = read(alloc, bytes)?;
     if length != bytes.len() {

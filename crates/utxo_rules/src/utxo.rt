@@ -1,6 +1,6 @@
 //! The unspent outputs.
 
-ghost use Rattle.std.specs.Prelude.{◌≡◌, ◌↔◌, [], IsTrue, IfOk, OnOk, OnErr};
+ghost use Rattle.std.specs.Prelude.{◌≡◌, ◌↔◌, [], IsTrue, IsSome, IfOk, OnOk, OnErr};
 ghost use Rattle.std.specs.Option.{option_copied, option_map};
 ghost use Rattle.std.specs.FinMap as finite;
 ghost use Rattle.std.specs.Arc.{arc_value};
@@ -117,11 +117,12 @@ impl Utxo {
     }
 
     /// Takes out the output that this input spends, if it stands there. Takes time in proportion to the logarithm of
-    /// the length, and memory for a copy of each node on the way that another version shares. Err where there is none:
-    /// nothing changes.
+    /// the length, and memory for a copy of each node on the way that another version shares. Err where there is none,
+    /// which is never so where no output stands there: nothing changes.
     pub fn remove(&mut self, input: &Input) -> Result<(), AllocError>
         ensures ok { OnOk result (self.new ≡ finite.remove self.old (input_of input.now)) }
         ensures err { OnErr result (self.new ≡ self.old) }
+        ensures there { OnErr result (IsSome (finite.get self.old (input_of input.now))) }
     {
         self.take(input)?;
         Ok(())
@@ -154,6 +155,7 @@ impl Utxo {
             taken ≡ option_map (λ o. (input_of input.now, o)) (finite.get self.old (input_of input.now))) }
         ensures ok { OnOk result (self.new ≡ finite.remove self.old (input_of input.now)) }
         ensures err { OnErr result (self.new ≡ self.old) }
+        ensures there { OnErr result (IsSome (finite.get self.old (input_of input.now))) }
     {
         let place = Place::of(input);
         let taken = self.map.remove(&place)?;

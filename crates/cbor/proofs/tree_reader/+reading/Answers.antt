@@ -3,7 +3,7 @@ use Rattle.std.proofs.lemmas.Result.{err_from_is_err_and}
 use Rattle.cbor.specs.Tree.{item_of, members_of, entries_of}
 use Rattle.cbor.specs.Reading.{head_at}
 use Rattle.cbor.specs.ItemReading.{item_at, items_at, pairs_at}
-use Rattle.cbor.specs.Bare.{BeginsWithParts}
+use Rattle.cbor.specs.Bare.{AnnouncesParts}
 use Rattle.cbor.proofs.Reading.{head_takes}
 use Rattle.cbor.proofs.Wants.{wants_anyway}
 use Rattle.cbor.proofs.ItemLaws.{rest_is_shorter}
@@ -46,11 +46,11 @@ array-returns-in_err-members-clause-begins t c =
     let h : head_at 4 c.args.bytes.now ≡ Some (c.in_ok-count.count, c.in_ok-count.rest.now) = search rules in
     let taken = head_takes 4 c.args.bytes.now c.in_ok-count.count c.in_ok-count.rest.now (λ i. omega (arith, c.type_inv.bytes i)) h in
     let heads = taken.0 in
-    wants_anyway c.from_residual-in_err-members.result (BeginsWithParts c.args.bytes.now) (inr (inl (record { count = c.in_ok-count.count; some = c.in_err-members.ensures.some; fits = taken.1; begins = record { rest = c.in_ok-count.rest.now; parts = heads.parts } })))
+    wants_anyway c.from_residual-in_err-members.result (AnnouncesParts c.args.bytes.now) (inr (inl (record { count = c.in_ok-count.count; some = c.in_err-members.ensures.some; fits = taken.1; begins = record { rest = c.in_ok-count.rest.now; parts = heads.parts } })))
 
 pub map-returns-in_err-entries-clause-begins : goal.map-returns-in_err-entries-clause-begins
 map-returns-in_err-entries-clause-begins t c =
     let h : head_at 5 c.args.bytes.now ≡ Some (c.in_ok-count.count, c.in_ok-count.rest.now) = search rules in
     let taken = head_takes 5 c.args.bytes.now c.in_ok-count.count c.in_ok-count.rest.now (λ i. omega (arith, c.type_inv.bytes i)) h in
     let heads = taken.0 in
-    wants_anyway c.from_residual-in_err-entries.result (BeginsWithParts c.args.bytes.now) (inr (inr (record { count = c.in_ok-count.count; some = c.in_err-entries.ensures.some; fits = taken.1; begins = record { rest = c.in_ok-count.rest.now; parts = heads.parts } })))
+    wants_anyway c.from_residual-in_err-entries.result (AnnouncesParts c.args.bytes.now) (inr (inr (record { count = c.in_ok-count.count; some = c.in_err-entries.ensures.some; fits = taken.1; begins = record { rest = c.in_ok-count.rest.now; parts = heads.parts } })))

@@ -12,7 +12,7 @@ use Rattle.model.proofs.Sets.{same_count}
 use Rattle.block.specs.View.{tip_of}
 use Rattle.blockstore.specs.Stored.{Stored}
 use Rattle.blockstore.specs.Tests.{is_past}
-use Rattle.blockstore.specs.Shelves.{ArePast, IsThere}
+use Rattle.blockstore.specs.Shelves.{ArePast, HasAge}
 use Rattle.blockstore.specs.declared.keys.Age.{Age}
 use Rattle.blockstore.proofs.Lists.{distinct_filter}
 use Rattle.blockstore.proofs.Stores.{block_of, past_blocks}
@@ -20,10 +20,10 @@ use Rattle.blockstore.proofs.Rising.{one_dropped}
 use Rattle.blockstore.proofs.reach.Reach.drop_up_to.Goals as goal
 use Rattle.blockstore.proofs.reach.Reach.drop_up_to.Goals.{then-let_go, else-let_go}
 
-at_some : (number : ℕ) (xs : List Stored) (r : Option Age) (age : Age) → r ≡ Some age → MatchOption r (ArePast number xs) (λ a. IsThere xs a × (a.number ≤ number)) → IsThere xs age × (age.number ≤ number)
-at_some number xs r age is known = subst (λ (o : Option Age). MatchOption o (ArePast number xs) (λ a. IsThere xs a × (a.number ≤ number))) is known
+at_some : (number : ℕ) (xs : List Stored) (r : Option Age) (age : Age) → r ≡ Some age → MatchOption r (ArePast number xs) (λ a. HasAge xs a × (a.number ≤ number)) → HasAge xs age × (age.number ≤ number)
+at_some number xs r age is known = subst (λ (o : Option Age). MatchOption o (ArePast number xs) (λ a. HasAge xs a × (a.number ≤ number))) is known
 
-at_none : (number : ℕ) (xs : List Stored) (r : Option Age) → ((age : Age) → r ≡ Some age → ⊥) → MatchOption r (ArePast number xs) (λ a. IsThere xs a × (a.number ≤ number)) → ArePast number xs
+at_none : (number : ℕ) (xs : List Stored) (r : Option Age) → ((age : Age) → r ≡ Some age → ⊥) → MatchOption r (ArePast number xs) (λ a. HasAge xs a × (a.number ≤ number)) → ArePast number xs
 at_none number xs None none known = known
 at_none number xs (Some age) none known = absurd (none age refl)
 

@@ -2,7 +2,7 @@ use Rattle.std.proofs.Common.{subst, sym, arith, map, Contains}
 use Rattle.model.specs.Chain.{HaveDistinctHashes}
 use Rattle.blockstore.specs.Stored.{Stored}
 use Rattle.blockstore.specs.Placed.{Held}
-use Rattle.blockstore.specs.Shelves.{IsThere}
+use Rattle.blockstore.specs.Shelves.{HasAge}
 use Rattle.blockstore.proofs.Shelves.{distinct_on, past_oldest, none_without_ages, there_at, no_first}
 use Rattle.blockstore.proofs.shelf.Shelf.oldest_up_to.Goals as goal
 
@@ -26,7 +26,7 @@ returns-then-oldest-number-clause-distinct g c =
 
 pub returns-clause-oldest : goal.returns-clause-oldest
 returns-clause-oldest g c = (
-  subst (λ (h : Held). IsThere h.blocks c.in-Some.oldest.now) c.self.view_is
+  subst (λ (h : Held). HasAge h.blocks c.in-Some.oldest.now) c.self.view_is
       (there_at c.self.inside.blocks c.self.invariant.ordered c.self.invariant.keyed c.self.inside.ages c.self.invariant.ages c.in-Some.oldest.now c.in-Some.ensures.member),
   omega (arith, c.if-oldest-number.false),
 )

@@ -1,9 +1,10 @@
-use Rattle.std.proofs.Common.{◌≡◌, Some, ap, ◌∙◌}
+use Rattle.std.proofs.Common.{◌≡◌, Some, IsSome, ap, subst, ◌∙◌}
 use Rattle.std.specs.Arc.{arc_value}
 use Rattle.std.specs.Option.{option_map}
 use Rattle.std.specs.FinMap as finite
 use Rattle.model.specs.Transaction.{Input, Output, input_cmp}
 use Rattle.model.specs.Utxo.{Utxo}
+use Rattle.model.proofs.Results.{on_err}
 use Rattle.model.proofs.Unspent.{inputs_total, inputs_same}
 use Rattle.tx.specs.View.{input_of}
 use Rattle.persistent_map.proofs.ForCallers.{get_of, remove_of}
@@ -45,3 +46,10 @@ returns-clause-ok c =
     ∙ ap (λ (m : Utxo). finite.remove m c.of-place.result) c.self.view_is
     ∙ ap (λ (i : Input). finite.remove c.args.self.now i) c.of-place.ensures in
     elim c.match-taken.branch [ in-None w ↦ rw w.result-is whole | in-Some w ↦ rw w.result-is whole ]
+
+pub returns-in_err-taken-clause-there : goal.returns-in_err-taken-clause-there
+returns-in_err-taken-clause-there c =
+    let same : finite.get c.args.self.now c.of-place.result ≡ finite.get c.args.self.now (input_of c.args.input.now) =
+    ap (λ (i : Input). finite.get c.args.self.now i) c.of-place.ensures in
+    let there = subst IsSome (get_of input_cmp c.self.inside.map c.of-place.result c.in_err-taken.ensures.rose ∙ ap (λ (m : Utxo). finite.get m c.of-place.result) c.self.view_is ∙ same) c.in_err-taken.ensures.there in
+    on_err c.from_residual.result _ there
