@@ -8,4 +8,5 @@ pub mod BuiltBlocks
 pub mod Gathering
 pub mod Asking
 pub mod Definitions
+pub mod Sends
 pub mod ForCallers

@@ -15,3 +15,5 @@ pub mod KnownView
 pub mod Adding
 pub mod BaseView
 pub mod RequestView
+pub mod Sending
+pub mod SendingView

@@ -81,7 +81,7 @@ pub record Asked (names : AllNames) (means : Result Meaning LineFault → Type 0
   pub is_request : IsRequest names new asks meaning
 
 -- there is no fault but, where it is late, the one that only memory tells
-abbrev pub Lacks : (Result Meaning LineFault → Type 0) → (late : Bool) → Type 0
+abbrev pub Lacks : {M : Type 0} → (Result M LineFault → Type 0) → (late : Bool) → Type 0
 Lacks means late = (fault : LineFault) → means (Err fault) → (fault ≡ NotBuilt) × IsTrue late
 
 -- What is answered to a line that means this: what it asks for; its fault, which leaves the names; or that memory ran

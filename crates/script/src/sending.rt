@@ -1,7 +1,15 @@
 //! Scripts in which peers send bytes: what they define is said as in every script, and each other line sends.
 
-ghost use Rattle.std.specs.Prelude.{◌≡◌, ◌+◌, ◌≤◌, ◌↔◌, IsTrue, IfOk, IfErr, IfSome, OnOk, length};
-ghost use Rattle.script.specs.Text.{script_size_limit};
+ghost use Rattle.std.specs.Prelude.{◌≡◌, ◌+◌, ◌≤◌, IfOk, IfSome, IsTrue, None, OnOk, length, nat_le, option_map};
+ghost use Rattle.script.specs.Text.{parse_number, script_size_limit};
+ghost use Rattle.script.specs.LineView.{line_of};
+ghost use Rattle.script.specs.Line.{parse_line};
+ghost use Rattle.script.specs.Names.{AllNames};
+ghost use Rattle.script.specs.WordsView.{words_left};
+ghost use Rattle.script.specs.RequestView.{AreNamed};
+ghost use Rattle.script.specs.Sending.{MeansSending, MeansSimulation, is_definition, is_late_sending, is_peer};
+ghost use Rattle.script.specs.Sending.{parse_send, parse_sending, said_either, said_send, send_meaning, send_of};
+ghost use Rattle.script.specs.SendingView.{AsksSending, AsksToMake, AsksToSend, send_line_of};
 
 use crate::fault::LineFault;
 use crate::line::{Line, parse_line};
@@ -22,7 +30,7 @@ pub struct SendRequest<'a> {
 
 /// Whether the script isn't too long with this line.
 fn is_within(at: LinePlace, line: &[u8]) -> bool
-    ensures { IsTrue result ↔ (at.before + length line.now ≤ script_size_limit) }
+    ensures { result ≡ nat_le (at.before + length line.now) script_size_limit }
 {
     match at.before.checked_add(line.len() as u64) {
         Some(size) => size <= MAX_SCRIPT_SIZE,
@@ -30,24 +38,50 @@ fn is_within(at: LinePlace, line: &[u8]) -> bool
     }
 }
 
+/// Whether the number is one of so many peers'.
+fn is_peer(peers: u64, number: u64) -> bool
+    ensures is { result ≡ is_peer peers number }
+    ensures within { IsTrue result → (1 ≤ number) × (number ≤ peers) }
+{
+    number >= 1 && number <= peers
+}
+
+/// What is sent, where words say a peer of so many and a name.
+fn send_of<'a>(peers: u64, peer: &[u8], name: &'a [u8]) -> Option<SendRequest<'a>>
+    ensures says { option_map send_line_of result ≡ send_of peers (parse_number peer.now) name.entry.now }
+    ensures peer { IfSome result (λ sends. (1 ≤ sends.peer) × (sends.peer ≤ peers)) }
+{
+    let peer = parse_number(peer)?;
+    let name = Name::of_word(name)?;
+    if is_peer(peers, peer) {
+        Some(SendRequest { peer, name })
+    } else {
+        None
+    }
+}
+
 /// The words of the line `send P B`, where P is one of so many peers.
 fn send_words(mut words: Words<'_>, peers: u64) -> Option<SendRequest<'_>>
-    ensures { IfSome result (λ sends. (1 ≤ sends.peer) × (sends.peer ≤ peers)) }
+    ensures says { option_map send_line_of result ≡ said_send peers (words_left words.entry) }
+    ensures peer { IfSome result (λ sends. (1 ≤ sends.peer) × (sends.peer ≤ peers)) }
 {
-    if words.next_word()? != b"send".as_slice() {
+    let word = words.next_word()?;
+    let peer = words.next_word()?;
+    let name = words.next_word()?;
+    if !words.is_empty() {
         return None;
     }
-    let peer = parse_number(words.next_word()?)?;
-    let name = Name::of_word(words.next_word()?)?;
-    if peer == 0 || peer > peers || !words.is_empty() {
-        return None;
+    if word == b"send".as_slice() {
+        send_of(peers, peer, name)
+    } else {
+        None
     }
-    Some(SendRequest { peer, name })
 }
 
 /// What a line sends, where it says that one of so many peers does. Linear in the line; takes no memory.
 fn send_line(line: &[u8], peers: u64) -> Option<SendRequest<'_>>
-    ensures { IfSome result (λ sends. (1 ≤ sends.peer) × (sends.peer ≤ peers)) }
+    ensures says { option_map send_line_of result ≡ parse_send peers line.entry.now }
+    ensures peer { IfSome result (λ sends. (1 ≤ sends.peer) × (sends.peer ≤ peers)) }
 {
     let content = words::content_of(line);
     if words::is_printable(content) {
@@ -58,7 +92,9 @@ fn send_line(line: &[u8], peers: u64) -> Option<SendRequest<'_>>
 }
 
 /// Whether the line says nothing, or is one of those that define something.
-fn is_definition(line: &Line<'_>) -> bool {
+fn is_definition(line: &Line<'_>) -> bool
+    ensures { result ≡ is_definition (line_of line.now) }
+{
     matches!(
         line,
         Line::Nothing
@@ -76,6 +112,8 @@ impl Names {
     /// A line in which bytes are sent, which stands outside of transactions.
     fn ask_sending<'a>(&self, sends: SendRequest<'a>) -> Result<SendRequest<'a>, Stop>
         ensures same { IfOk result (λ asked. asked.peer ≡ sends.entry.peer) }
+        ensures asks { (names : AllNames) → AreNamed self.now names
+            → AsksToSend names (send_meaning names names.making (send_line_of sends.entry)) result self.now }
     {
         if self.making.is_some() {
             return Err(Stop::Fault(LineFault::BadLine));
@@ -88,7 +126,11 @@ impl Names {
     }
 
     /// Makes what a line of this number defines. A line that asks something of a node is no line here.
-    fn define(&mut self, number: u64, line: &[u8]) -> Result<(), Stop> {
+    fn define(&mut self, number: u64, line: &[u8]) -> Result<(), Stop>
+        ensures { (names : AllNames) → AreNamed self.old names
+            → AsksToMake names (MeansSimulation number names names.making (said_either None (parse_line line.now)))
+            (is_late_sending (said_either None (parse_line line.now))) result self.new }
+    {
         match parse_line(line) {
             Some(line) if is_definition(&line) => {
                 self.obey_line(number, line)?;
@@ -108,6 +150,9 @@ impl Names {
         line: &'a [u8],
         peers: u64,
     ) -> Result<Option<SendRequest<'a>>, Stop>
+        ensures asks { (names : AllNames) → AreNamed self.old names
+            → AsksSending names (MeansSending at.number at.before names peers line.entry.now)
+            (is_late_sending (parse_sending at.before peers line.entry.now)) result self.new }
         ensures peer { IfOk result (λ asked. IfSome asked (λ sends. (1 ≤ sends.peer) × (sends.peer ≤ peers))) }
         ensures size { OnOk result (at.before + length line.entry.now ≤ script_size_limit) }
     {
