@@ -1,3 +1,4 @@
+pub mod Words
 pub mod KeySets
 pub mod Shelves
 pub mod LinkRanges

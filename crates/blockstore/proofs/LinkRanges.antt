@@ -23,7 +23,7 @@ use Rattle.model.proofs.Lists.{all_from_members, contains_filter, contains_cases
 use Rattle.model.proofs.MappedLists.{contains_map, contains_before, filter_member}
 use Rattle.blockstore.specs.Stored.{Stored}
 use Rattle.blockstore.specs.Placed.{Placed, stored_at, blocks_in, IsKeyed}
-use Rattle.blockstore.specs.Keys.{hash_cmp, link_cmp, IsLinkOf, AreKeysOf, first_link, last_link}
+use Rattle.blockstore.specs.Keys.{hash_cmp, link_cmp, IsLinkOf, AreKeysOf, first_link, last_link, links_behind}
 use Rattle.blockstore.specs.Shelves.{AreAfter, HasAfter, AreLinksAfter}
 use Rattle.blockstore.specs.declared.keys.Link.{Link}
 use Rattle.blockstore.proofs.KeySets.{exact_link, tied_link, exact_hashes, tied_hashes, has_member, none_some}
@@ -163,10 +163,6 @@ hashes_found found = map (λ (x : Stored). block_hash_of x.block) (map (λ (x : 
 
 abbrev pub hashes_of : List Link → List (List ℕ)
 hashes_of links = map (λ (k : Link). k.hash) links
-
--- the links of a set that name this one as the block before them
-abbrev pub links_behind : BTreeSet Link → Option (List ℕ) → List Link
-links_behind links previous = sorted.keys_between link_cmp (Included (first_link previous)) (Included (last_link previous)) links
 
 push_on : {X : Type 0} (xs : List X) (x : X) (ys : List X) → (xs ++ x ∷ []) ++ ys ≡ xs ++ x ∷ ys
 push_on [] x ys = refl

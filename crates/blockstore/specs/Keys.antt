@@ -1,11 +1,13 @@
 -- The keys under which blocks are found beside their hashes, and their order.
-use Rattle.std.specs.Prelude.{◌≡◌, ◌<◌, ℕ, Bool, true, List, length, Option, Some, replicate, slice_index}
+use Rattle.std.specs.Prelude.{◌≡◌, ℕ, Bool, true, List, Option, Some, replicate}
 use Rattle.std.specs.Ordering.{nat_cmp, ordering_then}
 use Rattle.std.specs.Option.{option_cmp}
 use Rattle.std.specs.Cmp.Lexicographic.{slice_cmp}
+use Rattle.std.specs.BTreeSet.{BTreeSet, keys_between}
 use Rattle.std.specs.declared.cmp.Ordering.{Ordering}
-use Rattle.model.specs.Limits.{hash_size}
+use Rattle.std.specs.declared.ops.Bound.TheVariants.{Included}
 use Rattle.model.specs.Block.{Block, block_hash_of}
+use Rattle.blockstore.specs.Words.{IsSized}
 use Rattle.blockstore.specs.Stored.{Stored}
 use Rattle.blockstore.specs.declared.keys.Link.{Link}
 use Rattle.blockstore.specs.declared.keys.Age.{Age}
@@ -21,10 +23,6 @@ link_cmp a b = ordering_then (option_cmp (slice_cmp nat_cmp) a.previous b.previo
 -- ages by number, then by hash
 abbrev pub age_cmp : Age → Age → Ordering
 age_cmp a b = ordering_then (nat_cmp a.number b.number) (slice_cmp nat_cmp a.hash b.hash)
-
--- 32 bytes
-abbrev pub IsSized : List ℕ → Type 0
-IsSized hash = (length hash ≡ hash_size) × ((i : ℕ) → slice_index hash i < 256)
 
 -- the link names the block, and the one that it follows, if it follows one
 abbrev pub IsLinkOf : Block → Link → Type 0
@@ -47,3 +45,8 @@ first_link previous = record { previous = previous; hash = replicate 32 0 }
 
 abbrev pub last_link : Option (List ℕ) → Link
 last_link previous = record { previous = previous; hash = replicate 32 255 }
+
+-- the links of a set whose blocks name this one as the block before them
+abbrev pub links_behind : BTreeSet Link → Option (List ℕ) → List Link
+links_behind links previous =
+    keys_between link_cmp (Included (first_link previous)) (Included (last_link previous)) links

@@ -5,6 +5,7 @@ pub mod HeldStore
 pub mod Insertion
 pub mod Answers
 pub mod Live
+pub mod Words
 pub mod Keys
 pub mod Placed
 pub mod HeldPlaced

@@ -2,21 +2,19 @@
 
 ghost use Rattle.std.specs.Prelude.{◌≡◌, option_map};
 ghost use Rattle.block.specs.View.{bytes_of as hash_bytes};
-ghost use Rattle.blockstore.specs.Keys.{IsLinkOf, IsAgeOf};
+ghost use Rattle.blockstore.specs.Keys.{IsLinkOf, IsAgeOf, first_link, last_link};
 
+use crate::hash_key::HashKey;
 use block::CheckedBlock;
 use ident::BlockHash;
 use witness_pool::SigScheme;
 
-/// The bytes of a hash.
-pub type Bytes = [u8; 32];
-
 /// The bytes of the hash, if there is one.
-pub fn bytes_of(hash: Option<BlockHash>) -> Option<Bytes>
+pub fn bytes_of(hash: Option<BlockHash>) -> Option<HashKey>
     ensures { result ≡ option_map hash_bytes hash }
 {
     match hash {
-        Some(hash) => Some(*hash.as_bytes()),
+        Some(hash) => Some(HashKey::of(hash)),
         None => None,
     }
 }
@@ -24,18 +22,38 @@ pub fn bytes_of(hash: Option<BlockHash>) -> Option<Bytes>
 /// A block behind the one that it follows: those that follow one block, or none, stand next to each other.
 #[derive(Clone, Copy, PartialEq, Eq, PartialOrd, Ord)]
 pub struct Link {
-    pub previous: Option<Bytes>,
-    pub hash: Bytes,
+    pub previous: Option<HashKey>,
+    pub hash: HashKey,
 }
 
 impl Link {
+    /// The least of those whose blocks name the one with this hash as the block before them.
+    pub fn first(previous: Option<BlockHash>) -> Link
+        ensures { result ≡ first_link (option_map hash_bytes previous) }
+    {
+        Link {
+            previous: bytes_of(previous),
+            hash: HashKey::least(),
+        }
+    }
+
+    /// The greatest of them.
+    pub fn last(previous: Option<BlockHash>) -> Link
+        ensures { result ≡ last_link (option_map hash_bytes previous) }
+    {
+        Link {
+            previous: bytes_of(previous),
+            hash: HashKey::greatest(),
+        }
+    }
+
     /// The link of the block.
     pub fn of<S: SigScheme>(block: &CheckedBlock<S>) -> Link
         ensures { IsLinkOf block.now result }
     {
         Link {
             previous: bytes_of(block.previous()),
-            hash: *block.hash().as_bytes(),
+            hash: HashKey::of(block.hash()),
         }
     }
 }
@@ -44,7 +62,7 @@ impl Link {
 #[derive(Clone, Copy, PartialEq, Eq, PartialOrd, Ord)]
 pub struct Age {
     pub number: u64,
-    pub hash: Bytes,
+    pub hash: HashKey,
 }
 
 impl Age {
@@ -54,7 +72,7 @@ impl Age {
     {
         Age {
             number: block.number(),
-            hash: *block.hash().as_bytes(),
+            hash: HashKey::of(block.hash()),
         }
     }
 }

@@ -10,6 +10,7 @@
 //! ```
 #![tactic(auto)]
 
+mod hash_key;
 mod insert_fault;
 mod keys;
 mod placed_block;

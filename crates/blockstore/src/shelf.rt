@@ -3,13 +3,12 @@
 
 ghost use Rattle.std.specs.Prelude.{◌≡◌, ◌↔◌, ◌∷◌, [], ◌++◌, ◌+◌, ◌≤◌, length, false, map, option_map, Contains};
 ghost use Rattle.std.specs.Prelude.{IsTrue, Some, MatchOption, IfOk, OnOk, OnErr, vec_len, vec_capacity};
-ghost use Rattle.std.specs.BTreeSet.{keys_between, IsOrdered};
-ghost use Rattle.std.specs.declared.ops.Bound.TheVariants.{Included};
+ghost use Rattle.std.specs.BTreeSet.{IsOrdered};
 ghost use Rattle.model.specs.Block.{block_hash_of};
 ghost use Rattle.model.specs.Chain.{HaveDistinctHashes};
 ghost use Rattle.block.specs.View.{tip_of, bytes_of as hash_bytes};
 ghost use Rattle.blockstore.specs.Tests.{marked_at};
-ghost use Rattle.blockstore.specs.Keys.{hash_cmp, link_cmp, first_link, last_link};
+ghost use Rattle.blockstore.specs.Keys.{hash_cmp, link_cmp, links_behind};
 ghost use Rattle.std.specs.BTreeMap as tree;
 ghost use Rattle.blockstore.specs.Placed.{is_noted, nothing_held, blocks_in, notes_in, stored_at};
 ghost use Rattle.blockstore.specs.Placed.{IsKeyed, AreSameBlocks};
@@ -18,7 +17,8 @@ ghost use Rattle.blockstore.specs.Shelves.{HasNone, HasPast, ArePast, HasAge, Is
 ghost use Rattle.blockstore.specs.Ways.{HasStep, HasParent, IsNotedAt, IsPlaceOf, FollowsOne, Stands, AllStand};
 ghost use Rattle.blockstore.specs.Ways.{AreTurning, AreSameNotes, IsLookedAt, may_turn};
 
-use crate::keys::{Age, Bytes, Link, bytes_of};
+use crate::hash_key::HashKey;
+use crate::keys::{Age, Link};
 use crate::placed_block::PlacedBlock;
 use crate::stored_block::StoredBlock;
 use block::{CheckedBlock, Tip};
@@ -29,36 +29,23 @@ use std::collections::{BTreeMap, BTreeSet};
 use std::marker::Model;
 use witness_pool::SigScheme;
 
-/// The least hash.
-const LEAST: Bytes = [0; 32];
-
-/// The greatest hash.
-const GREATEST: Bytes = [255; 32];
-
 /// The links of the blocks that name the one with this hash as the block before them, one after the other. A look-up;
 /// takes no memory.
-fn links_of(links: &BTreeSet<Link>, previous: Option<Bytes>) -> Range<'_, Link>
-    ensures between { result
-        ≡ keys_between link_cmp (Included (first_link previous)) (Included (last_link previous)) links.now }
+fn links_of(links: &BTreeSet<Link>, previous: Option<BlockHash>) -> Range<'_, Link>
+    ensures between { result ≡ links_behind links.now (option_map hash_bytes previous) }
     ensures ordered { IsOrdered link_cmp links.now }
 {
-    let first = Link {
-        previous,
-        hash: LEAST,
-    };
-    let last = Link {
-        previous,
-        hash: GREATEST,
-    };
-    links.range(first..=last)
+    let first = Link::first(previous);
+    let last = Link::last(previous);
+    links.range(&first..=&last)
 }
 
 /// Looks at the block of this hash behind a place where notes turn: where its own turns, its place waits. A look-up;
 /// takes no memory.
 fn look_at<S: SigScheme>(
-    blocks: &mut BTreeMap<Bytes, PlacedBlock<S>>,
+    blocks: &mut BTreeMap<HashKey, PlacedBlock<S>>,
     waiting: &mut Vec<Tip>,
-    hash: &Bytes,
+    hash: &HashKey,
     before: &Tip,
     root: Option<Tip>,
     reached: bool,
@@ -88,7 +75,7 @@ fn look_at<S: SigScheme>(
 /// order that is spoken of, and the notes are found by hash.
 #[derive(Drop)]
 pub struct Shelf<S: SigScheme> {
-    blocks: BTreeMap<Bytes, PlacedBlock<S>>,
+    blocks: BTreeMap<HashKey, PlacedBlock<S>>,
     links: BTreeSet<Link>,
     ages: BTreeSet<Age>,
 }
@@ -131,14 +118,14 @@ impl<S: SigScheme> Shelf<S> {
         ensures { MatchOption result (HasNone self.now.blocks hash.bytes)
             (λ found. Contains self.now.blocks found.now × (block_hash_of found.now.block ≡ hash.bytes)) }
     {
-        let Some(placed) = self.at(hash.as_bytes()) else {
+        let Some(placed) = self.at(&HashKey::of(hash)) else {
             return None;
         };
         Some(placed.stored())
     }
 
     /// The block with the hash of these bytes, if there is one, with its note. A look-up.
-    fn at(&self, hash: &Bytes) -> Option<&PlacedBlock<S>>
+    fn at(&self, hash: &HashKey) -> Option<&PlacedBlock<S>>
         ensures found { MatchOption result (HasNone self.now.blocks hash.now)
             (λ found. Contains self.now.blocks found.now.stored × (block_hash_of found.now.stored.block ≡ hash.now)
             × (is_noted self.now.notes hash.now ≡ found.now.reached)) }
@@ -161,7 +148,7 @@ impl<S: SigScheme> Shelf<S> {
         let Some(previous) = block.previous() else {
             return false;
         };
-        let Some(parent) = self.at(previous.as_bytes()) else {
+        let Some(parent) = self.at(&HashKey::of(previous)) else {
             return false;
         };
         parent.is_reached() && Tip::at(parent.block()).precedes(block)
@@ -179,7 +166,7 @@ impl<S: SigScheme> Shelf<S> {
         ensures some { OnErr result (HasAfter self.now.blocks (option_map hash_bytes previous)) }
     {
         let mut found = Vec::new(alloc);
-        for link in links_of(&self.links, bytes_of(previous)) {
+        for link in links_of(&self.links, previous) {
             if let Some(placed) = self.blocks.get(&link.hash) {
                 found.push(placed.stored())?;
             }
@@ -212,7 +199,7 @@ impl<S: SigScheme> Shelf<S> {
         ensures room { vec_capacity waiting.old ≤ vec_capacity waiting.new }
     {
         let blocks = &mut self.blocks;
-        for link in links_of(&self.links, bytes_of(before.hash)) {
+        for link in links_of(&self.links, before.hash) {
             look_at(blocks, waiting, &link.hash, before, root, reached);
         }
     }
@@ -249,7 +236,7 @@ impl<S: SigScheme> Shelf<S> {
         ensures place { IsPlaceOf self.old hash.bytes (option_map tip_of result) }
         ensures apart { AreApart self.new.blocks }
     {
-        let Some(placed) = self.blocks.get_mut(hash.as_bytes()) else {
+        let Some(placed) = self.blocks.get_mut(&HashKey::of(hash)) else {
             return None;
         };
         placed.mark()

@@ -6,16 +6,17 @@ use Rattle.block.specs.View.{bytes_of as hash_bytes}
 use Rattle.blockstore.specs.Stored.{Stored}
 use Rattle.blockstore.specs.Placed.{Held, blocks_in}
 use Rattle.blockstore.specs.Shelves.{AreAfter, HasAfter}
+use Rattle.blockstore.specs.Keys.{links_behind}
 use Rattle.blockstore.specs.declared.keys.Link.{Link}
 use Rattle.blockstore.proofs.Shelves.{value_at}
-use Rattle.blockstore.proofs.LinkRanges.{are_links, are_after, one_after, one_found, still_within, is_found, found_there, hashes_found, hashes_of, links_behind, ends_here}
+use Rattle.blockstore.proofs.LinkRanges.{are_links, are_after, one_after, one_found, still_within, is_found, found_there, hashes_found, hashes_of, ends_here}
 use Rattle.blockstore.proofs.shelf.Shelf.after.Goals as goal
 
 pub loop-link-init : goal.loop-link-init
 loop-link-init g c =
     let previous = option_map hash_bytes c.args.previous in
     let is : c.into_iter-link-iterator.result ≡ links_behind c.self.inside.links previous =
-    c.into_iter-link-iterator.ensures.into_iter_gives ∙ (c.links_of-link-items.ensures.between ∙ ap (links_behind c.self.inside.links) c.bytes_of.ensures) in
+    c.into_iter-link-iterator.ensures.into_iter_gives ∙ c.links_of-link-items.ensures.between in
     record {
       can_next = tt;
       is_finite = tt;

@@ -2,8 +2,9 @@ use Rattle.std.proofs.Common.{◌≡◌, ◌++◌, map, Contains, Bor, option_ma
 use Rattle.block.specs.View.{bytes_of as hash_bytes}
 use Rattle.blockstore.specs.Stored.{Stored}
 use Rattle.blockstore.specs.Placed.{blocks_in}
+use Rattle.blockstore.specs.Keys.{links_behind}
 use Rattle.blockstore.specs.declared.keys.Link.{Link}
-use Rattle.blockstore.proofs.LinkRanges.{hashes_found, hashes_of, links_behind}
+use Rattle.blockstore.proofs.LinkRanges.{hashes_found, hashes_of}
 use Rattle.blockstore.proofs.shelf.Shelf.after.Given as goal
 
 -- those found so far have the hashes of the links so far, and are there; the links that are left are such ones

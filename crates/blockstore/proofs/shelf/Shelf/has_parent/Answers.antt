@@ -21,6 +21,6 @@ returns-then-is_reached g c =
       }),
       (λ has.
           let same : c.in-Some.previous.bytes ≡ block_hash_of has.parent.block = same_Some c.in-Some.previous.bytes (block_hash_of has.parent.block) (c.in-Some.ensures ∙ has.follows.previous) in
-          let one : has.parent ≡ x = c.at.ensures.apart has.parent x has.member here.0 (sym same ∙ (sym c.as_bytes.ensures ∙ sym here.1)) in
+          let one : has.parent ≡ x = c.at.ensures.apart has.parent x has.member here.0 (sym same ∙ (sym c.of.ensures ∙ sym here.1)) in
           c.precedes.ensures.1 (subst (λ (t : Tip). Follows t b) (sym tip) (subst (λ (s : Stored). Follows (tip_at s.block) b) one has.follows))),
     )

@@ -16,10 +16,9 @@ pub loop-link-init : goal.loop-link-init
 loop-link-init g c =
     let m = c.self.inside.blocks in
     let root = option_map tip_of c.args.root in
-    let previous = c.bytes_of.result in
+    let previous = (tip_of c.args.before.now).hash in
     let links = c.links_of-link-items.result in
-    let are = are_links m c.self.inside.links previous links c.self.invariant.ordered c.self.invariant.keyed c.self.invariant.links c.links_of-link-items.ensures.ordered c.links_of-link-items.ensures.between in
-    let named : AreLinksAfter (blocks_in m) (tip_of c.args.before.now).hash links = subst (λ (p : Option (List ℕ)). AreLinksAfter (blocks_in m) p links) c.bytes_of.ensures are in
+    let named : AreLinksAfter (blocks_in m) previous links = are_links m c.self.inside.links previous links c.self.invariant.ordered c.self.invariant.keyed c.self.invariant.links c.links_of-link-items.ensures.ordered c.links_of-link-items.ensures.between in
     let turning = subst (λ (h : Held). AreTurning root h.blocks c.args.reached (FollowsOne (c.args.before.now ∷ c.args.waiting.now.items)) h.notes) (sym c.self.view_is) c.requires.turning in
     let begun = behind_begins root (blocks_in m) c.args.reached (notes_in m) c.args.before.now c.args.waiting.now.items links named turning in
     record {

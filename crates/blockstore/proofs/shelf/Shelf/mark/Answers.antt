@@ -20,27 +20,27 @@ pub returns-in_default-clause-blocks : goal.returns-in_default-clause-blocks
 returns-in_default-clause-blocks g c =
     let m = c.self.inside.blocks in
     let n = c.get_mut.follows.lender-at-none in
-    let none : get hash_cmp m c.as_bytes.result.now ≡ None = sym c.get_mut.ensures.value ∙ ap option_copied_mut (none_found c.get_mut.result c.in_default.not-Some) in
+    let none : get hash_cmp m c.of.result ≡ None = sym c.get_mut.ensures.value ∙ ap option_copied_mut (none_found c.get_mut.result c.in_default.not-Some) in
     subst (λ (h : Held). IsSame (blocks_in n) (map (marked_at c.args.hash.bytes) h.blocks)) c.self.view_is
-    (subst (λ (q : List ℕ). IsSame (blocks_in n) (map (marked_at q) (blocks_in m))) c.as_bytes.ensures
-    (same_unmarked m n c.as_bytes.result.now c.self.invariant.ordered c.self.invariant.keyed (none_at m c.as_bytes.result.now none) (ap (λ (x : tree.BTreeMap (List ℕ) Placed). x.entries) c.get_mut.follows.holds-at-none)))
+    (subst (λ (q : List ℕ). IsSame (blocks_in n) (map (marked_at q) (blocks_in m))) c.of.ensures
+    (same_unmarked m n c.of.result c.self.invariant.ordered c.self.invariant.keyed (none_at m c.of.result none) (ap (λ (x : tree.BTreeMap (List ℕ) Placed). x.entries) c.get_mut.follows.holds-at-none)))
 
 pub returns-in_default-clause-notes : goal.returns-in_default-clause-notes
 returns-in_default-clause-notes g c =
     let m = c.self.inside.blocks in
     let n = c.get_mut.follows.lender-at-none in
-    let none : get hash_cmp m c.as_bytes.result.now ≡ None = sym c.get_mut.ensures.value ∙ ap option_copied_mut (none_found c.get_mut.result c.in_default.not-Some) in
+    let none : get hash_cmp m c.of.result ≡ None = sym c.get_mut.ensures.value ∙ ap option_copied_mut (none_found c.get_mut.result c.in_default.not-Some) in
     let is : notes_in n ≡ notes_in m = ap (λ (x : tree.BTreeMap (List ℕ) Placed). notes_in x) c.get_mut.follows.holds-at-none in
     subst (λ (h : Held). IsNotedAt c.args.hash.bytes false h.notes (notes_in n)) c.self.view_is
-    (subst (λ (q : List ℕ). IsNotedAt q false (notes_in m) (notes_in n)) c.as_bytes.ensures
-    (subst (λ (ns : Notes). IsNotedAt c.as_bytes.result.now false (notes_in m) ns) (sym is) (record { here = noted_none m c.as_bytes.result.now none; others = λ q other. refl })))
+    (subst (λ (q : List ℕ). IsNotedAt q false (notes_in m) (notes_in n)) c.of.ensures
+    (subst (λ (ns : Notes). IsNotedAt c.of.result false (notes_in m) ns) (sym is) (record { here = noted_none m c.of.result none; others = λ q other. refl })))
 
 pub returns-in_default-clause-place : goal.returns-in_default-clause-place
 returns-in_default-clause-place g c =
     let m = c.self.inside.blocks in
-    let none : get hash_cmp m c.as_bytes.result.now ≡ None = sym c.get_mut.ensures.value ∙ ap option_copied_mut (none_found c.get_mut.result c.in_default.not-Some) in
+    let none : get hash_cmp m c.of.result ≡ None = sym c.get_mut.ensures.value ∙ ap option_copied_mut (none_found c.get_mut.result c.in_default.not-Some) in
     subst (λ (h : Held). is_noted h.notes c.args.hash.bytes ≡ false) c.self.view_is
-    (subst (λ (q : List ℕ). is_noted (notes_in m) q ≡ false) c.as_bytes.ensures (noted_none m c.as_bytes.result.now none))
+    (subst (λ (q : List ℕ). is_noted (notes_in m) q ≡ false) c.of.ensures (noted_none m c.of.result none))
 
 pub returns-in_default-clause-apart : goal.returns-in_default-clause-apart
 returns-in_default-clause-apart g c =
@@ -49,7 +49,7 @@ returns-in_default-clause-apart g c =
 pub invariant_of-self-2 : goal.invariant_of-self-2
 invariant_of-self-2 g c =
     let m = c.self.inside.blocks in
-    let q = c.as_bytes.result.now in
+    let q = c.of.result in
     let x = c.in-Some.placed.now in
     let p = c.get_mut.follows.lender c.mark.new.self in
     let holds = c.get_mut.follows.holds c.mark.new.self in
@@ -67,7 +67,7 @@ invariant_of-self-2 g c =
 pub returns-clause-blocks : goal.returns-clause-blocks
 returns-clause-blocks g c =
     let m = c.self.inside.blocks in
-    let q = c.as_bytes.result.now in
+    let q = c.of.result in
     let x = c.in-Some.placed.now in
     let p = c.get_mut.follows.lender c.mark.new.self in
     let holds = c.get_mut.follows.holds c.mark.new.self in
@@ -75,33 +75,33 @@ returns-clause-blocks g c =
     let wrote : BecomesAt (stored_at m) (stored_at p) q (Some (marked x.stored)) =
     subst (λ (w : Placed). BecomesAt (stored_at m) (stored_at p) q (Some w.stored)) c.mark.ensures.marked (becomes m p q (Some c.mark.new.self) (holds.3 (ap is_some found))) in
     subst (λ (h : Held). IsSame (blocks_in p) (map (marked_at c.args.hash.bytes) h.blocks)) c.self.view_is
-    (subst (λ (h : List ℕ). IsSame (blocks_in p) (map (marked_at h) (blocks_in m))) c.as_bytes.ensures
+    (subst (λ (h : List ℕ). IsSame (blocks_in p) (map (marked_at h) (blocks_in m))) c.of.ensures
     (same_marked m p q x.stored (stands_at m q x found) wrote c.self.invariant.keyed c.self.invariant.ordered holds.4 holds.2))
 
 pub returns-clause-notes : goal.returns-clause-notes
 returns-clause-notes g c =
     let m = c.self.inside.blocks in
-    let q = c.as_bytes.result.now in
+    let q = c.of.result in
     let p = c.get_mut.follows.lender c.mark.new.self in
     let found : get hash_cmp m q ≡ Some c.in-Some.placed.now = sym c.get_mut.ensures.value ∙ ap option_copied_mut c.in-Some.is in
     let noted : IsNotedAt q false (notes_in m) (notes_in p) =
     subst (λ (w : Placed). IsNotedAt q w.reached (notes_in m) (notes_in p)) c.mark.ensures.marked (noted_becomes m p q (Some c.mark.new.self) ((c.get_mut.follows.holds c.mark.new.self).3 (ap is_some found))) in
     subst (λ (h : Held). IsNotedAt c.args.hash.bytes false h.notes (notes_in p)) c.self.view_is
-    (subst (λ (h : List ℕ). IsNotedAt h false (notes_in m) (notes_in p)) c.as_bytes.ensures noted)
+    (subst (λ (h : List ℕ). IsNotedAt h false (notes_in m) (notes_in p)) c.of.ensures noted)
 
 pub returns-clause-place : goal.returns-clause-place
 returns-clause-place g c =
     let m = c.self.inside.blocks in
-    let q = c.as_bytes.result.now in
+    let q = c.of.result in
     let found : get hash_cmp m q ≡ Some c.in-Some.placed.now = sym c.get_mut.ensures.value ∙ ap option_copied_mut c.in-Some.is in
     subst (λ (h : Held). IsPlaceOf h c.args.hash.bytes (option_map tip_of c.mark.result)) c.self.view_is
-    (subst (λ (h : List ℕ). IsPlaceOf (held_in m) h (option_map tip_of c.mark.result)) c.as_bytes.ensures
+    (subst (λ (h : List ℕ). IsPlaceOf (held_in m) h (option_map tip_of c.mark.result)) c.of.ensures
     (place_at m q c.in-Some.placed.now (option_map tip_of c.mark.result) c.self.invariant.keyed found c.mark.ensures.place))
 
 pub returns-clause-apart : goal.returns-clause-apart
 returns-clause-apart g c =
     let m = c.self.inside.blocks in
-    let q = c.as_bytes.result.now in
+    let q = c.of.result in
     let x = c.in-Some.placed.now in
     let p = c.get_mut.follows.lender c.mark.new.self in
     let holds = c.get_mut.follows.holds c.mark.new.self in
