@@ -7,6 +7,7 @@ pub mod WrittenParts
 pub mod Lines
 pub mod Histories
 pub mod Runs
+pub mod SendRuns
 pub mod ForCallers
 pub mod SubmissionLines
 pub mod ShortLines

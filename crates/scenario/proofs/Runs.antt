@@ -100,11 +100,11 @@ line_into old mid new done start buf line read empty same is rest =
 filled : (line rest : List ℕ) → line ≡ take_through 10 rest → line ≢ [] → rest ≢ []
 filled line rest is some none = some (is ∙ ap (take_through 10) none)
 
-one_line_more : (text rest line : List ℕ) (done : List (List ℕ)) → lines_of text ≡ done ++ lines_of rest → line ≡ take_through 10 rest → line ≢ [] → lines_of text ≡ done ++ line ∷ lines_of (drop_through 10 rest)
+pub one_line_more : (text rest line : List ℕ) (done : List (List ℕ)) → lines_of text ≡ done ++ lines_of rest → line ≡ take_through 10 rest → line ≢ [] → lines_of text ≡ done ++ line ∷ lines_of (drop_through 10 rest)
 one_line_more text rest line done lines is some =
     lines ∙ ap (λ (l : List (List ℕ)). done ++ l) (first_line rest (filled line rest is some) ∙ ap (λ (l : List ℕ). l ∷ lines_of (drop_through 10 rest)) (sym is))
 
-concat_more : (done : List (List ℕ)) (line : List ℕ) → concat (done ++ line ∷ []) ≡ concat done ++ line
+pub concat_more : (done : List (List ℕ)) (line : List ℕ) → concat (done ++ line ∷ []) ≡ concat done ++ line
 concat_more done line = concat-append done (line ∷ []) ∙ ap (λ (l : List ℕ). concat done ++ l) (append-nil line)
 
 -- a line that isn't empty is one of the lines
@@ -120,7 +120,7 @@ next_read (Some text) new done line some (rest, remains, is, lines, all) = (
 
 -- ---- steps
 
-has_bytes : (line : List ℕ) → line ≢ [] → 0 < length line
+pub has_bytes : (line : List ℕ) → line ≢ [] → 0 < length line
 has_bytes [] some = absurd (some refl)
 has_bytes (x ∷ xs) some = omega arith
 
@@ -245,7 +245,7 @@ ran_stopped first old new before number old_text text old_out out line stop.OutO
 -- ---- ends
 
 -- a text whose next line is empty is at its end
-at_end : (text rest line : List ℕ) (done : List (List ℕ)) → lines_of text ≡ done ++ lines_of rest → line ≡ take_through 10 rest → line ≡ [] → lines_of text ≡ done
+pub at_end : (text rest line : List ℕ) (done : List (List ℕ)) → lines_of text ≡ done ++ lines_of rest → line ≡ take_through 10 rest → line ≡ [] → lines_of text ≡ done
 at_end text rest line done lines is none =
     let empty : rest ≡ [] = no_line rest (sym is ∙ none) in
     lines ∙ ap (λ (l : List ℕ). done ++ lines_of l) empty ∙ append-nil done
@@ -255,11 +255,11 @@ abbrev all_obeyed : (network : Network) (start : State) (session : Session) (don
 all_obeyed network start session done old_out out so_far lines same =
     obeyed network start lines so_far.printed so_far.history so_far.scene (subst (λ (ls : List (List ℕ)). Prints network 1 0 (first_scene network start) ls so_far.printed so_far.history so_far.scene) (sym same) so_far.prints)
 
-no_making : (making : Option OpenTx) → None ≡ option_map (λ (made : OpenTx). made.line) making → making ≡ None
+pub no_making : (making : Option OpenTx) → None ≡ option_map (λ (made : OpenTx). made.line) making → making ≡ None
 no_making None is = refl
 no_making (Some made) is = cc
 
-some_making : (making : Option OpenTx) (number : ℕ) → Some number ≡ option_map (λ (made : OpenTx). made.line) making → (made : OpenTx) × (making ≡ Some made) × (made.line ≡ number)
+pub some_making : (making : Option OpenTx) (number : ℕ) → Some number ≡ option_map (λ (made : OpenTx). made.line) making → (made : OpenTx) × (making ≡ Some made) × (made.line ≡ number)
 some_making None number is = cc
 some_making (Some made) number is = (made, refl, same_Some made.line number (sym is))
 
@@ -268,7 +268,7 @@ pub no_line_told : (told line : Option ℕ) → told ≡ line → ((number : ℕ
 no_line_told None line is none = is
 no_line_told (Some number) line is none = absurd (none number refl)
 
-nothing_left : (rest line : List ℕ) → line ≡ take_through 10 rest → line ≡ [] → drop_through 10 rest ≡ []
+pub nothing_left : (rest line : List ℕ) → line ≡ take_through 10 rest → line ≡ [] → drop_through 10 rest ≡ []
 nothing_left rest line is none = ap (drop_through 10) (no_line rest (sym is ∙ none))
 
 -- which line began the transaction that is open, whatever the scene that a session holds
@@ -326,7 +326,7 @@ unended first session before number (Some t) mid_text text old_out out line begu
     )
 
 -- the text behind a line that was read
-text_behind : (text rest line : List ℕ) (done : List (List ℕ)) → text ≡ concat done ++ rest → line ≡ take_through 10 rest → text ≡ concat done ++ (line ++ drop_through 10 rest)
+pub text_behind : (text rest line : List ℕ) (done : List (List ℕ)) → text ≡ concat done ++ rest → line ≡ take_through 10 rest → text ≡ concat done ++ (line ++ drop_through 10 rest)
 text_behind text rest line done all is = all ∙ ap (λ (l : List ℕ). concat done ++ l) (line_and_rest rest ∙ ap (λ (l : List ℕ). l ++ drop_through 10 rest) (sym is))
 
 -- nothing of a line is printed
@@ -434,7 +434,7 @@ not_written first old new before number (Some t) mid_text text old_out mid_out o
     )
 
 -- what is left where a read failed
-still_left : (rest part : List ℕ) (mid new : Option (List ℕ)) → mid ≡ Some rest → Consumes mid new part → (left : List ℕ) × (new ≡ Some left) × (rest ≡ part ++ left)
+pub still_left : (rest part : List ℕ) (mid new : Option (List ℕ)) → mid ≡ Some rest → Consumes mid new part → (left : List ℕ) × (new ≡ Some left) × (rest ≡ part ++ left)
 still_left rest part None new is taken = cc
 still_left rest part (Some xs) None is taken = elim taken [ ]
 still_left rest part (Some xs) (Some ys) is taken = let same : xs ≡ rest = cc in (ys, refl, sym same ∙ taken)

@@ -4,3 +4,5 @@ pub mod Run
 pub mod SessionView
 pub mod Handed
 pub mod Sending
+pub mod SendRun
+pub mod SendView

@@ -1,7 +1,11 @@
 //! Scripts in which peers send bytes.
 
-ghost use Rattle.std.specs.Prelude.{◌+◌, ◌≤◌, All, IfOk, OnOk, length};
+ghost use Rattle.std.specs.Prelude.{◌≡◌, ◌+◌, ◌≤◌, All, IfErr, IfOk, IfSome, OnOk, Some, [], length, map};
 ghost use Rattle.script.specs.Text.{script_size_limit};
+ghost use Rattle.script.specs.Names.{AllNames, no_names};
+ghost use Rattle.script.specs.RequestView.{AreNamed};
+ghost use Rattle.scenario.specs.SendRun.{SendsAll, SendsBy};
+ghost use Rattle.scenario.specs.SendView.{IsSendingOf, sent_of};
 ghost use Rattle.scenario.specs.Sending.{IsSentByOneOf};
 
 use crate::fault::ScenarioFault;
@@ -21,6 +25,8 @@ fn obey(
     peers: u64,
     sends: &mut Vec<Sending>,
 ) -> Result<(), Stop>
+    ensures sends { (known : AllNames) → AreNamed names.old known → IsSendingOf at.number at.before peers known line.now
+        result (map sent_of sends.old.items) (map sent_of sends.new.items) names.new }
     ensures peers { All (IsSentByOneOf peers) sends.old.items → All (IsSentByOneOf peers) sends.new.items }
     ensures size { OnOk result (at.before + length line.now ≤ script_size_limit) }
 {
@@ -43,7 +49,12 @@ fn sends_of_lines<R: BufRead>(
     reader: &mut R,
     peers: u64,
 ) -> Result<Vec<Sending>, ScenarioFault>
-    ensures { IfOk result (λ sends. All (IsSentByOneOf peers) sends.items) }
+    ensures sends { (known : AllNames) → AreNamed names.old known → IfOk result (λ sends.
+        IfSome (R.remaining reader.old) (λ text. SendsAll peers known text (map sent_of sends.items))) }
+    ensures rest { OnOk result (IfSome (R.remaining reader.old) (λ _. R.remaining reader.new ≡ Some [])) }
+    ensures fault { (known : AllNames) → AreNamed names.old known → IfErr result (λ why.
+        IfSome (R.remaining reader.old) (λ text. SendsBy peers known text (R.remaining reader.new) why)) }
+    ensures peers { IfOk result (λ sends. All (IsSentByOneOf peers) sends.items) }
 {
     let mut sends = Vec::new(alloc);
     let mut before: u64 = 0;
@@ -87,8 +98,17 @@ pub fn sends<R: BufRead>(
     reader: &mut R,
     peers: u64,
 ) -> Result<Vec<Sending>, ScenarioFault>
+    // Without a fault, it is what the lines of the text send, each by what it means where the names are bound that
+    // those before it bind.
+    ensures sends { IfOk result (λ sends. IfSome (R.remaining reader.old)
+        (λ text. SendsAll peers (no_names genesis.now.params.network) text (map sent_of sends.items))) }
+    // The whole text was then read.
+    ensures rest { OnOk result (IfSome (R.remaining reader.old) (λ _. R.remaining reader.new ≡ Some [])) }
+    // At a fault it is the first one, and what comes after its line is left in the reader.
+    ensures fault { IfErr result (λ why. IfSome (R.remaining reader.old)
+        (λ text. SendsBy peers (no_names genesis.now.params.network) text (R.remaining reader.new) why)) }
     // Who sends is one of the peers.
-    ensures { IfOk result (λ sends. All (IsSentByOneOf peers) sends.items) }
+    ensures peers { IfOk result (λ sends. All (IsSentByOneOf peers) sends.items) }
 {
     let mut names = Names::new(alloc, genesis);
     sends_of_lines(alloc, &mut names, reader, peers)
