@@ -21,6 +21,8 @@ mod gated_file;
 #[cfg(test)]
 mod log_tests;
 #[cfg(test)]
+mod node_tests;
+#[cfg(test)]
 mod pool_tests;
 #[cfg(test)]
 mod resuming_tests;
