@@ -196,7 +196,8 @@ impl Block {
 /// - Malformed: the bytes are the text of no block;
 /// - BodyHashMismatch: the header names another hash than the SHA-256 digest (FIPS 180-4) of the body's text;
 /// - OutOfMemory: memory ran out, which may stand for Malformed and BodyHashMismatch, but comes only where the bytes
-///   begin with the head of an array of two, and not at the text of a block without transactions.
+///   begin with the head of an array of two, and at the text of a block without transactions only where that is read,
+///   for the copy.
 ///
 /// The cost grows with the bytes: a digest of the body's text, one of the header's, those that identify transactions
 /// and scripts, and one copy of the bytes.

@@ -5,7 +5,7 @@ ghost use Rattle.std.specs.Prelude.{◌≡◌, ℕ, List, [], Some, option_map, 
 ghost use Rattle.model.specs.Cbor.{text_of};
 ghost use Rattle.model.specs.Block.{Block, item_of_header, item_of_transactions};
 ghost use Rattle.cbor.specs.Gives.{Gives, IfWant};
-ghost use Rattle.cbor.specs.Bare.{BeginsWithHead};
+ghost use Rattle.block.specs.Read.{BeginsLikeBlock};
 ghost use Rattle.block.specs.View.{bytes_of, header_of};
 ghost use Rattle.block.specs.PartsView.{parts_block};
 ghost use Rattle.block.specs.Reading.{previous_at, header_at, transactions_at, block_at};
@@ -70,7 +70,7 @@ pub struct Parts<'a> {
 pub fn parts_of(alloc: Global, bytes: &[u8]) -> Result<Parts<'_>, CborFault>
     ensures exact { Gives parts_block result (block_at bytes.now) }
     ensures some { OnErr result ((b : Block) → block_at bytes.now ≡ Some b → b.transactions ≡ [] → ⊥) }
-    ensures begins { IfErr result (λ fault. IfWant fault (BeginsWithHead 4 2 bytes.now)) }
+    ensures begins { IfErr result (λ fault. IfWant fault (BeginsLikeBlock bytes.now)) }
     ensures header_text { IfOk result (λ p. p.header_text.now ≡ text_of (item_of_header (header_of p.header))) }
     ensures body_text { IfOk result (λ p. p.body_text.now ≡ text_of (item_of_transactions p.transactions.items)) }
 {

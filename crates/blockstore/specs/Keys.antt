@@ -6,6 +6,7 @@ use Rattle.std.specs.Cmp.Lexicographic.{slice_cmp}
 use Rattle.std.specs.BTreeSet.{BTreeSet, keys_between}
 use Rattle.std.specs.declared.cmp.Ordering.{Ordering}
 use Rattle.std.specs.declared.ops.Bound.TheVariants.{Included}
+use Rattle.model.specs.Limits.{hash_size}
 use Rattle.model.specs.Block.{Block, block_hash_of}
 use Rattle.blockstore.specs.Words.{IsSized}
 use Rattle.blockstore.specs.Stored.{Stored}
@@ -41,12 +42,12 @@ pub record AreKeysOf {K : Type 0} (IsKey : Block → K → Type 0) (has : K → 
 
 -- the least of the links whose blocks name this one as the block before them, and the greatest
 abbrev pub first_link : Option (List ℕ) → Link
-first_link previous = record { previous = previous; hash = replicate 32 0 }
+first_link previous = record { previous = previous; hash = replicate hash_size 0 }
 
 abbrev pub last_link : Option (List ℕ) → Link
-last_link previous = record { previous = previous; hash = replicate 32 255 }
+last_link previous = record { previous = previous; hash = replicate hash_size 255 }
 
--- the links of a set whose blocks name this one as the block before them
+-- the links of a set between the least and the greatest that name this one as the block before theirs
 abbrev pub links_behind : BTreeSet Link → Option (List ℕ) → List Link
 links_behind links previous =
     keys_between link_cmp (Included (first_link previous)) (Included (last_link previous)) links

@@ -6,13 +6,14 @@ ghost use Rattle.std.specs.Cmp.{partial_order_from_own_ties};
 ghost use Rattle.std.specs.Cmp.Lexicographic.{slice_cmp};
 ghost use Rattle.std.specs.Cmp.Rules.{comparing};
 ghost use Rattle.std.proofs.Common.{rules, refl};
+ghost use Rattle.model.specs.Limits.{hash_size};
 ghost use Rattle.blockstore.specs.Words.{IsSized, word_at};
 
 use ident::BlockHash;
 use std::cmp::Ordering;
 use std::marker::Model;
 
-/// The bytes of a hash. They are ordered as bytes, but compared eight at a time, as look-ups do most.
+/// The bytes of a hash. They are ordered as bytes, but compared eight at a time, since comparing is most of a look-up.
 #[derive(Clone, Copy, PartialEq, Eq)]
 pub struct HashKey {
     bytes: [u8; 32],
@@ -46,14 +47,14 @@ impl HashKey {
 
     /// The least of all.
     pub fn least() -> HashKey
-        ensures { result ≡ replicate 32 0 }
+        ensures { result ≡ replicate hash_size 0 }
     {
         HashKey::of(BlockHash::from_bytes([0; 32]))
     }
 
     /// The greatest of all.
     pub fn greatest() -> HashKey
-        ensures { result ≡ replicate 32 255 }
+        ensures { result ≡ replicate hash_size 255 }
     {
         HashKey::of(BlockHash::from_bytes([255; 32]))
     }

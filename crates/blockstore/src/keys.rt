@@ -9,8 +9,8 @@ use block::CheckedBlock;
 use ident::BlockHash;
 use witness_pool::SigScheme;
 
-/// The bytes of the hash, if there is one.
-pub fn bytes_of(hash: Option<BlockHash>) -> Option<HashKey>
+/// The hash as a key, if there is one.
+pub fn key_of(hash: Option<BlockHash>) -> Option<HashKey>
     ensures { result ≡ option_map hash_bytes hash }
 {
     match hash {
@@ -27,12 +27,12 @@ pub struct Link {
 }
 
 impl Link {
-    /// The least of those whose blocks name the one with this hash as the block before them.
+    /// The least of those whose blocks name the one with this hash as the block before them, or name none.
     pub fn first(previous: Option<BlockHash>) -> Link
         ensures { result ≡ first_link (option_map hash_bytes previous) }
     {
         Link {
-            previous: bytes_of(previous),
+            previous: key_of(previous),
             hash: HashKey::least(),
         }
     }
@@ -42,7 +42,7 @@ impl Link {
         ensures { result ≡ last_link (option_map hash_bytes previous) }
     {
         Link {
-            previous: bytes_of(previous),
+            previous: key_of(previous),
             hash: HashKey::greatest(),
         }
     }
@@ -52,7 +52,7 @@ impl Link {
         ensures { IsLinkOf block.now result }
     {
         Link {
-            previous: bytes_of(block.previous()),
+            previous: key_of(block.previous()),
             hash: HashKey::of(block.hash()),
         }
     }

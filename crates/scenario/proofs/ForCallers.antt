@@ -8,6 +8,7 @@ use Rattle.scenario.specs.declared.fault.ScenarioFault.TheVariants.{OutOfMemory}
 use Rattle.script.specs.Text.{lines_of}
 use Rattle.scenario.specs.Run.{opening_scene, EndsBy}
 use Rattle.scenario.proofs.Histories.{obeyed}
+use Rattle.scenario.proofs.Lines.{line_stops}
 use Rattle.scenario.proofs.WrittenParts.{appends_none}
 
 none_ends : (content : List ℕ) → [] ≡ content ++ 10 ∷ [] → ⊥
@@ -25,7 +26,7 @@ not_begun network opens text written = record {
     out = [];
     written = appends_none written;
     is_fault = record {
-      broken = record { lines = []; after = lines_of text; begins = refl; more = []; read = refl; obeyed = obeyed network (opening network) [] [] [] (opening_scene network) (refl, refl, refl) };
+      broken = record { lines = []; after = lines_of text; begins = refl; more = []; piece = line_stops []; read = refl; obeyed = obeyed network (opening network) [] [] [] (opening_scene network) (refl, refl, refl) };
       has_no_fault = λ content whole. absurd (none_ends content whole);
       is_end = inl refl;
     };

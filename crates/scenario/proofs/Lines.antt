@@ -2,7 +2,10 @@
 use Rattle.std.proofs.Common.{◌≡◌, ◌≢◌, ℕ, ◌+◌, Bool, true, false, cond, nat_eq, List, [], ◌∷◌, ◌++◌, length, refl, sym, ◌∙◌, ap, subst, append_assoc, append-nil, length-append, arith}
 use Rattle.std.proofs.lemmas.Bool.Decides.{nat_tests}
 use Rattle.std.specs.List.{concat, onto_first}
+use Rattle.std.specs.Io.{StopsAt}
 use Rattle.std.specs.Io.BufRead.{take_through, drop_through}
+use Rattle.std.proofs.Transfers.{StopsAt-append}
+use Rattle.std.proofs.lemmas.List.Elements.{All-nil, All-cons}
 use Rattle.model.specs.Ledger.{Network}
 use Rattle.model.specs.History.{Entry}
 use Rattle.script.specs.Text.{lines_of}
@@ -35,6 +38,18 @@ no_line (x ∷ xs) e = absurd (no_bit x xs (nat_eq x 10) e)
 rest_bit : (x : ℕ) (xs : List ℕ) (b : Bool) → xs ≡ take_through 10 xs ++ drop_through 10 xs → x ∷ xs ≡ cond b (x ∷ []) (x ∷ take_through 10 xs) ++ cond b xs (drop_through 10 xs)
 rest_bit x xs true e = refl
 rest_bit x xs false e = ap (λ (l : List ℕ). x ∷ l) e
+
+-- no line feed is in a line, but as its last byte
+without_last : (x : ℕ) (xs : List ℕ) → x ≢ 10 → StopsAt xs 10 → StopsAt (x ∷ xs) 10
+without_last x xs other stops = StopsAt-append (x ∷ []) xs 10 (All-cons (λ y. y ≢ 10) x [] other (All-nil (λ y. y ≢ 10))) stops
+
+stops_bit : (x : ℕ) (xs : List ℕ) (b : Bool) → nat_eq x 10 ≡ b → StopsAt (take_through 10 xs) 10 → StopsAt (cond b (x ∷ []) (x ∷ take_through 10 xs)) 10
+stops_bit x xs true is stops = All-nil (λ y. y ≢ 10)
+stops_bit x xs false is stops = without_last x (take_through 10 xs) (λ e. let bad : nat_eq x 10 ≡ true = grind (arith, nat_tests) in absurd cc) stops
+
+pub line_stops : (xs : List ℕ) → StopsAt (take_through 10 xs) 10
+line_stops [] = All-nil (λ y. y ≢ 10)
+line_stops (x ∷ xs) = stops_bit x xs (nat_eq x 10) refl (line_stops xs)
 
 pub line_and_rest : (xs : List ℕ) → xs ≡ take_through 10 xs ++ drop_through 10 xs
 line_and_rest [] = refl

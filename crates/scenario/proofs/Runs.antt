@@ -13,6 +13,7 @@ use Rattle.model.specs.Ledger.{Network}
 use Rattle.model.specs.Chain.{IsOpening}
 use Rattle.model.specs.History.{State, opening, Entry, IsRun}
 use Rattle.chain_core.specs.Held.{Held, Stands}
+use Rattle.scenario.specs.Pieces.{IsPiece}
 use Rattle.scenario.specs.declared.session.Session.{Session}
 use Rattle.script.specs.declared.stop.Stop.{Stop}
 use Rattle.script.specs.declared.stop.Stop.TheVariants as stop
@@ -29,7 +30,7 @@ use Rattle.scenario.specs.Run.{fault_of, entry}
 use Rattle.scenario.specs.SessionView.{core_network, Holds, Acted, IsShort, IsObeyed}
 use Rattle.scenario.specs.Handed.{RunsWell, RunsInto, HasRun}
 use Rattle.scenario.specs.Print.{AppendsPart}
-use Rattle.scenario.proofs.Lines.{first_line, no_line, line_and_rest, prints_more}
+use Rattle.scenario.proofs.Lines.{first_line, no_line, line_and_rest, line_stops, prints_more}
 use Rattle.scenario.proofs.Histories.{runs_both, acts_run, prints_run, obeyed}
 use Rattle.scenario.proofs.WrittenParts.{appends_both}
 
@@ -331,12 +332,13 @@ text_behind text rest line done all is = all ∙ ap (λ (l : List ℕ). concat d
 
 -- nothing of a line is printed
 abbrev breaks_off_before : (network : Network) (start : State) (text rest left more : List ℕ) (done : List (List ℕ)) (printed : List ℕ) (history : List Entry) (scene : Scene) → Prints network 1 0 (first_scene network start) done printed history scene → lines_of text ≡ done ++ lines_of rest → text ≡ concat done ++ (more ++ left)
-    → BreaksOff network start text left printed
-breaks_off_before network start text rest left more done printed history scene prints lines all = record {
+    → IsPiece more → BreaksOff network start text left printed
+breaks_off_before network start text rest left more done printed history scene prints lines all piece = record {
   lines = done;
   after = lines_of rest;
   begins = lines;
   more = more;
+  piece = piece;
   read = all;
   obeyed = obeyed network start done printed history scene prints;
 }
@@ -387,7 +389,7 @@ stopped first session new before number (Some t) mid_text text old_out out line 
         out = goes.printed;
         written = goes.written;
         is_fault = record {
-          broken = breaks_off_before network start t rest (drop_through 10 rest) line so_far.done goes.printed goes.history goes.scene goes.prints lines (text_behind t rest line so_far.done all is);
+          broken = breaks_off_before network start t rest (drop_through 10 rest) line so_far.done goes.printed goes.history goes.scene goes.prints lines (text_behind t rest line so_far.done all is) (subst (λ (l : List ℕ). IsPiece l) (sym is) (line_stops rest));
           has_no_fault = λ content whole. subst (λ (n : ℕ). HasNoFault n (length (concat so_far.done)) goes.scene.names line) (sym so_far.counted) (subst (λ (n : ℕ). HasNoFault number n goes.scene.names line) so_far.size told.0);
           is_end = means_there number before so_far.done goes.scene line (λ means. IsLeftBy network goes.scene.state means short.state) so_far.counted so_far.size short.left;
         };
@@ -445,9 +447,9 @@ IsReadFault part why = (why ≡ fault.ReadFailed) ⊎ ((why ≡ fault.OutOfMemor
 
 -- no line was read
 breaks_at : (network : Network) (start : State) (t : List ℕ) (text old_out out : Option (List ℕ)) (rest left part : List ℕ) (done : List (List ℕ)) (printed : List ℕ) (history : List Entry) (scene : Scene) → Prints network 1 0 (first_scene network start) done printed history scene → Appends old_out out printed
-    → lines_of t ≡ done ++ lines_of rest → t ≡ concat done ++ rest → text ≡ Some left → rest ≡ part ++ left → (why : ScenarioFault) → IsReadFault part why → EndsByFrom network start t text old_out out why scene.state
-breaks_at network start t text old_out out rest left part done printed history scene prints written lines all remains parts why is =
-    let broken : BreaksOff network start t left printed = breaks_off_before network start t rest left part done printed history scene prints lines (all ∙ ap (λ (l : List ℕ). concat done ++ l) parts) in
+    → lines_of t ≡ done ++ lines_of rest → t ≡ concat done ++ rest → text ≡ Some left → rest ≡ part ++ left → IsPiece part → (why : ScenarioFault) → IsReadFault part why → EndsByFrom network start t text old_out out why scene.state
+breaks_at network start t text old_out out rest left part done printed history scene prints written lines all remains parts piece why is =
+    let broken : BreaksOff network start t left printed = breaks_off_before network start t rest left part done printed history scene prints lines (all ∙ ap (λ (l : List ℕ). concat done ++ l) parts) piece in
     elim is [
       | inl e ↦ subst (λ (w : ScenarioFault). EndsByFrom network start t text old_out out w scene.state) (sym e) (record { left = left; remains = remains; out = printed; written = written; is_fault = record { broken = broken; is_end = refl } })
       | inr e ↦ subst (λ (w : ScenarioFault). EndsByFrom network start t text old_out out w scene.state) (sym e.0)
@@ -455,20 +457,20 @@ breaks_at network start t text old_out out rest left part done printed history s
     ]
 
 not_read_at : (first : Held) (session : Session) (before number : ℕ) (old_text mid_text text old_out out : Option (List ℕ)) (part : List ℕ) (so_far : Running (core_network first) first session before number old_text mid_text old_out out)
-    → HasRead old_text mid_text so_far.done → Consumes mid_text text part → (why : ScenarioFault) → IsReadFault part why → IfSome old_text (λ t. RunsInto first session.core t text old_out out why)
-not_read_at first session before number None mid_text text old_out out part so_far read taken why is = tt
-not_read_at first session before number (Some t) mid_text text old_out out part so_far (rest, remains, lines, all) taken why is = λ start stands.
+    → HasRead old_text mid_text so_far.done → Consumes mid_text text part → IsPiece part → (why : ScenarioFault) → IsReadFault part why → IfSome old_text (λ t. RunsInto first session.core t text old_out out why)
+not_read_at first session before number None mid_text text old_out out part so_far read taken piece why is = tt
+not_read_at first session before number (Some t) mid_text text old_out out part so_far (rest, remains, lines, all) taken piece why is = λ start stands.
     let goes = so_far.goes start stands in
     let left = still_left rest part mid_text text remains taken in (
       goes.scene.state,
-      breaks_at (core_network first) start t text old_out out rest left.0 part so_far.done goes.printed goes.history goes.scene goes.prints goes.written lines all left.1 left.2 why is,
+      breaks_at (core_network first) start t text old_out out rest left.0 part so_far.done goes.printed goes.history goes.scene goes.prints goes.written lines all left.1 left.2 piece why is,
       goes.holds.stands,
     )
 
 pub not_read : (first : Held) (session : Session) (before number : ℕ) (old_text mid_text text old_out out : Option (List ℕ)) (part : List ℕ) (so_far : Running (core_network first) first session before number old_text mid_text old_out out)
-    → Consumes mid_text text part → (why : ScenarioFault) → IsReadFault part why → IfSome old_text (λ t. RunsInto first session.core t text old_out out why)
-not_read first session before number old_text mid_text text old_out out part so_far taken why is =
-    not_read_at first session before number old_text mid_text text old_out out part so_far so_far.read taken why is
+    → Consumes mid_text text part → IsPiece part → (why : ScenarioFault) → IsReadFault part why → IfSome old_text (λ t. RunsInto first session.core t text old_out out why)
+not_read first session before number old_text mid_text text old_out out part so_far taken piece why is =
+    not_read_at first session before number old_text mid_text text old_out out part so_far so_far.read taken piece why is
 
 -- the part of a line that was read into a buffer that was empty
 pub part_into : (start buf line : List ℕ) (why : ScenarioFault) → start ≡ [] → line ≡ buf → IsReadFault line why → IsReadFault (appended_bytes start buf) why

@@ -1,5 +1,5 @@
 -- What a script sends, between two lines and at its end.
-use Rattle.std.proofs.Common.{◌≡◌, ◌≢◌, inl, inr, ℕ, ◌+◌, List, [], ◌∷◌, ◌++◌, length, Option, Some, None, option_map, Result, Ok, Err, refl, sym, ◌∙◌, ap, subst, append_assoc, append-nil, length-append, arith}
+use Rattle.std.proofs.Common.{◌≡◌, ◌≢◌, ◌⊎◌, inl, inr, ℕ, ◌+◌, List, [], ◌∷◌, ◌++◌, length, Option, Some, None, option_map, Result, Ok, Err, refl, sym, ◌∙◌, ap, subst, append_assoc, append-nil, length-append, arith}
 use Rattle.std.specs.Prelude.{IfSome, unwrap_or}
 use Rattle.std.specs.List.{concat}
 use Rattle.std.specs.Io.BufRead.{drop_through}
@@ -16,11 +16,13 @@ use Rattle.script.specs.Names.{OpenTx, AllNames, Bound}
 use Rattle.script.specs.RequestView.{AreNamed, Lacks}
 use Rattle.script.specs.Sending.{SendMeaning, Sends, Makes, SimulationLine, Sending, Defining, MeansSending, MeansSimulation, is_late_sending, parse_sending}
 use Rattle.script.specs.SendingView.{AsksSending, IsSent, IsMade, IsSentOrMade}
+use Rattle.scenario.specs.Pieces.{IsPiece}
 use Rattle.scenario.specs.declared.fault.ScenarioFault.{ScenarioFault}
 use Rattle.scenario.specs.declared.fault.ScenarioFault.TheVariants as fault
 use Rattle.scenario.specs.Run.{fault_of}
 use Rattle.scenario.specs.SendRun.{Sent, LineSends, LinesSend, SendsAll, SendsBy, ReadsUpTo}
 use Rattle.scenario.specs.SendView.{GoesBehind, IsSendingOf}
+use Rattle.scenario.proofs.Lines.{line_stops}
 use Rattle.scenario.proofs.Runs.{HasRead, HasLine, none_read, next_read, one_line_more, concat_more, at_end, no_making, some_making, no_line_told, nothing_left, text_behind, still_left, IsReadFault}
 
 -- ---- a line
@@ -41,7 +43,7 @@ pub not_sent : (number before peers : ℕ) (names : AllNames) (line : List ℕ) 
     → AsksSending names (MeansSending number before names peers line) (is_late_sending (parse_sending before peers line)) (Err why) code
     → IsSendingOf number before peers names line (Err why) old new code
 not_sent number before peers names line (stop.Fault why) old new code is = is.0
-not_sent number before peers names line stop.OutOfMemory old new code is = is
+not_sent number before peers names line stop.OutOfMemory old new code is = is.0
 
 -- which of the two was answered
 pub was_sent : (names : AllNames) (means : Result SendMeaning LineFault → Type 0) (code : Names) (o : Option SendRequest) (asked : SendRequest) → o ≡ Some asked → IsSentOrMade names means o code → IsSent names means asked code
@@ -232,14 +234,23 @@ stopped peers first old new all more before number (Some t) mid_text text line s
       left = drop_through 10 rest;
       remains = remains;
       is_fault = record {
-        reads = record { lines = so_far.done; after = lines_of rest; begins = lines; more = line; read = text_behind t rest line so_far.done whole is; sent = all; mid = goes.mid; sends = goes.sends };
+        reads = record { lines = so_far.done; after = lines_of rest; begins = lines; more = line; piece = subst (λ (l : List ℕ). IsPiece l) (sym is) (line_stops rest); read = text_behind t rest line so_far.done whole is; sent = all; mid = goes.mid; sends = goes.sends };
         has_no_fault = λ content ends. subst (λ (n : ℕ). Short n (length (concat so_far.done))) (sym so_far.counted) (subst (Short number) so_far.size (said goes.mid goes.named));
       };
     }
 
+-- nothing is written
+pub read_not_written : (why : ScenarioFault) (P : Type 0) → (why ≡ fault.ReadFailed) ⊎ ((why ≡ fault.OutOfMemory) × P) → why ≢ fault.WriteFailed
+read_not_written why P (inl e) = λ w. let bad : fault.ReadFailed ≡ fault.WriteFailed = sym e ∙ w in cc
+read_not_written why P (inr e) = λ w. let bad : fault.OutOfMemory ≡ fault.WriteFailed = sym e.0 ∙ w in cc
+
+pub stop_not_written : (number : ℕ) (why : Stop) → fault_of number why ≢ fault.WriteFailed
+stop_not_written number (stop.Fault why) = λ w. cc
+stop_not_written number stop.OutOfMemory = λ w. cc
+
 -- a line wasn't read
-abbrev read_up_to : (peers : ℕ) (names : AllNames) (text rest left more : List ℕ) (done : List (List ℕ)) (all : List Sent) (mid : AllNames) → LinesSend 1 0 peers names done all mid → lines_of text ≡ done ++ lines_of rest → text ≡ concat done ++ (more ++ left) → ReadsUpTo peers names text left
-read_up_to peers names text rest left more done all mid sends lines whole = record { lines = done; after = lines_of rest; begins = lines; more = more; read = whole; sent = all; mid = mid; sends = sends }
+abbrev read_up_to : (peers : ℕ) (names : AllNames) (text rest left more : List ℕ) (done : List (List ℕ)) (all : List Sent) (mid : AllNames) → LinesSend 1 0 peers names done all mid → lines_of text ≡ done ++ lines_of rest → text ≡ concat done ++ (more ++ left) → IsPiece more → ReadsUpTo peers names text left
+read_up_to peers names text rest left more done all mid sends lines whole piece = record { lines = done; after = lines_of rest; begins = lines; more = more; piece = piece; read = whole; sent = all; mid = mid; sends = sends }
 
 short_of_line : (peers : ℕ) (names : AllNames) (t : List ℕ) (text : Option (List ℕ)) (left : List ℕ) (reads : ReadsUpTo peers names t left) → text ≡ Some left → (why : ScenarioFault) → IsReadFault reads.more why → SendsBy peers names t text why
 short_of_line peers names t text left reads remains why is =
@@ -249,15 +260,15 @@ short_of_line peers names t text left reads remains why is =
           (record { left = left; remains = remains; is_fault = record { reads = reads; has_no_fault = λ content whole. absurd (e.1 content whole) } })
     ]
 
-not_read_at : (peers : ℕ) (first code : Names) (all : List Sent) (before number : ℕ) (old_text mid_text text : Option (List ℕ)) (part : List ℕ) (so_far : Reads peers first code all before number old_text mid_text) → HasRead old_text mid_text so_far.done → Consumes mid_text text part
+not_read_at : (peers : ℕ) (first code : Names) (all : List Sent) (before number : ℕ) (old_text mid_text text : Option (List ℕ)) (part : List ℕ) (so_far : Reads peers first code all before number old_text mid_text) → HasRead old_text mid_text so_far.done → Consumes mid_text text part → IsPiece part
     → (why : ScenarioFault) → IsReadFault part why → (names : AllNames) → AreNamed first names → IfSome old_text (λ t. SendsBy peers names t text why)
-not_read_at peers first code all before number None mid_text text part so_far read taken why is = λ names named. tt
-not_read_at peers first code all before number (Some t) mid_text text part so_far (rest, remains, lines, whole) taken why is = λ names named.
+not_read_at peers first code all before number None mid_text text part so_far read taken piece why is = λ names named. tt
+not_read_at peers first code all before number (Some t) mid_text text part so_far (rest, remains, lines, whole) taken piece why is = λ names named.
     let goes = so_far.goes names named in
     let left = still_left rest part mid_text text remains taken in
-    short_of_line peers names t text left.0 (read_up_to peers names t rest left.0 part so_far.done all goes.mid goes.sends lines (whole ∙ ap (λ (l : List ℕ). concat so_far.done ++ l) left.2)) left.1 why is
+    short_of_line peers names t text left.0 (read_up_to peers names t rest left.0 part so_far.done all goes.mid goes.sends lines (whole ∙ ap (λ (l : List ℕ). concat so_far.done ++ l) left.2) piece) left.1 why is
 
-pub not_read : (peers : ℕ) (first code : Names) (all : List Sent) (before number : ℕ) (old_text mid_text text : Option (List ℕ)) (part : List ℕ) (so_far : Reads peers first code all before number old_text mid_text) → Consumes mid_text text part
+pub not_read : (peers : ℕ) (first code : Names) (all : List Sent) (before number : ℕ) (old_text mid_text text : Option (List ℕ)) (part : List ℕ) (so_far : Reads peers first code all before number old_text mid_text) → Consumes mid_text text part → IsPiece part
     → (why : ScenarioFault) → IsReadFault part why → (names : AllNames) → AreNamed first names → IfSome old_text (λ t. SendsBy peers names t text why)
-not_read peers first code all before number old_text mid_text text part so_far taken why is =
-    not_read_at peers first code all before number old_text mid_text text part so_far so_far.read taken why is
+not_read peers first code all before number old_text mid_text text part so_far taken piece why is =
+    not_read_at peers first code all before number old_text mid_text text part so_far so_far.read taken piece why is

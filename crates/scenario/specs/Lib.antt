@@ -1,3 +1,4 @@
+pub mod Pieces
 pub mod Print
 pub mod ForgeView
 pub mod Run

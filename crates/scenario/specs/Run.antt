@@ -26,6 +26,7 @@ use Rattle.script.specs.Names.{Named, Binding, OpenTx, AllNames, no_names}
 use Rattle.script.specs.Meaning.{Meaning, Defines, Arrives, SubmitsTx, ForgesBlock, OpensFollower, TellsFollower}
 use Rattle.script.specs.Meaning.{ForwardsFollower, ClosesFollower, PrintsTip, PrintsMempool, PrintsUtxo, bound_block}
 use Rattle.script.specs.Meaning.{AreNamesAfter, HasNoFault, Means, formed}
+use Rattle.scenario.specs.Pieces.{IsPiece}
 use Rattle.scenario.specs.Print.{arrival_text, submission_text, ForgeAnswer, ForgedBlock, NoBlock, NoMemory}
 use Rattle.scenario.specs.Print.{forge_answer_text, forging_text, mempool_text, open_text, tip_text, utxo_text}
 use Rattle.scenario.specs.Print.{IsNextText, forwarding_text, closing_text}
@@ -216,13 +217,14 @@ pub record IsUnended (network : Network) (start : State) (text : List ℕ) (numb
   pub line : made.line ≡ number
   pub is_end : end ≡ obeyed.scene.state
 
--- of a text of which this is left some first lines were read, and these bytes more; what was written is exactly what
--- the lines print
+-- Some first lines of the text were read, and then a piece of the next one, or none; `left` is what is left of the
+-- text. What was written is exactly what the lines print.
 pub record BreaksOff (network : Network) (start : State) (text left out : List ℕ) : Type 0 where
   pub lines : List (List ℕ)
   pub after : List (List ℕ)
   pub begins : lines_of text ≡ lines ++ after
   pub more : List ℕ
+  pub piece : IsPiece more
   pub read : text ≡ concat lines ++ (more ++ left)
   pub obeyed : AreObeyed network start lines out
 

@@ -8,6 +8,7 @@ use Rattle.script.specs.Names.{OpenTx, AllNames}
 use Rattle.script.specs.Meaning.{AreNamesAfter}
 use Rattle.script.specs.RequestView.{Lacks}
 use Rattle.script.specs.Sending.{SendMeaning, Sends, Makes, MeansSending, is_late_sending, parse_sending}
+use Rattle.scenario.specs.Pieces.{IsPiece}
 use Rattle.scenario.specs.declared.fault.ScenarioFault.{ScenarioFault}
 use Rattle.scenario.specs.declared.fault.ScenarioFault.TheVariants as fault
 
@@ -73,12 +74,14 @@ pub record HasNoEnd (peers : ℕ) (names : AllNames) (text : List ℕ) (number :
   pub is_made : new.making ≡ Some made
   pub line : made.line ≡ number
 
--- of a text of which this is left some first lines were read, which have no fault, and these bytes more
+-- Some first lines of the text were read, which have no fault, and then a piece of the next one, or none; `left` is
+-- what is left of the text.
 pub record ReadsUpTo (peers : ℕ) (names : AllNames) (text left : List ℕ) : Type 0 where
   pub lines : List (List ℕ)
   pub after : List (List ℕ)
   pub begins : lines_of text ≡ lines ++ after
   pub more : List ℕ
+  pub piece : IsPiece more
   pub read : text ≡ concat lines ++ (more ++ left)
   pub sent : List Sent
   pub mid : AllNames

@@ -15,7 +15,8 @@ pub enum ScenarioFault {
     /// The writer failed.
     #[error("write failed")]
     WriteFailed,
-    /// There is no memory for the outputs of the genesis, or for the script's lines or names.
+    /// There is no memory for the outputs of the genesis, for the script's lines or names, for what a line prints or
+    /// sends, or for a simulation; or a thread of one can't be started.
     #[error("out of memory")]
     OutOfMemory,
 }

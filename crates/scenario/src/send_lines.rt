@@ -1,6 +1,6 @@
 //! Scripts in which peers send bytes.
 
-ghost use Rattle.std.specs.Prelude.{◌≡◌, ◌+◌, ◌≤◌, All, IfErr, IfOk, IfSome, OnOk, Some, [], length, map};
+ghost use Rattle.std.specs.Prelude.{◌≡◌, ◌≢◌, ◌+◌, ◌≤◌, All, IfErr, IfOk, IfSome, OnOk, Some, [], length, map};
 ghost use Rattle.script.specs.Text.{script_size_limit};
 ghost use Rattle.script.specs.Names.{AllNames, no_names};
 ghost use Rattle.script.specs.RequestView.{AreNamed};
@@ -54,6 +54,7 @@ fn sends_of_lines<R: BufRead>(
     ensures rest { OnOk result (IfSome (R.remaining reader.old) (λ _. R.remaining reader.new ≡ Some [])) }
     ensures fault { (known : AllNames) → AreNamed names.old known → IfErr result (λ why.
         IfSome (R.remaining reader.old) (λ text. SendsBy peers known text (R.remaining reader.new) why)) }
+    ensures unwritten { IfErr result (λ why. why ≢ ScenarioFault.WriteFailed) }
     ensures peers { IfOk result (λ sends. All (IsSentByOneOf peers) sends.items) }
 {
     let mut sends = Vec::new(alloc);
@@ -104,9 +105,11 @@ pub fn sends<R: BufRead>(
         (λ text. SendsAll peers (no_names genesis.now.params.network) text (map sent_of sends.items))) }
     // The whole text was then read.
     ensures rest { OnOk result (IfSome (R.remaining reader.old) (λ _. R.remaining reader.new ≡ Some [])) }
-    // At a fault it is the first one, and what comes after its line is left in the reader.
+    // At a fault of a line it is the first one, and what comes after its line is left in the reader.
     ensures fault { IfErr result (λ why. IfSome (R.remaining reader.old)
         (λ text. SendsBy peers (no_names genesis.now.params.network) text (R.remaining reader.new) why)) }
+    // It is never told that a writer failed.
+    ensures unwritten { IfErr result (λ why. why ≢ ScenarioFault.WriteFailed) }
     // Who sends is one of the peers.
     ensures peers { IfOk result (λ sends. All (IsSentByOneOf peers) sends.items) }
 {

@@ -20,7 +20,7 @@ use Rattle.script.specs.WordsView.{has_no_words}
 use Rattle.script.specs.Meaning.{Meaning, Definition, NoDefinition, BindsKey, BindsScript, Continues, Finishes, BindsBytes, Defines, MeansLine, MeansScript, base_after, begun, binds_bytes, block_meaning, bound_raw, built, built_key, continued, is_late, meaning_by, meaning_inside, meaning_outside, part_meaning, txs_named, where_free, where_known}
 use Rattle.script.specs.RequestView.{AreNamed, Asked, AsksLine, IsDefined, IsOpen, IsRequest, Lacks}
 use Rattle.script.specs.Sending.{Defining, MeansSimulation, SendLine, Sending, Sends, SimulationLine, is_definition, is_late_sending, parse_send, parse_sending, said_either, said_send, send_meaning}
-use Rattle.script.specs.SendingView.{AsksSending, AsksToMake, AsksToSend, IsMade, send_line_of}
+use Rattle.script.specs.SendingView.{AsksSending, AsksToMake, AsksToSend, IsMade, send_line_of, SendsNothing}
 
 -- ---- words
 
@@ -142,7 +142,7 @@ is_made number names line asks new so asked =
 pub not_made : (number : ℕ) (names : AllNames) (line : Line) (stop : Stop) (new : Names) → AsksLine number names names.making line (Err stop) new
     → AsksToMake names (MeansSimulation number names names.making (Some (Defining line))) (is_late line) (Err stop) new
 not_made number names line (Fault fault) new is = is
-not_made number names line OutOfMemory new is = is
+not_made number names line OutOfMemory new is = (is, λ peer name bytes sends. sends)
 
 -- ---- what is answered
 
@@ -213,4 +213,4 @@ sent_so number names said s sends new is sent = record {
 pub sent_stop : (number : ℕ) (names : AllNames) (said : Option SimulationLine) (s : SendLine) (stop : Stop) (new : Names) → said ≡ Some (Sending s) → AsksToSend names (send_meaning names names.making s) (Err stop) new
     → AsksSending names (MeansSimulation number names names.making said) (is_late_sending said) (Err stop) new
 sent_stop number names said s (Fault fault) new is sent = (subst (λ (x : Option SimulationLine). MeansSimulation number names names.making x (Err fault)) (sym is) sent.0, sent.1)
-sent_stop number names said s OutOfMemory new is lacks = subst (λ (x : Option SimulationLine). Lacks (MeansSimulation number names names.making x) (is_late_sending x)) (sym is) lacks
+sent_stop number names said s OutOfMemory new is lacks = subst (λ (x : Option SimulationLine). Lacks (MeansSimulation number names names.making x) (is_late_sending x) × SendsNothing (MeansSimulation number names names.making x)) (sym is) lacks

@@ -18,7 +18,7 @@ pub record SendLine : Type 0 where
   pub peer : ℕ
   pub name : List ℕ
 
--- so many peers have the numbers from 1 on
+-- the number is one of so many peers', who have those from 1 on
 abbrev pub is_peer : (peers number : ℕ) → Bool
 is_peer peers number = nat_le 1 number && nat_le number peers
 

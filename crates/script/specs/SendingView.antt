@@ -1,5 +1,5 @@
 -- What a line of the code that sends stands for, and what is answered to a line in a script of a simulation.
-use Rattle.std.specs.Prelude.{◌≡◌, Bool, false, Option, Some, None, Result, Ok, Err}
+use Rattle.std.specs.Prelude.{◌≡◌, ℕ, Bool, false, List, Option, Some, None, Result, Ok, Err}
 use Rattle.script.specs.declared.fault.LineFault.{LineFault}
 use Rattle.script.specs.declared.stop.Stop.{Stop}
 use Rattle.script.specs.declared.stop.Stop.TheVariants.{Fault, OutOfMemory}
@@ -27,13 +27,17 @@ pub record IsMade (names : AllNames) (means : Result SendMeaning LineFault → T
   pub is_meant : means (Ok (Makes definition))
   pub defined : IsDefined names new definition
 
+-- a line that means this sends nothing
+abbrev pub SendsNothing : (Result SendMeaning LineFault → Type 0) → Type 0
+SendsNothing means = (peer : ℕ) (name bytes : List ℕ) → means (Ok (Sends peer name bytes)) → ⊥
+
 -- What is answered to a line that means this: something that `Fits` it; its fault, which leaves the names; or that
--- memory ran out, which says that it has no other fault than one that only memory tells.
+-- memory ran out, which says that it sends nothing and has no other fault than one that only memory tells.
 abbrev pub AnswersLine : {X : Type 0} → AllNames → (Result SendMeaning LineFault → Type 0) → (late : Bool)
     → (Fits : X → Names → Type 0) → Result X Stop → Names → Type 0
 AnswersLine names means late Fits (Ok x) new = Fits x new
 AnswersLine names means late Fits (Err (Fault fault)) new = means (Err fault) × AreNamed new names
-AnswersLine names means late Fits (Err OutOfMemory) new = Lacks means late
+AnswersLine names means late Fits (Err OutOfMemory) new = Lacks means late × SendsNothing means
 
 -- a definition is made
 abbrev pub AsksToMake : AllNames → (Result SendMeaning LineFault → Type 0) → (late : Bool) → Result Unit Stop → Names

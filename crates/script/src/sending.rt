@@ -141,9 +141,9 @@ impl Names {
     }
 
     /// Obeys a line of a script in which so many peers send bytes: a definition is made as by [`Names::obey`], and of a
-    /// line `send P B` it is answered who sends and what. P is a number from 1 to `peers`, else the line is a
-    /// [`LineFault::BadLine`], as each line that [`Names::obey`] would answer a request for; B is a name of bytes. Err
-    /// as there.
+    /// line `send P B` it is answered who sends and what. P is a number from 1 to `peers`, and no transaction is being
+    /// made, else the line is a [`LineFault::BadLine`], as each line is that asks something of a node, whatever else is
+    /// wrong with it; B is a name of bytes. Err as there, but that a line `send` asks for no memory.
     pub fn obey_sending<'a>(
         &mut self,
         at: LinePlace,

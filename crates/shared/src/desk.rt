@@ -104,7 +104,7 @@ impl<S: SigScheme, B: Room> Desk<S, B> {
         ensures seen { OnOk result (caller.new.seen ≡ self.new) }
         ensures called { IfOk result (λ reply. IsCalled (network_from B.start S.verifies) caller.old
             (arrival_by caller.old.caller peer bytes.items (arrive_reply_of (Ok reply))) caller.new) }
-        // Memory is asked for only where no refusal applies.
+        // Memory runs out only where no refusal applies.
         ensures memory { OnErr result (IsWantAtArriving S.verifies B.start self.old bytes.items) }
         ensures size { OnErr result (length bytes.items ≤ block_size_limit) }
         ensures err { OnErr result (self.new ≡ self.old) }
@@ -136,7 +136,7 @@ impl<S: SigScheme, B: Room> Desk<S, B> {
         ensures seen { OnOk result (caller.new.seen ≡ self.new) }
         ensures called { IfOk result (λ reply. IsCalled (network_from B.start S.verifies) caller.old
             (call_by caller.old.caller (Submit bytes.now) (submit_reply_of (Ok reply))) caller.new) }
-        // Where the bytes are the text of a transaction without parts, no memory is asked for.
+        // Memory runs out only where the bytes begin as a transaction does, and not at one without parts.
         ensures memory { OnErr result (IsWantAtSubmission bytes.now) }
         ensures err { OnErr result (self.new ≡ self.old) }
         ensures caller { OnErr result (caller.new ≡ caller.old) }
@@ -161,7 +161,7 @@ impl<S: SigScheme, B: Room> Desk<S, B> {
         ensures seen { HasSeenAll (open_reply_of result) self.new caller.new }
         ensures answered { IsAnswered (network_from B.start S.verifies) caller.old Open (open_reply_of result)
             caller.new }
-        // Memory is asked for only where a number is free.
+        // Memory runs out only where a number is free.
         ensures memory { IsWantAtOpening S.verifies B.start self.old (open_reply_of result) }
     {
         let answer = self.core.open();
@@ -185,7 +185,7 @@ impl<S: SigScheme, B: Room> Desk<S, B> {
         ensures seen { HasSeenAll (next_reply_of result) self.new caller.new }
         ensures answered { IsAnswered (network_from B.start S.verifies) caller.old (Next id.number)
             (next_reply_of result) caller.new }
-        // Memory is asked for only where a block comes next.
+        // Memory runs out only where a block comes next.
         ensures memory { IsWantAtTelling S.verifies B.start self.old id.number (next_reply_of result) }
     {
         let answer = self.core.next(id);

@@ -89,7 +89,7 @@ impl<S: SigScheme, B: Room> Shared<S, B> {
     ) -> Result<SubmitReply, AllocError>
         ensures called { IfOk result (λ reply. IsCalled (network_from B.start S.verifies) caller.old
             (call_by caller.old.caller (Submit bytes.now) (submit_reply_of (Ok reply))) caller.new) }
-        // Where the bytes are the text of a transaction without parts, no memory is asked for.
+        // Memory runs out only where the bytes begin as a transaction does, and not at one without parts.
         ensures memory { OnErr result (IsWantAtSubmission bytes.now) }
         ensures err { OnErr result (caller.new ≡ caller.old) }
     {

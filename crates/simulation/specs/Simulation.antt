@@ -1,6 +1,14 @@
--- What a simulation prints.
-use Rattle.std.specs.Prelude.{ℕ, ◌+◌, ◌-◌, ◌^◌, Bool, List, [], ◌∷◌, ◌++◌, codes, decimal, min, sum, if◌then◌else◌}
+-- What a simulation prints, and how it ends.
+use Rattle.std.specs.Prelude.{◌≡◌, ◌⊎◌, ℕ, ◌+◌, ◌-◌, ◌^◌, Bool, List, [], ◌∷◌, ◌++◌, Option, Some, codes, decimal, min}
+use Rattle.std.specs.Prelude.{sum, if◌then◌else◌}
+use Rattle.inbox.specs.Arrivals.{peers}
+use Rattle.script.specs.Names.{AllNames}
+use Rattle.scenario.specs.declared.fault.ScenarioFault.{ScenarioFault}
+use Rattle.scenario.specs.declared.fault.ScenarioFault.TheVariants.{OutOfMemory, WriteFailed}
+use Rattle.scenario.specs.SendRun.{Sent, SendsAll, SendsBy}
 use Rattle.simulation.specs.declared.summary.Summary.{Summary}
+
+-- ---- what it prints
 
 -- how many there are together, as far as 64 bits go
 abbrev pub total_of : List ℕ → ℕ
@@ -35,3 +43,16 @@ summary_text s =
     number_line (codes "height") s.height
     ++ (number_line (codes "arrivals") (total_of s.arrivals)
     ++ (peer_lines 1 s.arrivals ++ (heights_line s.fell ++ follower_lines s.told.items)))
+
+-- ---- how it ends, where these names are bound at first
+
+-- the script has no fault: each of its lines sends something, defines something or says nothing, and no transaction is
+-- left without its end
+abbrev pub IsFaultless : AllNames → (text : List ℕ) → Type 0
+IsFaultless names text = (sent : List Sent) × SendsAll peers names text sent
+
+-- Why it prints nothing, or not all: the script isn't read to its end without a fault; or it is, and memory ran out
+-- then, or it couldn't be written.
+abbrev pub IsSimFault : AllNames → (text : List ℕ) → (remaining : Option (List ℕ)) → ScenarioFault → Type 0
+IsSimFault names text remaining why = SendsBy peers names text remaining why
+    ⊎ (((why ≡ OutOfMemory) ⊎ (why ≡ WriteFailed)) × IsFaultless names text × (remaining ≡ Some []))

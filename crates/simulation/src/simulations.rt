@@ -1,10 +1,11 @@
 //! Simulations: peers send blocks to a core that clients follow, each in a thread of its own.
 
-ghost use Rattle.std.specs.Prelude.{◌≡◌, ◌+◌, ◌⊎◌, length, IfErr, IfOk, OnOk};
+ghost use Rattle.std.specs.Prelude.{◌≡◌, ◌+◌, ◌⊎◌, [], Some, length, IfErr, IfOk, IfSome, OnOk};
 ghost use Rattle.std.specs.Io.KnownBytes.{Appends};
 ghost use Rattle.inbox.specs.Arrivals.{no_intake};
 ghost use Rattle.simulation.specs.declared.summary.Summary.{Summary};
-ghost use Rattle.simulation.specs.Simulation.{summary_text};
+ghost use Rattle.script.specs.Names.{no_names};
+ghost use Rattle.simulation.specs.Simulation.{IsFaultless, IsSimFault, summary_text};
 
 use crate::clients::Clients;
 use crate::course::Course;
@@ -354,6 +355,7 @@ fn simulate_sends<R: Threads + Wait + Sync + AllocGlobal, G: Gate>(
 fn print<W: Write>(alloc: Global, writer: &mut W, summary: &Summary) -> Result<(), ScenarioFault>
     ensures ok { OnOk result (Appends (W.contents writer.old) (W.contents writer.new) (summary_text summary.now)) }
     ensures silent { IfErr result (λ why. (why ≡ ScenarioFault.WriteFailed) ⊎ (writer.new ≡ writer.old)) }
+    ensures fault { IfErr result (λ why. (why ≡ ScenarioFault.OutOfMemory) ⊎ (why ≡ ScenarioFault.WriteFailed)) }
 {
     let mut lines = Vec::new(alloc);
     if put_summary(&mut lines, summary).is_err() {
@@ -373,8 +375,9 @@ fn print<W: Write>(alloc: Global, writer: &mut W, summary: &Summary) -> Result<(
 /// thread, before its first act and after its last: of the adder by the number 1, of the peers by those from 2 on, and
 /// of the clients by those that come next.
 ///
-/// The script is read before any thread starts. Where memory runs out, or a thread can't be started, those that run are
-/// told to end, and `OutOfMemory` is answered once they have. Waits for all threads that it starts.
+/// The script is read before any thread starts: its first fault is told as [`scenario::sends`] tells it. Where memory
+/// runs out, or a thread can't be started, those that run are told to end, and `OutOfMemory` is answered once they have.
+/// Waits for all threads that it starts.
 pub fn sim<R: Threads + Wait + Sync + AllocGlobal, I: BufRead, W: Write, G: Gate>(
     rt: &R,
     genesis: Genesis,
@@ -386,7 +389,14 @@ pub fn sim<R: Threads + Wait + Sync + AllocGlobal, I: BufRead, W: Write, G: Gate
     // Lines are written of some summary, with a follower for each client, and nothing else.
     ensures ok { OnOk result ((summary : Summary) × (length summary.told.items ≡ clients.many)
         × Appends (W.contents writer.old) (W.contents writer.new) (summary_text summary)) }
-    // Nothing is written where the script has a fault, isn't read, or memory runs out.
+    // The script has no fault then, and was read whole.
+    ensures script { OnOk result (IfSome (I.remaining reader.old) (λ text.
+        IsFaultless (no_names genesis.params.network) text × (I.remaining reader.new ≡ Some []))) }
+    // A fault is what `sends` tells: the script's first one, or that reading failed or memory ran out on the way. Or
+    // the script has none and was read whole, and memory ran out then, or it couldn't be written.
+    ensures fault { IfErr result (λ why. IfSome (I.remaining reader.old)
+        (λ text. IsSimFault (no_names genesis.params.network) text (I.remaining reader.new) why)) }
+    // Nothing is written, but where it is told that writing failed.
     ensures silent { IfErr result (λ why. (why ≡ ScenarioFault.WriteFailed) ⊎ (writer.new ≡ writer.old)) }
 {
     let sends = scenario::sends(rt.alloc(), &genesis, reader, PEERS as u64)?;

@@ -9,11 +9,10 @@ ghost use Rattle.model.specs.Transaction.{item_of_transaction, SpellsTransaction
 ghost use Rattle.model.specs.Transaction.{interval_of_transaction};
 ghost use Rattle.cbor.specs.Gives.{Gives, GivesNo, IfMalformed, IfWant};
 ghost use Rattle.cbor.specs.Texts.{BeginsWithText, Keeps, Writes};
-ghost use Rattle.cbor.specs.Bare.{BeginsWithHead};
 ghost use Rattle.timelock.specs.View.{interval_of};
 ghost use Rattle.tx.specs.View.{input_of, output_of, witness_of};
 ghost use Rattle.tx.specs.TransactionReading.{transaction_at};
-ghost use Rattle.tx.specs.Bare.{IsBare};
+ghost use Rattle.tx.specs.Bare.{BeginsLikeTransaction, IsBare};
 ghost use Rattle.tx.specs.BodyView.{body_of};
 ghost use Rattle.tx.specs.WitnessesView.{witnesses_of};
 ghost use Rattle.tx.specs.Parts.{IsTxOf, IsPartsFault, IfAtFault};
@@ -69,7 +68,7 @@ impl Tx {
         ensures exact { Gives (λ x. (x.0, x.1.now)) result (transaction_at depth bytes.now) }
         ensures want { IfErr result (λ fault. IfWant fault
             (GivesNo (λ x. IsBare x.0) (transaction_at depth bytes.now))) }
-        ensures begins { IfErr result (λ fault. IfWant fault (BeginsWithHead 4 3 bytes.now)) }
+        ensures begins { IfErr result (λ fault. IfWant fault (BeginsLikeTransaction bytes.now)) }
     {
         let members = cbor::members(bytes, 3).ok_or(CborFault::Malformed)?;
         let (body, after_body) = Body::read(alloc, members)?;
@@ -142,7 +141,7 @@ impl Tx {
             BeginsWithText (SpellsTransaction tx) bytes.now rest → ⊥)) }
         ensures want { IfErr result (λ fault. IfWant fault ((tx : model.Transaction) (rest : List ℕ) →
             BeginsWithText (SpellsTransaction tx) bytes.now rest → IsBare tx → ⊥)) }
-        ensures begins { IfErr result (λ fault. IfWant fault (BeginsWithHead 4 3 bytes.now)) }
+        ensures begins { IfErr result (λ fault. IfWant fault (BeginsLikeTransaction bytes.now)) }
     {
         Tx::first(alloc, MAX_SCRIPT_NESTING, bytes)
     }
@@ -160,7 +159,7 @@ impl Tx {
             SpellsTransaction tx bytes.now → ⊥)) }
         ensures want { IfErr result (λ fault. IfWant fault ((tx : model.Transaction) →
             SpellsTransaction tx bytes.now → IsBare tx → ⊥)) }
-        ensures begins { IfErr result (λ fault. IfWant fault (BeginsWithHead 4 3 bytes.now)) }
+        ensures begins { IfErr result (λ fault. IfWant fault (BeginsLikeTransaction bytes.now)) }
     {
         let (tx, rest) = Tx::read(alloc, bytes)?;
         if !rest.is_empty() {

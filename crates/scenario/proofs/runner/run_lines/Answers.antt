@@ -52,7 +52,7 @@ loop-number-preserved g c = rw (c.len.ensures, ← c.deref-in-loop-number.ensure
 pub returns-in-Err-clause-fault : goal.returns-in-Err-clause-fault
 returns-in-Err-clause-fault g c =
     not_read c.args.session.now.core c.loop-number.session c.loop-number.before c.loop-number.number (g.R.Read.remaining c.args.reader.now) (g.R.Read.remaining c.loop-number.reader) (g.R.Read.remaining c.read_until.new.self)
-    (g.W.Write.contents c.args.writer.now) (g.W.Write.contents c.loop-number.writer) _ c.loop-number.invariant c.in-Err.ensures.none_lost c.read_fault.result
+    (g.W.Write.contents c.args.writer.now) (g.W.Write.contents c.loop-number.writer) _ c.loop-number.invariant c.in-Err.ensures.none_lost c.in-Err.ensures.stops c.read_fault.result
     (part_into c.new-line.result.items c.read_until.new.buf.items c.deref.result.now c.read_fault.result c.new-line.ensures.items c.deref.ensures.value c.read_fault.ensures)
 
 pub returns-in-Err-clause-run : goal.returns-in-Err-clause-run
