@@ -1,6 +1,6 @@
 -- What ends tell one another, and what is said when an inbox ends.
 use Rattle.std.specs.Prelude.{◌≡◌, ℕ, List, ◌++◌, length}
-use Rattle.inbox.specs.Arrivals.{Arrival, SentBy, came_of, BeginsWith, EndsWith, IsCountOf}
+use Rattle.inbox.specs.Arrivals.{Arrival, SentBy, came_of, BeginsWith, IsCountOf}
 use Rattle.inbox.specs.Rule.{PassView}
 
 -- what was taken of the peer is a beginning of what it sent
@@ -10,11 +10,6 @@ BeginsWhatWasSent taken peer = BeginsWith peer.sent (came_of peer.peer taken)
 -- what was taken of the peer is all that it sent
 abbrev pub IsAllThatWasSent : List Arrival → SentBy → Type 0
 IsAllThatWasSent taken peer = came_of peer.peer taken ≡ peer.sent
-
--- the inbox held as many arrivals as it has places, and what the peer sent ends with those of them that are its own
-abbrev pub IsHeldByFull : ℕ → SentBy → Type 0
-IsHeldByFull capacity peer =
-    (items : List Arrival) × (length items ≡ capacity) × EndsWith peer.sent (came_of peer.peer items)
 
 -- a pass was told what these peers sent
 pub record IsToldBy (peers : List SentBy) (v w : PassView) : Type 0 where

@@ -2,7 +2,6 @@
 
 ghost use Rattle.std.specs.Prelude.{◌≡◌, length, OnOk, IfErr, OnErr};
 ghost use Rattle.inbox.specs.Arrivals.{IsPeer, IsCountOf, with_bytes};
-ghost use Rattle.inbox.specs.Telling.{IsHeldByFull};
 
 use crate::arrival::Arrival;
 use crate::faults::Full;
@@ -62,8 +61,6 @@ impl<B: Mailroom> PeerEnd<B> {
         ensures ok { OnOk result (self.new ≡ with_bytes self.old bytes.items) }
         ensures full { IfErr result (λ full. full.bytes.items ≡ bytes.items) }
         ensures same { OnErr result (self.new ≡ self.old) }
-        // What the peer sent ends with those of its bytes that the full inbox holds.
-        ensures held { OnErr result (IsHeldByFull B.capacity self.old) }
     {
         let item = Arrival {
             peer: self.number,
