@@ -1,10 +1,9 @@
 -- The chain that a core is opened on, block after block.
-use Rattle.std.proofs.Common.{◌≡◌, ℕ, suc, ◌+◌, ◌<◌, List, [], ◌∷◌, ◌++◌, length, take, drop, get_or, refl, sym, ap, subst, ◌∙◌, arith}
+use Rattle.std.proofs.Common.{◌≡◌, ℕ, ◌+◌, ◌<◌, List, [], ◌∷◌, ◌++◌, length, take, drop, get_or, refl, sym, ap, subst, ◌∙◌, arith, append_assoc}
 use Rattle.std.specs.Prelude.{◌≤◌}
 use Rattle.std.specs.Global.{Vec}
 use Rattle.std.specs.List.{AllByRecursion}
-use Rattle.std.proofs.lemmas.List.{take_more, map-append, take-append-drop, length-take-le, length-take, take-take}
-use Rattle.std.proofs.Math.Seq.{drop-cons}
+use Rattle.std.proofs.lemmas.List.{take_more, map-append, length-map, take-append-drop, length-take, take-take}
 use Rattle.model.specs.Signature.{Verifies}
 use Rattle.model.specs.Block.{Block, SpellsBlock, block_text}
 use Rattle.model.specs.Ledger.{Network}
@@ -21,6 +20,7 @@ use Rattle.ledger.specs.View.{fault_of}
 use Rattle.ledger.specs.Judgement.{IsApplyFault}
 use Rattle.ledger.specs.declared.block_fault.BlockFault as code
 use Rattle.ledger.specs.declared.block_fault.ApplyFault.TheVariants.{Refused}
+use Rattle.chain_core.specs.Immutable.{texts_of}
 use Rattle.chain_core.specs.Reopening.{AreRead, IsReopenFault, IsNotNext, texts_in}
 use Rattle.chain_core.specs.declared.reopening.ReopenFault.{ReopenFault}
 use Rattle.chain_core.specs.declared.reopening.ReopenFault.TheVariants.{InvalidBlock, OutOfMemory}
@@ -46,16 +46,20 @@ reads_push [] (t ∷ ts) b bytes are is = absurd are
 reads_push (x ∷ xs) [] b bytes are is = absurd are
 reads_push (x ∷ xs) (t ∷ ts) b bytes are is = (are.0, reads_push xs ts b bytes are.1 is)
 
-texts_more : (blocks : List (Vec ℕ)) (i : ℕ) (v : Vec ℕ) → i < length blocks → v ≡ get_or blocks i v → texts_in (take i blocks) ++ v.items ∷ [] ≡ texts_in (take (i + 1) blocks)
-texts_more blocks i v within is =
-    let here : take i blocks ++ v ∷ [] ≡ take (i + 1) blocks = sym (take_more blocks i v within ∙ ap (λ (c : Vec ℕ). take i blocks ++ c ∷ []) (sym is)) in
-    sym (map-append (λ (w : Vec ℕ). w.items) (take i blocks) (v ∷ [])) ∙ ap texts_in here
+-- each is read of its own text, with the next one too
+pub texts_push : (chain : List Block) (b : Block) (bytes : List ℕ) (more : List Block) → IsRead b bytes → more ≡ chain ++ b ∷ [] → texts_of more ≡ texts_of chain ++ bytes ∷ []
+texts_push chain b bytes more read is =
+    ap texts_of is ∙ (map-append block_text chain (b ∷ []) ∙ ap (λ (t : List ℕ). texts_of chain ++ t ∷ []) (block_text_is b bytes read.read))
 
-pub reads_on : (chain : List Block) (blocks : List (Vec ℕ)) (i : ℕ) (v : Vec ℕ) (b : Block) (more : List Block) → AreRead chain (texts_in (take i blocks)) → i < length blocks → v ≡ get_or blocks i v → IsRead b v.items
-    → more ≡ chain ++ b ∷ [] → AreRead more (texts_in (take (i + 1) blocks))
-reads_on chain blocks i v b more are within is read more_is =
-    subst (λ (bs : List Block). AreRead bs (texts_in (take (i + 1) blocks))) (sym more_is)
-    (subst (AreRead (chain ++ b ∷ [])) (texts_more blocks i v within is) (reads_push chain (texts_in (take i blocks)) b v.items are read))
+pub reads_more : (chain : List Block) (b : Block) (bytes : List ℕ) (more : List Block) → AreRead chain (texts_of chain) → IsRead b bytes → more ≡ chain ++ b ∷ [] → AreRead more (texts_of more)
+reads_more chain b bytes more are read is =
+    subst (AreRead more) (sym (texts_push chain b bytes more read is))
+    (subst (λ (bs : List Block). AreRead bs (texts_of chain ++ bytes ∷ [])) (sym is) (reads_push chain (texts_of chain) b bytes are read))
+
+pub texts_more : (so_far : List (List ℕ)) (blocks : List (Vec ℕ)) (i : ℕ) (v : Vec ℕ) → so_far ≡ texts_in (take i blocks) → i < length blocks → v ≡ get_or blocks i v → so_far ++ v.items ∷ [] ≡ texts_in (take (i + 1) blocks)
+texts_more so_far blocks i v are within is =
+    let here : take i blocks ++ v ∷ [] ≡ take (i + 1) blocks = sym (take_more blocks i v within ∙ ap (λ (c : Vec ℕ). take i blocks ++ c ∷ []) (sym is)) in
+    ap (λ (ts : List (List ℕ)). ts ++ v.items ∷ []) are ∙ (sym (map-append (λ (w : Vec ℕ). w.items) (take i blocks) (v ∷ [])) ∙ ap texts_in here)
 
 -- each has its text
 pub spelled_all : (chain : List Block) (texts : List (List ℕ)) → AreRead chain texts → AllByRecursion (λ b. SpellsBlock b (block_text b)) chain
@@ -66,23 +70,15 @@ spelled_all (x ∷ xs) (t ∷ ts) are = (subst (SpellsBlock x) (sym (block_text_
 
 -- ---- the first that can't come next
 
-length_map : (blocks : List (Vec ℕ)) → length (texts_in blocks) ≡ length blocks
-length_map [] = refl
-length_map (v ∷ vs) = let e = length_map vs in omega (arith, e)
-
-parts : (blocks : List (Vec ℕ)) (i : ℕ) (v : Vec ℕ) → i < length blocks → v ≡ get_or blocks i v → blocks ≡ take i blocks ++ v ∷ drop (suc i) blocks
-parts blocks i v within is =
-    sym (take-append-drop i blocks) ∙ ap (λ (bs : List (Vec ℕ)). take i blocks ++ bs) (drop-cons blocks i v within ∙ ap (λ (w : Vec ℕ). w ∷ drop (suc i) blocks) (sym is))
-
-pub first_invalid : (network : Network) (chain : List Block) (s : LedgerState) (blocks : List (Vec ℕ)) (i : ℕ) (v : Vec ℕ) (e : ReopenFault) → AreRead chain (texts_in (take i blocks)) → IsStateOf network chain s
-    → i < length blocks → v ≡ get_or blocks i v → IsNotNext network.verifies s (i + 1) v.items e → IsReopenFault network (texts_in blocks) e
-first_invalid network chain s blocks i v OutOfMemory are is within here unfit = tt
-first_invalid network chain s blocks i v (InvalidBlock n) are is within here unfit = record {
-  before = texts_in (take i blocks);
-  bytes = v.items;
-  after = texts_in (drop (suc i) blocks);
-  all = ap texts_in (parts blocks i v within here) ∙ map-append (λ (w : Vec ℕ). w.items) (take i blocks) (v ∷ drop (suc i) blocks);
-  counted = let count = length_map (take i blocks) in let taken = length-take-le i blocks (omega arith) in let same = unfit.0 in omega (arith, count, taken, same);
+pub next_invalid : (network : Network) (chain : List Block) (s : LedgerState) (bytes : List ℕ) (e : ReopenFault) → AreRead chain (texts_of chain) → IsStateOf network chain s → IsNotNext network.verifies s (length chain + 1) bytes e
+    → IsReopenFault network (texts_of chain ++ bytes ∷ []) e
+next_invalid network chain s bytes OutOfMemory are is unfit = tt
+next_invalid network chain s bytes (InvalidBlock n) are is unfit = record {
+  before = texts_of chain;
+  bytes = bytes;
+  after = [];
+  all = refl;
+  counted = let count = length-map chain block_text in let same = unfit.0 in omega (arith, count, same);
   chain = chain;
   is_chain = record { read = are; valid = valid_of_state network chain s is };
   invalid = λ b read valid.
@@ -92,6 +88,30 @@ first_invalid network chain s blocks i v (InvalidBlock n) are is within here unf
       let same = one_state_of network chain was.before s was.is is in
       no_fault network.verifies s b whole.0 fault.0 (subst (λ (x : LedgerState). IsApplied network.verifies x b whole.0) same was.applied) fault.1;
 }
+
+-- what is told of texts is told of them with more behind
+pub fault_with_more : (network : Network) (texts more : List (List ℕ)) (e : ReopenFault) → IsReopenFault network texts e → IsReopenFault network (texts ++ more) e
+fault_with_more network texts more OutOfMemory is = tt
+fault_with_more network texts more (InvalidBlock n) is = record {
+  before = is.before;
+  bytes = is.bytes;
+  after = is.after ++ more;
+  all = ap (λ (ts : List (List ℕ)). ts ++ more) is.all ∙ append_assoc is.before (is.bytes ∷ is.after) more;
+  counted = is.counted;
+  chain = is.chain;
+  is_chain = is.is_chain;
+  invalid = is.invalid;
+}
+
+-- so what is told of a block is told of them all
+pub fault_of_all : (network : Network) (so_far : List (List ℕ)) (blocks : List (Vec ℕ)) (i : ℕ) (v : Vec ℕ) (e : ReopenFault) → so_far ≡ texts_in (take i blocks) → i < length blocks → v ≡ get_or blocks i v
+    → IsReopenFault network (so_far ++ v.items ∷ []) e → IsReopenFault network (texts_in blocks) e
+fault_of_all network so_far blocks i v e are within here told =
+    let front = take (i + 1) blocks in
+    let rest = drop (i + 1) blocks in
+    let whole : texts_in front ++ texts_in rest ≡ texts_in blocks = sym (map-append (λ (w : Vec ℕ). w.items) front rest) ∙ ap texts_in (take-append-drop (i + 1) blocks) in
+    subst (λ (ts : List (List ℕ)). IsReopenFault network ts e) whole
+    (fault_with_more network (texts_in front) (texts_in rest) e (subst (λ (ts : List (List ℕ)). IsReopenFault network ts e) (texts_more so_far blocks i v are within here) told))
 
 -- ---- what is never rolled back
 

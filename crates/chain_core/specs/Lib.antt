@@ -13,3 +13,5 @@ pub mod PastHashes
 pub mod Numbers
 pub mod Immutable
 pub mod Reopening
+pub mod ChainSoFar
+pub mod ReopeningInside

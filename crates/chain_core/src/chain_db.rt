@@ -290,7 +290,7 @@ impl<S: SigScheme> ChainDb<S> {
     }
 
     /// Bytes of a transaction are submitted, and judged at the slot after the tip's. Where memory runs out nothing
-    /// changes, and it doesn't where the transaction has no parts.
+    /// changes; it runs out only where the bytes begin as a transaction does, and not at one without parts.
     pub fn submit(&mut self, bytes: &[u8]) -> Result<SubmitReply, AllocError>
         ensures ok { IfOk result (λ reply. (genesis : Genesis) (opened : List Block) →
             IsWhole (network_on genesis S.verifies opened) self.old →

@@ -21,4 +21,4 @@ pub use followers::{FollowerId, OpenFollowerFault, UnknownFollower};
 pub use forging::{ForgeFault, Forged};
 pub use node_core::Core;
 pub use refusal::Refusal;
-pub use reopening::ReopenFault;
+pub use reopening::{ReopenFault, Reopening};

@@ -8,7 +8,7 @@ use crate::forging::{ForgeFault, Forged, forge};
 use crate::judging::first_refusal;
 use crate::place::{block_at, end_of, first_on};
 use crate::refusal::Refusal;
-use crate::reopening::{OpenedChain, ReopenFault, read_chain};
+use crate::reopening::{OpenedChain, ReopenFault, Reopening};
 use block::{CheckedBlock, Seen};
 use followers::{FollowerId, Followers, OpenFollowerFault, UnknownFollower};
 use genesis::Genesis;
@@ -122,7 +122,8 @@ impl<S: SigScheme> Core<S> {
     /// come after those before it, there is no core, and the number of the first such block is told, counted from 1; or
     /// memory ran out.
     ///
-    /// Reads, hashes and judges each block once, and copies its bytes once, in the order of the chain.
+    /// Reads, hashes and judges each block once, and copies its bytes once, in the order of the chain. [`Reopening`]
+    /// does this one block at a time.
     ///
     /// ```text
     /// let blocks: Vec<Vec<u8>> = ..; // what was kept of `core.block(1)` to `core.block(core.immutable())`
@@ -143,12 +144,19 @@ impl<S: SigScheme> Core<S> {
         ensures again { IfErr result (λ fault. WereImmutable (network_of genesis S.verifies) (texts_in blocks.now)
             → fault ≡ reopen.OutOfMemory) }
     {
-        let on = read_chain(alloc, &genesis, blocks)?;
-        Ok(Core::on(alloc, genesis, on)?)
+        let mut reopening = Reopening::new(alloc, genesis)?;
+        for bytes in blocks {
+            reopening = reopening.push(bytes)?;
+        }
+        Ok(reopening.finish()?)
     }
 
     /// A core on a chain with its state.
-    fn on(alloc: Global, genesis: Genesis, on: OpenedChain<S>) -> Result<Core<S>, AllocError>
+    pub(crate) fn on(
+        alloc: Global,
+        genesis: Genesis,
+        on: OpenedChain<S>,
+    ) -> Result<Core<S>, AllocError>
         requires state { (opened : List Plain) →
             IsStateOf (network_on genesis S.verifies opened) on.chain.items on.state }
         requires spelled { AllByRecursion (λ b. SpellsBlock b (block_text b)) on.chain.items }
@@ -175,7 +183,7 @@ impl<S: SigScheme> Core<S> {
     pub fn arrive(&mut self, bytes: &[u8]) -> Result<ArriveReply, AllocError>
         // For every state of the definitions that the core stands for, this is a step to one that it then stands for.
         ensures step { Steps S.verifies self.old (Arrive bytes.now) (arrive_reply_of result) self.new }
-        // Memory is asked for only where the bytes begin as a block does, and, where they are the text of one without
+        // Memory runs out only where the bytes begin as a block does, and, where they are the text of one without
         // transactions, where no refusal applies.
         ensures memory { OnErr result (IsWantAtArrival S.verifies self.old bytes.now) }
         ensures size { OnErr result (length bytes.now ≤ block_size_limit) }
@@ -207,7 +215,7 @@ impl<S: SigScheme> Core<S> {
     pub fn arrive_seen(&mut self, seen: Seen<S>) -> Result<ArriveReply, AllocError>
         // For every state of the definitions that the core stands for, this is a step to one that it then stands for.
         ensures step { Steps S.verifies self.old (Arrive seen) (arrive_reply_of result) self.new }
-        // Memory is asked for only where no refusal applies.
+        // Memory runs out only where no refusal applies.
         ensures memory { OnErr result ((s : State) → Stands self.old s → (refusal : history.Refusal) →
             Applies (network_held self.old S.verifies) s seen refusal → ⊥) }
         ensures size { OnErr result (length seen ≤ block_size_limit) }
@@ -239,7 +247,7 @@ impl<S: SigScheme> Core<S> {
     /// for from the first part of a transaction on that is read.
     pub fn submit(&mut self, bytes: &[u8]) -> Result<SubmitReply, AllocError>
         ensures step { Steps S.verifies self.old (Submit bytes.now) (submit_reply_of result) self.new }
-        // Where the bytes are the text of a transaction without parts, no memory is asked for.
+        // Memory runs out only where the bytes begin as a transaction does, and not at one without parts.
         ensures memory { OnErr result (IsWantAtSubmission bytes.now) }
         ensures start { KeepsStart self.old self.new }
         ensures err { OnErr result (self.new ≡ self.old) }
@@ -255,7 +263,7 @@ impl<S: SigScheme> Core<S> {
     pub fn submit_checked(&mut self, tx: CheckedTx<S>) -> Result<SubmitReply, AllocError>
         ensures step { (bytes : List ℕ) → SpellsTransaction tx bytes →
             Steps S.verifies self.old (Submit bytes) (submit_reply_of result) self.new }
-        // Memory is asked for only where it isn't known without it what is answered.
+        // Memory runs out only where it isn't known without it what is answered.
         ensures memory { OnErr result ((bytes : List ℕ) → SpellsTransaction tx bytes →
             IsWantOf (network_held self.old S.verifies) self.old.chain self.old.mempool bytes) }
         ensures start { KeepsStart self.old self.new }
@@ -307,7 +315,7 @@ impl<S: SigScheme> Core<S> {
     /// how many lower numbers are free.
     pub fn open(&mut self) -> Result<FollowerId, OpenFollowerFault>
         ensures step { Steps S.verifies self.old Open (open_reply_of result) self.new }
-        // Memory is asked for only where a number is free.
+        // Memory runs out only where a number is free.
         ensures memory { IfErr result (IsWantAtOpen self.old) }
         ensures start { KeepsStart self.old self.new }
         ensures err { OnErr result (self.new ≡ self.old) }
@@ -326,7 +334,7 @@ impl<S: SigScheme> Core<S> {
     /// In constant time, however far along the follower is. Shares the block, and copies none of its bytes.
     pub fn next(&mut self, id: FollowerId) -> Result<Option<Instruction<S>>, NextFault>
         ensures step { Steps S.verifies self.old (Next id.number) (next_reply_of result) self.new }
-        // Memory is asked for only where a block comes next.
+        // Memory runs out only where a block comes next.
         ensures memory { IfErr result (IsWantAtNext self.old id.number) }
         ensures start { KeepsStart self.old self.new }
         ensures err { OnErr result (self.new ≡ self.old) }
@@ -344,7 +352,7 @@ impl<S: SigScheme> Core<S> {
     pub fn peek(&self, id: FollowerId) -> Result<Option<Instruction<S>>, NextFault>
         // From every state of the definitions that the core stands for there is a step in which this is answered.
         ensures step { Peeks S.verifies self.now id.number (next_reply_of result) }
-        // Memory is asked for only where a block comes next.
+        // Memory runs out only where a block comes next.
         ensures memory { IfErr result (IsWantAtNext self.now id.number) }
     {
         let height = self.height();

@@ -3,16 +3,17 @@
 ghost use Rattle.std.specs.Prelude.{◌≡◌, ℕ, List, IfOk, IfErr};
 ghost use Rattle.model.specs.Signature.{Verifies};
 ghost use Rattle.model.specs.Block.{Block};
-ghost use Rattle.model.specs.Ledger.{network_of, network_on};
-ghost use Rattle.model.specs.Applying.{LedgerState as Before, IsApplied, IsStateOf};
+ghost use Rattle.model.specs.Applying.{LedgerState as Before, IsApplied};
 ghost use Rattle.block.specs.Read.{IsRead, IsReadFault};
 ghost use Rattle.ledger.specs.Judgement.{IsApplyFault};
-ghost use Rattle.chain_core.specs.Reopening.{AreRead, IsReopenFault, IsNotNext, texts_in};
+ghost use Rattle.chain_core.specs.Reopening.{IsNotNext};
 
+use crate::node_core::Core;
 use block::{CheckedBlock, ReadFault};
 use genesis::Genesis;
 use ledger::{ApplyFault, LedgerState, apply_block_diff};
 use std::alloc::{AllocError, Global};
+use std::marker::Model;
 use thiserror::Error;
 use witness_pool::SigScheme;
 
@@ -91,25 +92,130 @@ fn next_block<S: SigScheme>(
     }
 }
 
-/// The chain of these blocks, from the first one on. Each is read, hashed and judged once, at its own slot.
-pub fn read_chain<S: SigScheme>(
+/// A chain on which a core will be opened, block after block: a program that restarts needs no text but that of the
+/// block that comes next, where [`Core::reopen`] wants all of them.
+///
+/// ```text
+/// let mut reopening = Reopening::<TestScheme>::new(alloc, genesis)?;
+/// for text in texts { // what was kept of `core.block(1)` to `core.block(core.immutable())`
+///     reopening = reopening.push(text)?;
+/// }
+/// let core = reopening.finish()?;
+/// ```
+///
+/// In contracts it is the genesis and the chain so far, which is valid.
+pub struct Reopening<S: SigScheme> {
     alloc: Global,
-    genesis: &Genesis,
-    blocks: &[Vec<u8>],
-) -> Result<OpenedChain<S>, ReopenFault>
-    ensures read { IfOk result (λ on. AreRead on.chain.items (texts_in blocks.now)) }
-    ensures state { IfOk result (λ on. (opened : List Block) →
-        IsStateOf (network_on genesis.now S.verifies opened) on.chain.items on.state) }
-    ensures fault { IfErr result (IsReopenFault (network_of genesis.now S.verifies) (texts_in blocks.now)) }
-{
-    let mut state = LedgerState::new(alloc, genesis)?;
-    let mut chain = Vec::with_capacity(alloc, blocks.len())?;
-    for (index, bytes) in blocks.iter().enumerate() {
-        let (after, block) = next_block(alloc, state, index as u64 + 1, bytes)?;
-        state = after;
+    genesis: Genesis,
+    state: LedgerState,
+    chain: Vec<CheckedBlock<S>>,
+}
+
+// By hand, so that each exit calls it: the derived one is copied to each exit of each owner.
+impl<S: SigScheme> Drop for Reopening<S> {
+    fn drop(self) {
+        let Reopening {
+            alloc: _,
+            genesis: _,
+            state: _,
+            chain: _,
+        } = self;
+    }
+}
+
+impl<S: SigScheme> Model for Reopening<S> {
+    ghost use Rattle.chain_core.specs.ChainSoFar.{ChainSoFar, coded_so_far};
+
+    ghost Value = { ChainSoFar };
+
+    ghost coded = { coded_so_far };
+
+    ghost use Rattle.chain_core.specs.ReopeningInside.{so_far, IsReadInside};
+
+    ghost view = { so_far };
+
+    ghost invariant = { IsReadInside S.verifies };
+}
+
+impl<S: SigScheme> Reopening<S> {
+    ghost use Rattle.std.specs.Prelude.{◌≡◌, List, [], ◌∷◌, ◌++◌, IfOk, IfErr};
+    ghost use Rattle.model.specs.Block.{Block as Plain};
+    ghost use Rattle.model.specs.Ledger.{network_of};
+    ghost use Rattle.block.specs.Read.{IsRead};
+    ghost use Rattle.chain_core.specs.Held.{opening_held};
+    ghost use Rattle.chain_core.specs.Immutable.{texts_of};
+    ghost use Rattle.chain_core.specs.Reopening.{IsChainOf, IsReopenFault, WereImmutable};
+    ghost use Rattle.chain_core.specs.declared.reopening.ReopenFault.TheVariants as reopen;
+
+    /// The chain of this genesis without a block. Err where memory runs out. Takes one insertion for each output of the
+    /// genesis.
+    pub fn new(alloc: Global, genesis: Genesis) -> Result<Reopening<S>, AllocError>
+        ensures genesis { IfOk result (λ begun. begun.genesis ≡ genesis) }
+        ensures chain { IfOk result (λ begun. begun.chain ≡ []) }
+    {
+        let state = LedgerState::new(alloc, &genesis)?;
+        let chain = Vec::new(alloc);
+        Ok(Reopening {
+            alloc,
+            genesis,
+            state,
+            chain,
+        })
+    }
+
+    /// The chain with the block of these bytes as its next one. Where they are the text of no block, or the block can't
+    /// come next, its number is told, counted from 1; or memory ran out. The chain is then gone.
+    ///
+    /// Reads, hashes and judges the block once, at its own slot, and copies its bytes once.
+    pub fn push(self, bytes: &[u8]) -> Result<Reopening<S>, ReopenFault>
+        ensures genesis { IfOk result (λ next. next.genesis ≡ self.genesis) }
+        // It has the block that is read of the bytes, and nothing else is new.
+        ensures block { IfOk result (λ next. (b : Plain)
+            × IsRead b bytes.now × (next.chain ≡ self.chain ++ b ∷ [])) }
+        // So its texts are those of before, and then the bytes.
+        ensures texts { IfOk result (λ next. texts_of next.chain ≡ texts_of self.chain ++ bytes.now ∷ []) }
+        // They are those of a valid chain.
+        ensures chain { IfOk result (λ next.
+            IsChainOf (network_of self.genesis S.verifies) (texts_of next.chain) next.chain) }
+        // Else it is the first block that is none or can't come next, or memory ran out.
+        ensures fault { IfErr result (IsReopenFault (network_of self.genesis S.verifies)
+            (texts_of self.chain ++ bytes.now ∷ [])) }
+        // No block is told of the blocks that a node kept of those that no rollback reaches.
+        ensures again { IfErr result (λ fault. WereImmutable (network_of self.genesis S.verifies)
+            (texts_of self.chain ++ bytes.now ∷ []) → fault ≡ reopen.OutOfMemory) }
+    {
+        let Reopening {
+            alloc,
+            genesis,
+            state,
+            mut chain,
+        } = self;
+        let number = chain.len() as u64 + 1;
+        let (after, block) = next_block(alloc, state, number, bytes)?;
         let Ok(()) = chain.push(block) else {
             return Err(ReopenFault::OutOfMemory);
         };
+        Ok(Reopening {
+            alloc,
+            genesis,
+            state: after,
+            chain,
+        })
     }
-    Ok(OpenedChain { state, chain })
+
+    /// The core whose selected chain this is: none of its blocks is ever rolled back, no transaction waits, and no
+    /// follower is open. Err where memory runs out. Notes the hash of each block; reads and copies none.
+    pub fn finish(self) -> Result<Core<S>, AllocError>
+        ensures core { IfOk result (λ core. core ≡ opening_held self.genesis self.chain) }
+        // The chain is valid, and each block is read of its text.
+        ensures chain { IsChainOf (network_of self.genesis S.verifies) (texts_of self.chain) self.chain }
+    {
+        let Reopening {
+            alloc,
+            genesis,
+            state,
+            chain,
+        } = self;
+        Core::on(alloc, genesis, OpenedChain { state, chain })
+    }
 }
