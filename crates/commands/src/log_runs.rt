@@ -1,6 +1,6 @@
 //! Runs on a log, and what a log has.
 
-ghost use Rattle.std.specs.Prelude.{◌≡◌, ℕ, false, IsOk, OnOk, IfOk, IfSome, IsErrOf, length};
+ghost use Rattle.std.specs.Prelude.{◌≡◌, ◌++◌, [], ℕ, false, IsOk, OnOk, IfOk, IfSome, IsErrOf, length};
 ghost use Rattle.model.specs.Signature.{test_verifies};
 ghost use Rattle.model.specs.Disk.{LeavesSince};
 ghost use Rattle.model.specs.Log.{OpensToBeginning};
@@ -14,9 +14,9 @@ use crate::failure::Failure;
 use crate::program::genesis_of_file;
 use chain_core::Core;
 use file_disk::FileDisk;
-use flushing::{core_on, flush};
+use flushing::{Restart, flush};
 use genesis::Genesis;
-use immlog::{AppendFault, Disk, Log, Look, LookFault, look_at};
+use immlog::{AppendFault, Disk, Log, Look, LookFault, Sink, look_at};
 use scenario::ScenarioFault;
 use std::alloc::Global;
 use std::fs;
@@ -24,24 +24,26 @@ use std::fs::{File, OpenFile, OpenOptions};
 use std::io::{BufReader, ErrorKind, Read, Write};
 use std::os::fd::AsRawFd;
 use std::rt::Files;
-use std::thread::Threads;
 use witness_pool::TestScheme;
 
-/// The log on a disk, which is made where the disk is empty.
-fn log_on<'a, D: Disk + Drop, R: Threads + Sync + AllocGlobal>(
-    rt: &R,
+/// The log on a disk, which is made where the disk is empty. Its blocks are given to the sink.
+fn log_on<'a, D: Disk + Drop, K: Sink>(
+    alloc: Global,
     disk: D,
     is_empty: bool,
+    sink: &mut K,
 ) -> Result<Log<D>, Failure<'a>>
     ensures sound { IfOk result (λ log. log.broken ≡ false) }
+    ensures given { IfOk result (λ log. K.given sink.new ≡ K.given sink.old ++ log.blocks) }
+    ensures kept { K.kept sink.new ≡ K.kept sink.old }
 {
     if is_empty {
-        return match Log::create(rt.alloc(), disk) {
+        return match Log::create(alloc, disk) {
             Ok(log) => Ok(log),
             Err(_) => Err(Failure::DiskFault),
         };
     }
-    match Log::open(rt, rt.alloc(), disk) {
+    match Log::open(alloc, disk, sink) {
         Ok(log) => Ok(log),
         Err((fault, _disk)) => Err(fault.into()),
     }
@@ -108,12 +110,16 @@ fn sync_folder<'a, R: Files + AllocGlobal>(rt: &R, path: &'a str) -> Result<(), 
 }
 
 /// The log of a file that is this program's. Where the file is empty, or is missing and may be made, it has no block.
-fn log_of_file<'a, R: Files<File = File> + AllocGlobal + Threads + Sync>(
+/// Its blocks are given to the sink.
+fn log_of_file<'a, R: Files<File = File> + AllocGlobal, K: Sink>(
     rt: &R,
     path: &'a str,
     may_make: bool,
+    sink: &mut K,
 ) -> Result<Log<FileDisk<File>>, Failure<'a>>
     ensures sound { IfOk result (λ log. log.broken ≡ false) }
+    ensures given { IfOk result (λ log. K.given sink.new ≡ K.given sink.old ++ log.blocks) }
+    ensures kept { K.kept sink.new ≡ K.kept sink.old }
 {
     let mut file = own_file(rt, path, may_make)?;
     refuse_others(rt.alloc(), &mut file, path)?;
@@ -124,7 +130,7 @@ fn log_of_file<'a, R: Files<File = File> + AllocGlobal + Threads + Sync>(
             if is_empty {
                 sync_folder(rt, path)?;
             }
-            log_on(rt, disk, is_empty)
+            log_on(rt.alloc(), disk, is_empty, sink)
         }
         Err(error) if error.kind() == ErrorKind::OutOfMemory => {
             Err(Failure::Scenario(ScenarioFault::OutOfMemory))
@@ -133,19 +139,30 @@ fn log_of_file<'a, R: Files<File = File> + AllocGlobal + Threads + Sync>(
     }
 }
 
-/// The core on a log's blocks. In a box it is dropped by a call, which keeps the proofs of what owns it short.
-fn core_of<'a, D: Disk>(
-    alloc: Global,
-    genesis: &Genesis,
-    log: &Log<D>,
-) -> Result<Box<Core<TestScheme>>, Failure<'a>>
-    ensures genesis { IfOk result (λ core. core.value.genesis ≡ genesis.now) }
-    ensures blocks { IfOk result (λ core. texts_of core.value.opened ≡ log.now.blocks) }
+/// What a core of this genesis is made with, while a log is opened.
+fn restart_of<'a>(alloc: Global, genesis: &Genesis) -> Result<Restart<TestScheme>, Failure<'a>>
+    ensures genesis { IfOk result (λ restart. restart.genesis ≡ genesis.now) }
+    ensures blocks { IfOk result (λ restart. restart.blocks ≡ []) }
 {
     let Ok(copy) = genesis.try_clone() else {
         return Err(Failure::Scenario(ScenarioFault::OutOfMemory));
     };
-    let core = match core_on(alloc, copy, log) {
+    match Restart::new(alloc, copy) {
+        Ok(restart) => Ok(restart),
+        Err(_) => Err(Failure::Scenario(ScenarioFault::OutOfMemory)),
+    }
+}
+
+/// The core on the blocks of a log that was opened. In a box it is dropped by a call, which keeps the proofs of what
+/// owns it short.
+fn core_of<'a>(
+    alloc: Global,
+    restart: Restart<TestScheme>,
+) -> Result<Box<Core<TestScheme>>, Failure<'a>>
+    ensures genesis { IfOk result (λ core. core.value.genesis ≡ restart.genesis) }
+    ensures blocks { IfOk result (λ core. texts_of core.value.opened ≡ restart.blocks) }
+{
+    let core = match restart.core() {
         Ok(core) => Box::new(alloc, core),
         Err(fault) => return Err(fault.into()),
     };
@@ -201,13 +218,15 @@ fn run_on_log<'a, D: Disk, R: Read, W: Write>(
 fn run_script<'a, D: Disk, R: Files + AllocGlobal, W: Write>(
     rt: &R,
     genesis: &Genesis,
+    core: Box<Core<TestScheme>>,
     log: &mut Log<D>,
     path: &'a str,
     out: &mut W,
 ) -> Result<(), Failure<'a>>
+    requires genesis { core.value.genesis ≡ genesis.now }
+    requires blocks { texts_of core.value.opened ≡ log.old.blocks }
     requires sound { log.old.broken ≡ false }
 {
-    let core = core_of(rt.alloc(), genesis, log)?;
     let Ok(file) = File::open(rt, path) else {
         return Err(Failure::CannotRead(path));
     };
@@ -223,7 +242,7 @@ fn run_script<'a, D: Disk, R: Files + AllocGlobal, W: Write>(
 /// Runs the script of a file under the genesis of another, on the log of a third, which is made where it is missing.
 /// The genesis is read first, then the log is opened, then the script is run. After that, also after a fault of the
 /// script, the blocks that are never rolled back any more are put onto the log.
-pub fn run_logged<'a, R: Files<File = File> + AllocGlobal + Threads + Sync, W: Write>(
+pub fn run_logged<'a, R: Files<File = File> + AllocGlobal, W: Write>(
     rt: &R,
     genesis: &'a str,
     script: &'a str,
@@ -231,31 +250,24 @@ pub fn run_logged<'a, R: Files<File = File> + AllocGlobal + Threads + Sync, W: W
     out: &mut W,
 ) -> Result<(), Failure<'a>> {
     let genesis = genesis_of_file(rt, genesis)?;
-    let mut log = log_of_file(rt, log, true)?;
-    run_script(rt, &genesis, &mut log, script, out)
+    let mut restart = restart_of(rt.alloc(), &genesis)?;
+    let mut log = log_of_file(rt, log, true, &mut restart)?;
+    let core = core_of(rt.alloc(), restart)?;
+    run_script(rt, &genesis, core, &mut log, script, out)
 }
 
-/// How high the chain of a log's blocks is.
-fn height_of<'a, D: Disk>(
-    alloc: Global,
-    genesis: &Genesis,
-    log: &Log<D>,
-) -> Result<u64, Failure<'a>> {
-    let core = core_of(alloc, genesis, log)?;
-    Ok(core.tip().number)
-}
-
-/// Opens the log of a file under the genesis of another, and prints how high its chain is.
-pub fn replay<'a, R: Files<File = File> + AllocGlobal + Threads + Sync, W: Write>(
+/// Opens the log of a file under the genesis of another, and prints how high its chain is. Has the log until then.
+pub fn replay<'a, R: Files<File = File> + AllocGlobal, W: Write>(
     rt: &R,
     genesis: &'a str,
     log: &'a str,
     out: &mut W,
 ) -> Result<(), Failure<'a>> {
     let genesis = genesis_of_file(rt, genesis)?;
-    let log = log_of_file(rt, log, false)?;
-    let height = height_of(rt.alloc(), &genesis, &log)?;
-    match write!(out, "height {height}\n") {
+    let mut restart = restart_of(rt.alloc(), &genesis)?;
+    let _log = log_of_file(rt, log, false, &mut restart)?;
+    let core = core_of(rt.alloc(), restart)?;
+    match write!(out, "height {}\n", core.tip().number) {
         Ok(()) => Ok(()),
         Err(_) => Err(Failure::Scenario(ScenarioFault::WriteFailed)),
     }

@@ -5,7 +5,8 @@ use Rattle.model.specs.Disk.{touched, MayLeave, IsWritten}
 use Rattle.http_server.specs.declared.log.Log.{Log}
 use Rattle.file_disk.specs.declared.step.Step.{Step}
 use Rattle.file_disk.specs.declared.step.Step.TheVariants.{Written, Cut}
-use Rattle.file_disk.specs.Steps.{noted, bytes_after, moment_of, steps_of}
+use Rattle.immlog.specs.Views.{noted}
+use Rattle.file_disk.specs.Steps.{bytes_after, moment_of, steps_of}
 use Rattle.file_disk.proofs.Changes.{left_written, left_cut}
 
 -- the newest step stands first

@@ -1,12 +1,9 @@
 -- What a file holds, and what a crash may leave of it, by what was done to it, the newest first.
-use Rattle.std.specs.Prelude.{◌+◌, ℕ, Bool, true, false, List, [], ◌∷◌, ◌++◌, length, take, drop, map, reverse}
+use Rattle.std.specs.Prelude.{◌+◌, ℕ, Bool, true, false, List, [], ◌∷◌, ◌++◌, length, take, drop, reverse}
 use Rattle.model.specs.Disk.{Moment, settled, touched}
+use Rattle.immlog.specs.Views.{noted}
 use Rattle.file_disk.specs.declared.step.Step.{Step}
 use Rattle.file_disk.specs.declared.step.Step.TheVariants.{Written, Cut, Synced}
-
--- what was noted, the oldest first
-abbrev pub noted : {A U : Type 0} → List (A × U) → List A
-noted items = map (λ item. item.0) items
 
 abbrev pub bytes_after : List Step → List ℕ
 bytes_after [] = []

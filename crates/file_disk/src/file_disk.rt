@@ -1,14 +1,14 @@
 //! A disk that is a file.
 
-ghost use Rattle.std.specs.Prelude.{◌≡◌, ◌↔◌, ◌+◌, ◌<◌, ◌≤◌, ◌^◌, [], ◌∷◌, length, take, IfOk, IsTrue};
+ghost use Rattle.std.specs.Prelude.{◌≡◌, ◌↔◌, ◌+◌, ◌<◌, ◌≤◌, ◌^◌, [], ◌∷◌, length, take, false, IfOk, IsTrue};
 ghost use Rattle.std.specs.Option.{ForSome};
 ghost use Rattle.model.specs.Disk.{MayLeave, IsWritten, settled, touched};
 ghost use Rattle.file_disk.specs.Steps.{bytes_after, is_as_opened, moment_of, past_of, steps_of};
 
 use crate::giving::{from_place, give};
-use crate::step::{Step, note_bytes};
+use crate::step::Step;
 use http_server::Log;
-use immlog::{Disk, DiskFailed};
+use immlog::{Disk, DiskFailed, fill, note_bytes};
 use std::alloc::Global;
 use std::fs::OpenFile;
 use std::io;
@@ -18,11 +18,12 @@ use std::io::{Read, Seek, SeekFrom, Write};
 const MOST_BYTES: usize = 0x7fff_ffff_ffff_ffff;
 
 /// A file as a disk. In memory it keeps what the file gave when it was opened until the first change, and nothing from
-/// then on: no contract can say what a file of the system gives later, so each read then fails. Each change is noted in
-/// a list that only proofs read, which takes no memory; so no call takes any. Once the system failed in a call it isn't
-/// known what the file holds: from then on each call fails but [`Disk::put_back`]. [`FileDisk::into_file`] gives the
-/// file, on which a disk may be opened anew, to be read or after a failure. That the file holds what was written, and
-/// that after a sync that succeeds a crash leaves it, is trusted of the system.
+/// then on: no contract can say what a file of the system gives later, so each read then fails, and nothing is promised
+/// of what [`Disk::fetch`] gives. Each change is noted in a list that only proofs read, which takes no memory; so no call
+/// takes any. Once the system failed in a write, a cut or a sync it isn't known what the file holds: from then on each
+/// call fails but [`Disk::put_back`]. [`FileDisk::into_file`] gives the file, on which a disk may be opened anew, to be
+/// read or after a failure. That the file holds what was written, and that after a sync that succeeds a crash leaves it,
+/// is trusted of the system.
 #[derive(Drop)]
 pub struct FileDisk<F: Read + Write + Seek + OpenFile + Drop> {
     file: F,
@@ -51,6 +52,14 @@ fn write_file<F: Write + Seek>(file: &mut F, place: usize, bytes: &[u8]) -> io::
     file.seek(SeekFrom::Start(place as u64))?;
     file.write_all(bytes)?;
     file.flush()
+}
+
+/// Reads what the file has from a place on, and answers how many bytes that were.
+fn fetch_file<F: Read + Seek>(file: &mut F, place: usize, into: &mut [u8]) -> io::Result<usize>
+    ensures { IfOk result (λ count. count ≤ length into.old) }
+{
+    file.seek(SeekFrom::Start(place as u64))?;
+    fill(file, into)
 }
 
 impl<F: Read + Write + Seek + OpenFile + Drop> FileDisk<F> {
@@ -147,6 +156,8 @@ impl<F: Read + Write + Seek + OpenFile + Drop> Disk for FileDisk<F> {
 
     ghost failures = { λ d. d.failures };
 
+    ghost keeps = { false };
+
     ghost read_is_left = { λ d. d.left };
 
     ghost fits = { λ d. d.small };
@@ -156,6 +167,16 @@ impl<F: Read + Write + Seek + OpenFile + Drop> Disk for FileDisk<F> {
             && let Some(bytes) = &self.held
         {
             return Ok(give(from_place(bytes, place), into));
+        }
+        self.failures = self.failures.wrapping_add(1);
+        Err(DiskFailed)
+    }
+
+    fn fetch(&mut self, place: usize, into: &mut [u8]) -> Result<usize, DiskFailed> {
+        if !self.has_failed
+            && let Ok(count) = fetch_file(&mut self.file, place, into)
+        {
+            return Ok(count);
         }
         self.failures = self.failures.wrapping_add(1);
         Err(DiskFailed)

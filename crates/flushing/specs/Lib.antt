@@ -1,3 +1,5 @@
+pub mod Restarting
+pub mod RestartView
 pub mod Texts
 pub mod Sharing
 pub mod Beginning

@@ -1,45 +1,21 @@
 //! Blocks that go onto the log.
 
-ghost use Rattle.std.specs.Prelude.{◌≡◌, ◌↔◌, ◌≤◌, List, length, drop, true, false, IfOk, IfErr, OnOk, IsErrOf};
-ghost use Rattle.std.specs.List.{AllByRecursion};
+ghost use Rattle.std.specs.Prelude.{◌≡◌, ◌↔◌, length, true, false, OnOk, IsErrOf};
 ghost use Rattle.model.specs.Disk.{Leaves, LeavesSince, one_more};
-ghost use Rattle.model.specs.Log.{IsLogBlock, Opens, OpensToBeginning, IsLogOf};
-ghost use Rattle.immlog.specs.Views.{lists_of};
-ghost use Rattle.model.specs.Ledger.{network_of};
-ghost use Rattle.chain_core.specs.Held.{opening_held};
-ghost use Rattle.chain_core.specs.Reopening.{IsChainOf, IsReopenFault, WereImmutable};
-ghost use Rattle.chain_core.specs.declared.reopening.ReopenFault.TheVariants as reopen;
-ghost use Rattle.chain_core.specs.Immutable.{texts_of, immutable_texts};
+ghost use Rattle.model.specs.Log.{Opens, OpensToBeginning, IsLogOf};
+ghost use Rattle.chain_core.specs.Immutable.{immutable_texts};
 ghost use Rattle.flushing.specs.Texts.{Begins};
 
-use chain_core::{Core, ReopenFault};
-use genesis::Genesis;
+use chain_core::Core;
 use immlog::{AppendFault, Disk, Log};
-use std::alloc::{AllocError, Global};
+use std::alloc::AllocError;
 use witness_pool::SigScheme;
 
-/// Opens a core on the log's blocks, as [`Core::reopen`] does.
-pub fn core_on<D: Disk, S: SigScheme>(
-    alloc: Global,
-    genesis: Genesis,
-    log: &Log<D>,
-) -> Result<Core<S>, ReopenFault>
-    ensures opened { IfOk result (λ core. core ≡ opening_held genesis core.opened) }
-    // It was opened on a valid chain of these blocks.
-    ensures chain { IfOk result (λ core. IsChainOf (network_of genesis S.verifies) log.now.blocks core.opened) }
-    ensures blocks { IfOk result (λ core. texts_of core.opened ≡ log.now.blocks) }
-    ensures fault { IfErr result (IsReopenFault (network_of genesis S.verifies) log.now.blocks) }
-    // Of blocks that a node put there, of those that no rollback reaches, none is told as invalid.
-    ensures again { IfErr result (λ fault. WereImmutable (network_of genesis S.verifies) log.now.blocks
-        → fault ≡ reopen.OutOfMemory) }
-{
-    Core::reopen(alloc, genesis, log.blocks())
-}
-
 /// Puts the core's blocks that are never rolled back onto the log, behind those that it has, which are the first of
-/// them. Err where the log is broken, else where memory ran out for copies, else where the disk failed.
+/// them. Err where the log is broken, else where memory ran out for copies or for what [`Log::append`] takes, else where
+/// the disk failed.
 ///
-/// Copies the new blocks twice, once of them for the log to keep, and writes them as [`Log::append`] does.
+/// Copies the new blocks once, and writes them as [`Log::append`] does.
 pub fn flush<D: Disk, S: SigScheme>(log: &mut Log<D>, core: &Core<S>) -> Result<(), AppendFault>
     requires { Begins log.old.blocks (immutable_texts S.verifies core.now) }
 

@@ -38,7 +38,7 @@ pub fn immutable_blocks_grow()
         → OpensToBeginning least (immutable_texts verifies after) bytes }
 {}
 
-/// What [`crate::flush`] puts onto a log can be opened again: [`crate::core_on`] tells no block of it as invalid.
+/// What [`crate::flush`] puts onto a log can be opened again: [`crate::Restart::core`] tells no block of it as invalid.
 pub fn flushed_blocks_open_again()
     // Of a core that was opened on blocks that were read, or on none, and that stands for what a legal history left,
     // the first of its blocks that are never rolled back are such.

@@ -13,38 +13,35 @@ ghost use Rattle.flushing.specs.Beginning.{IsSharedOnFault};
 ghost use Rattle.flushing.specs.Sharing.{BeginAfter};
 ghost use Rattle.flushing.specs.Texts.{Begins};
 
-use crate::copying::core_on;
 use crate::fault::SharedOnFault;
-use genesis::Genesis;
+use crate::restart::Restart;
 use immlog::{AppendFault, Disk, Log};
 use shared::{Caller, MAX_CALLERS, Opened, Room, Shared};
-use std::alloc::{AllocError, Global};
+use std::alloc::AllocError;
 use std::sync::Wait;
 use witness_pool::SigScheme;
 
-/// Opens a shared core for so many callers, 1 to 64, on the log's blocks: its journal begins there, and its height is
-/// how many they are. Err where the callers are fewer or more, else where a block of the log is none that may come
-/// next, or where memory ran out. Costs what [`core_on`] costs.
-pub fn shared_on<D: Disk, S: SigScheme>(
-    alloc: Global,
-    genesis: Genesis,
-    log: &Log<D>,
-    callers: usize,
-) -> Result<Opened<S>, SharedOnFault>
-    ensures genesis { IfOk result (λ opened. opened.start.genesis ≡ genesis) }
-    // It was opened on a valid chain of these blocks.
-    ensures chain { IfOk result (λ opened.
-        IsChainOf (network_of genesis S.verifies) log.now.blocks opened.start.opened) }
-    ensures blocks { IfOk result (λ opened. texts_of opened.start.opened ≡ log.now.blocks) }
-    ensures callers { IfOk result (λ opened. opened.callers ≡ callers) }
-    ensures fault { IfErr result (IsSharedOnFault (network_of genesis S.verifies) log.now.blocks callers) }
-{
-    if callers == 0 || callers > MAX_CALLERS {
-        return Err(SharedOnFault::BadCallers);
+impl<S: SigScheme> Restart<S> {
+    /// A shared core for so many callers, 1 to 64, on the blocks that were given: its journal begins there, and its
+    /// height is how many they are. Err where the callers are fewer or more, else at the first block that is none or
+    /// can't come next, or where memory ran out.
+    pub fn shared(self, callers: usize) -> Result<Opened<S>, SharedOnFault>
+        ensures genesis { IfOk result (λ opened. opened.start.genesis ≡ self.genesis) }
+        // It was opened on a valid chain of these blocks.
+        ensures chain { IfOk result (λ opened.
+            IsChainOf (network_of self.genesis S.verifies) self.blocks opened.start.opened) }
+        ensures blocks { IfOk result (λ opened. texts_of opened.start.opened ≡ self.blocks) }
+        ensures callers { IfOk result (λ opened. opened.callers ≡ callers) }
+        ensures fault { IfErr result (IsSharedOnFault (network_of self.genesis S.verifies) self.blocks callers) }
+    {
+        if callers == 0 || callers > MAX_CALLERS {
+            return Err(SharedOnFault::BadCallers);
+        }
+        let alloc = self.alloc;
+        let core = self.core()?;
+        let opened = Opened::on(alloc, core, callers)?;
+        Ok(opened)
     }
-    let core = core_on(alloc, genesis, log)?;
-    let opened = Opened::on(alloc, core, callers)?;
-    Ok(opened)
 }
 
 /// Puts the blocks of a shared core that are never rolled back onto the log, behind those that it has, which are the

@@ -2,9 +2,12 @@ pub mod Moments
 pub mod Fronts
 pub mod Crashes
 pub mod Rows
+pub mod Indexed
 pub mod Appending
 pub mod Reading
 pub mod Framing
 pub mod Recovering
 pub mod Looking
+pub mod AtPlace
 pub mod Torn
+pub mod Again

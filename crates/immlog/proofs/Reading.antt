@@ -1,12 +1,10 @@
 -- Records, read from bytes.
-use Rattle.std.proofs.Common.{◌≡◌, ℕ, zero, suc, ◌+◌, ◌-◌, ◌<◌, List, [], ◌∷◌, ◌++◌, length, take, drop, get_or, refl, sym, ◌∙◌, ap, arith, length-append, Vec}
-use Rattle.std.proofs.lemmas.List.{take-append-drop, take_all, length-drop, length-take-le, map-append}
-use Rattle.std.specs.declared.alloc.Global.{Global}
+use Rattle.std.proofs.Common.{◌≡◌, ℕ, zero, suc, ◌+◌, ◌-◌, ◌<◌, List, [], ◌∷◌, ◌++◌, length, take, drop, get_or, refl, sym, ◌∙◌, ap, arith, length-append}
+use Rattle.std.proofs.lemmas.List.{take-append-drop, take_all, length-drop, length-take-le}
 use Rattle.std.specs.Int.{w32, from_be_bytes}
 use Rattle.sha2.specs.Sha256.{sha256}
 use Rattle.model.specs.Log.{IsLogBlock, body_of}
 use Rattle.model.proofs.LogTexts.{length-body_of, ArePartsOf, parts_of}
-use Rattle.immlog.specs.Views.{lists_of, HasCopied}
 
 -- bytes of a list are bytes in its beginnings
 pub bytes_below : (bs : List ℕ) (n : ℕ) → ((i : ℕ) → get_or bs i 0 < 256) → (i : ℕ) → get_or (take n bs) i 0 < 256
@@ -65,8 +63,3 @@ block_taken bytes size digest rest front block more n split n_is front_is is_blo
 
 pub tail_slice : (bytes : List ℕ) (n : ℕ) → take (length bytes - n) (drop n bytes) ≡ drop n bytes
 tail_slice bytes n = take_all (length bytes - n) (drop n bytes) (omega (arith, length-drop n bytes))
-
--- one more copy behind the others
-pub copied_one : (old new : List (Vec ℕ Global)) (block : List ℕ) → HasCopied old new (block ∷ []) → lists_of new ≡ lists_of old ++ block ∷ []
-copied_one old new block copied =
-    ap lists_of copied.behind ∙ (map-append (λ (v : Vec ℕ Global). v.items) old copied.copies ∙ ap (λ (l : List (List ℕ)). lists_of old ++ l) copied.same)

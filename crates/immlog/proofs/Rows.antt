@@ -4,7 +4,7 @@ use Rattle.std.proofs.lemmas.List.{take_all, append-nil, length-take, length-dro
 use Rattle.std.specs.declared.alloc.Global.{Global}
 use Rattle.std.specs.List.{AllByRecursion}
 use Rattle.model.specs.Disk.{Moment, settled, MayLeave, Leaves, LeavesSince}
-use Rattle.model.specs.Log.{IsLogBlock, at_rest, IsLogOf}
+use Rattle.model.specs.Log.{IsLogBlock, at_rest, IsLogOf, Opens}
 use Rattle.immlog.specs.Views.{lists_of}
 use Rattle.immlog.proofs.Moments.{since_weaker}
 
@@ -79,6 +79,10 @@ pub rest_leaves : (blocks : List (List ℕ)) (least : ℕ) (m : Moment) (bytes :
 rest_leaves blocks least m bytes sizes is rest le =
     settled_leaves (IsLogOf least blocks) m bytes is
     (subst (IsLogOf least blocks) (sym rest) (fewer_sure (length blocks) least blocks (at_rest blocks) le (rest_is_log blocks sizes)))
+
+pub rest_opens : (blocks : List (List ℕ)) (m : Moment) (bytes : List ℕ) → AllByRecursion IsLogBlock blocks → m ≡ settled bytes → bytes ≡ at_rest blocks → Leaves (λ (left : List ℕ). Opens left blocks) m
+rest_opens blocks m bytes sizes is rest =
+    settled_leaves (λ (left : List ℕ). Opens left blocks) m bytes is (record { rest = 0 ∷ []; text = rest; closed = λ gate. cc; sizes = sizes })
 
 -- the whole row
 pub row_all : (xs : List (Vec ℕ Global)) (d : ℕ) → length xs ≤ d → take d (lists_of xs) ≡ lists_of xs

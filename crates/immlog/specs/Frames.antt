@@ -1,22 +1,9 @@
--- Records as they are found by the lengths that they tell, before their digests are compared.
-use Rattle.std.specs.Prelude.{◌≡◌, ◌≢◌, ℕ, ◌+◌, ◌≤◌, List, [], ◌∷◌, ◌++◌, Bool, true, false, length, drop, map}
-use Rattle.std.specs.List.{AllByRecursion}
+-- Records as they are found by the lengths that they tell, before their digests are compared and after.
+use Rattle.std.specs.Prelude.{◌≡◌, ℕ, List, ◌∷◌, ◌++◌, length}
 use Rattle.std.specs.Int.{w32, to_be_bytes}
 use Rattle.sha2.specs.Sha256.{sha256}
 use Rattle.model.specs.Limits.{hash_size}
-use Rattle.model.specs.Log.{IsLogBlock, body_of, IsClosed}
-
--- the records that have these blocks and these digests, one after the other, and then more bytes
-abbrev pub framed : List (List ℕ) → List (List ℕ) → List ℕ → List ℕ
-framed [] digests more = more
-framed (block ∷ blocks) [] more = more
-framed (block ∷ blocks) (digest ∷ digests) more =
-    1 ∷ (to_be_bytes w32 (length block) ++ (digest ++ (block ++ framed blocks digests more)))
-
--- how many bytes the records of these blocks have
-abbrev pub sizes_of : List (List ℕ) → ℕ
-sizes_of [] = 0
-sizes_of (block ∷ blocks) = 37 + length block + sizes_of blocks
+use Rattle.model.specs.Log.{IsLogBlock, body_of}
 
 -- but for its digest, which is this one, the record of the block begins behind its gate
 pub record BeginsWithFrame (digest block bytes : List ℕ) : Type 0 where
@@ -24,6 +11,11 @@ pub record BeginsWithFrame (digest block bytes : List ℕ) : Type 0 where
   pub size : IsLogBlock block
   pub long : length digest ≡ hash_size
   pub text : bytes ≡ to_be_bytes w32 (length block) ++ (digest ++ (block ++ more))
+
+-- the record of the block begins behind its gate, and this is its digest
+pub record BeginsWithRecord (digest block bytes : List ℕ) : Type 0 where
+  pub frame : BeginsWithFrame digest block bytes
+  pub same : digest ≡ sha256 block
 
 -- no record of any block begins behind its gate
 abbrev pub NoRecordBehind : List ℕ → Type 0
@@ -34,30 +26,3 @@ pub record IsOpenInVain (bytes : List ℕ) : Type 0 where
   pub rest : List ℕ
   pub text : bytes ≡ 1 ∷ rest
   pub none : NoRecordBehind rest
-
--- the records with these blocks and digests end at this place
-pub record AreFrames (bytes : List ℕ) (place : ℕ) (blocks digests : List (List ℕ)) : Type 0 where
-  pub within : place ≤ length bytes
-  pub text : bytes ≡ framed blocks digests (drop place bytes)
-  pub place_is : place ≡ sizes_of blocks
-  pub sizes : AllByRecursion IsLogBlock blocks
-  pub long : AllByRecursion (λ digest. length digest ≡ hash_size) digests
-  pub many : length digests ≡ length blocks
-
--- and there they end: the gate isn't open, or it is and no record begins behind it
-pub record AreAllFrames (bytes : List ℕ) (place : ℕ) (blocks digests : List (List ℕ)) (shut : Bool) : Type 0 where
-  pub are : AreFrames bytes place blocks digests
-  pub closed : shut ≡ true → IsClosed (drop place bytes)
-  pub vain : shut ≡ false → IsOpenInVain (drop place bytes)
-
--- these are the digests of the blocks before one, whose digest is another, and whose record begins at this place
-pub record IsSpoilt (blocks digests : List (List ℕ)) (place : ℕ) : Type 0 where
-  pub before : List (List ℕ)
-  pub block : List ℕ
-  pub after : List (List ℕ)
-  pub digest : List ℕ
-  pub others : List (List ℕ)
-  pub blocks_are : blocks ≡ before ++ block ∷ after
-  pub digests_are : digests ≡ map sha256 before ++ digest ∷ others
-  pub other : digest ≢ sha256 block
-  pub place_is : place ≡ sizes_of before

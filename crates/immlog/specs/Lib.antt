@@ -1,7 +1,11 @@
 pub mod Steps
 pub mod Views
+pub mod Index
 pub mod Frames
+pub mod Here
 pub mod OpenLog
 pub mod HeldLog
 pub mod Left
 pub mod Walks
+pub mod Numbered
+pub mod Fetched

@@ -1,6 +1,6 @@
 //! A disk, as the log sees it.
 
-ghost use Rattle.std.specs.Prelude.{◌≡◌, ℕ, ◌+◌, ◌^◌, ◌<◌, ◌≤◌, List, [], ◌∷◌, length, take, IfOk, OnOk, OnErr};
+ghost use Rattle.std.specs.Prelude.{◌≡◌, ℕ, ◌+◌, ◌^◌, ◌<◌, ◌≤◌, Bool, true, List, [], ◌∷◌, length, take, IfOk, OnOk, OnErr};
 ghost use Rattle.model.specs.Disk.{Moment, settled, Stays, MayLeave, IsGiven, IsWritten, IsTouched, IsCounted};
 
 use thiserror::Error;
@@ -27,11 +27,24 @@ pub trait Disk {
     /// How often the disk has failed, counted in 64 bits.
     ghost failures: { Self → ℕ };
 
+    /// Whether such a disk fetches just what a read gives: one in memory may say so, of a file nobody can.
+    ghost keeps: { Bool };
+
     /// Reads from a place on, and answers how many bytes it gave: fewer than there is room for only at the end. Err
     /// where the disk failed, or can't tell any more what it holds, as one that was changed since it was opened; what
     /// stands in the room for the bytes is then not said.
     fn read(&mut self, place: usize, into: &mut [u8]) -> Result<usize, DiskFailed>
         ensures given { IfOk result (IsGiven (reads self.old) place into.old into.new) }
+        ensures same { reads self.new ≡ reads self.old }
+        ensures still { moment self.new ≡ moment self.old }
+        ensures clock { past self.new ≡ past self.old }
+        ensures failures { IsCounted (failures self.old) (failures self.new) result };
+
+    /// Reads from a place on what now stands there, and answers how many bytes it gave. Of a disk that doesn't keep what
+    /// it holds nothing is promised of them. Err where the disk failed.
+    fn fetch(&mut self, place: usize, into: &mut [u8]) -> Result<usize, DiskFailed>
+        ensures within { IfOk result (λ count. count ≤ length into.old) }
+        ensures given { keeps ≡ true → IfOk result (IsGiven (reads self.old) place into.old into.new) }
         ensures same { reads self.new ≡ reads self.old }
         ensures still { moment self.new ≡ moment self.old }
         ensures clock { past self.new ≡ past self.old }

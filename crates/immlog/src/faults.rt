@@ -20,7 +20,7 @@ pub enum OpenLogFault {
     /// The disk failed in this call.
     #[error("disk fault")]
     DiskFault,
-    /// Memory ran out for the bytes of the disk, or for the blocks.
+    /// Memory ran out for the longest record, or for what is kept of each block.
     #[error("out of memory")]
     OutOfMemory,
 }
@@ -31,10 +31,27 @@ pub enum AppendFault {
     /// The disk failed in an earlier call, and the log wasn't opened again since.
     #[error("the log is broken")]
     Broken,
-    /// Memory ran out for the copies that the log keeps. The disk wasn't touched.
+    /// Memory ran out for what is kept of each block, or for the longest record. The disk wasn't touched.
     #[error("out of memory")]
     OutOfMemory,
     /// The disk failed in this call. The log is broken now.
     #[error("disk fault")]
     DiskFault,
+}
+
+/// Why a block isn't read again.
+#[derive(Clone, Copy, Debug, PartialEq, Eq, Error)]
+pub enum ReadFault {
+    /// The disk failed in an earlier call, and the log wasn't opened again since.
+    #[error("the log is broken")]
+    Broken,
+    /// Where the block of this number, counted from 1, should be, the disk gives fewer bytes, or others.
+    #[error("block {0} is damaged")]
+    Damaged(u64),
+    /// The disk failed in this call. The log is broken now.
+    #[error("disk fault")]
+    DiskFault,
+    /// Memory ran out for the block.
+    #[error("out of memory")]
+    OutOfMemory,
 }

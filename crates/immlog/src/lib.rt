@@ -2,24 +2,30 @@
 //!
 //! ```text
 //! let seen = look_at(alloc, &mut reader)?; // whether a log left these bytes; changes none
-//! let mut log = Log::open(rt, alloc, disk)?; // or the disk again, beside why not
+//! let mut log = Log::open(alloc, disk, &mut sink)?; // or the disk again, beside why not
 //! log.append(&blocks)?;                  // once it answers Ok, each crash leaves them all
 //! println!(rt; "{}", log.durable())?;
+//! let block = log.block(1)?;             // the first one, read again
 //! let disk = log.into_disk();
 //! ```
 #![tactic(auto)]
 
-mod copies;
-mod digests;
+mod blocks;
 mod disk;
 mod faults;
+mod fetching;
+mod here;
+mod index;
 mod log;
 mod look;
 mod put;
 mod records;
 mod recover;
+mod sink;
 
+pub use blocks::{Blocks, note_bytes};
 pub use disk::{Disk, DiskFailed};
-pub use faults::{AppendFault, CreateFault, OpenLogFault};
+pub use faults::{AppendFault, CreateFault, OpenLogFault, ReadFault};
 pub use log::Log;
-pub use look::{Look, LookFault, look_at};
+pub use look::{Look, LookFault, fill, look_at};
+pub use sink::{Nobody, Sink};

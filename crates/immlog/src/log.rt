@@ -1,31 +1,32 @@
 //! The immutable log.
 
 ghost use Rattle.std.specs.Prelude.{◌≡◌, ◌≢◌, ◌↔◌, ◌<◌, ◌≤◌, List, ℕ, [], ◌++◌, length, true, false};
-ghost use Rattle.std.specs.Prelude.{IsErrOf, IsOk, IfOk, IfErr, OnOk};
+ghost use Rattle.std.specs.Prelude.{None, Some, IsErrOf, IsOk, IfOk, IfErr, IfSome, MatchOption, OnOk};
 ghost use Rattle.std.specs.List.{AllByRecursion};
 ghost use Rattle.model.specs.Disk.{Leaves, LeavesSince, one_more};
 ghost use Rattle.model.specs.Log.{IsLogBlock, Opens, IsDamaged, OpensToBeginning, IsLogOf};
+ghost use Rattle.immlog.specs.Numbered.{IsLike, numbered};
 ghost use Rattle.immlog.specs.Views.{lists_of};
 ghost use Rattle.immlog.specs.OpenLog.{GoesOn};
 ghost use Rattle.immlog.specs.Steps.{KeepsLogs, IsBeginningOf};
 
-use crate::copies::copy_all;
 use crate::disk::Disk;
-use crate::faults::{AppendFault, CreateFault, OpenLogFault};
-use crate::put::{put_all, wipe};
-use crate::recover::recover;
+use crate::faults::{AppendFault, CreateFault, OpenLogFault, ReadFault};
+use crate::fetching::{FetchFault, fetch_block};
+use crate::index::Index;
+use crate::put::{make_room, put_all, wipe};
+use crate::recover::{Found, recover};
+use crate::sink::Sink;
 use std::alloc::Global;
 use std::marker::Model;
-use std::thread::Threads;
 
-/// A log of blocks on a disk, whose blocks it also keeps in memory. Where the disk failed in a call, the log is broken:
-/// it doesn't touch the disk any more, and is opened again from it.
+/// A log of blocks on a disk. In memory it keeps 40 bytes for each of them: where its record begins, and its digest.
+/// Where the disk failed in a call, the log is broken: it doesn't touch the disk any more, and is opened again from it.
 #[derive(Drop)]
 pub struct Log<D: Disk> {
     alloc: Global,
     disk: D,
-    kept: Vec<Vec<u8>>,
-    durable: usize,
+    index: Index,
     gate: usize,
     /// Where records are spelled before they are written; empty until the first one is.
     room: Vec<u8>,
@@ -61,8 +62,7 @@ impl<D: Disk> Log<D> {
             Ok(()) => Ok(Log {
                 alloc,
                 disk,
-                kept: Vec::new(alloc),
-                durable: 0,
+                index: Index::new(alloc),
                 gate: 0,
                 room: Vec::new(alloc),
                 broken: false,
@@ -71,18 +71,24 @@ impl<D: Disk> Log<D> {
         }
     }
 
-    /// Opens the log on this disk: its blocks are read, and behind the last one stands a closed gate, which is made
-    /// sure, and nothing else. Err, with the disk beside it, where the disk failed, where an open gate has no record
-    /// behind it, or where memory ran out. Takes memory for the bytes of the disk and for a copy of the blocks, and the
-    /// time to compute their digests, which as many threads as there are processors share.
-    pub fn open<R: Threads + Sync>(
-        rt: &R,
-        alloc: Global,
-        disk: D,
-    ) -> Result<Log<D>, (OpenLogFault, D)>
+    /// Opens the log on this disk, and gives its blocks, one after the other, to the sink: behind the last one stands a
+    /// closed gate, which is made sure, and nothing else. Err, with the disk beside it, where the disk failed, where an
+    /// open gate has no record behind it, or where memory ran out; which blocks the sink was given is then not said.
+    ///
+    /// Reads each record once, and computes the digest of its block. Takes memory for the longest record that there may
+    /// be, about a megabyte, and 40 bytes for each block; no block is kept.
+    ///
+    /// ```text
+    /// let mut sink = Nobody::new(); // who makes nothing of the blocks
+    /// let log = Log::open(alloc, disk, &mut sink)?; // or the disk again, beside why not
+    /// ```
+    pub fn open<K: Sink>(alloc: Global, disk: D, sink: &mut K) -> Result<Log<D>, (OpenLogFault, D)>
         // The blocks are those of what the reads gave,
         ensures opened { IfOk result (λ log. Opens (D.reads disk) log.blocks) }
-        // which is damaged at the place that is told.
+        // and they were given to the sink;
+        ensures given { IfOk result (λ log. K.given sink.new ≡ K.given sink.old ++ log.blocks) }
+        ensures kept_by_sink { K.kept sink.new ≡ K.kept sink.old }
+        // or it is damaged at the place that is told.
         ensures damaged { IfErr result (λ refused. (place : ℕ) →
             refused.0 ≡ OpenLogFault.Damaged place → IsDamaged (D.reads disk) place) }
         ensures failed { IfErr result (λ refused.
@@ -109,27 +115,24 @@ impl<D: Disk> Log<D> {
             Leaves (IsLogOf least blocks) (D.moment disk) → (place : ℕ) → refused.0 ≡ OpenLogFault.Damaged place → ⊥) }
     {
         let mut disk = disk;
-        match recover(rt, alloc, &mut disk) {
-            Ok((kept, gate)) => {
-                let durable = kept.len();
-                Ok(Log {
-                    alloc,
-                    disk,
-                    kept,
-                    durable,
-                    gate,
-                    room: Vec::new(alloc),
-                    broken: false,
-                })
-            }
+        match recover(alloc, &mut disk, sink) {
+            Ok(Found { index, gate }) => Ok(Log {
+                alloc,
+                disk,
+                index,
+                gate,
+                room: Vec::new(alloc),
+                broken: false,
+            }),
             Err(fault) => Err((fault, disk)),
         }
     }
 
     /// Puts these blocks, of 1 to 1,048,576 bytes each, onto the log, one after the other. Err where the log is broken,
-    /// else where memory ran out for the copies, else where the disk failed. Writes the bytes of the blocks and 37
-    /// bytes for each, each record at once and then its gate, and waits for the disk twice for each. Takes memory for a
-    /// copy of each, and once for the longest record, about a megabyte.
+    /// else where memory ran out, else where the disk failed. Writes the bytes of the blocks and 37 bytes for each, each
+    /// record at once and then its gate, and waits for the disk twice for each. Computes the digest of each once. Takes
+    /// memory for 40 bytes for each, and once for the longest record, about a megabyte, where each is spelled; no copy is
+    /// kept.
     pub fn append(&mut self, blocks: &[Vec<u8>]) -> Result<(), AppendFault>
         requires { AllByRecursion IsLogBlock (lists_of blocks.now) }
 
@@ -167,7 +170,7 @@ impl<D: Disk> Log<D> {
         if self.broken {
             return Err(AppendFault::Broken);
         }
-        if copy_all(self.alloc, &mut self.kept, &mut self.room, blocks).is_err() {
+        if make_room(&mut self.index, &mut self.room, blocks.len()).is_err() {
             return Err(AppendFault::OutOfMemory);
         }
         // Until all is sure, nothing is known of the disk but what a crash may leave of it.
@@ -175,8 +178,8 @@ impl<D: Disk> Log<D> {
         if put_all(
             &mut self.disk,
             &mut self.gate,
-            &self.kept,
-            &mut self.durable,
+            blocks,
+            &mut self.index,
             &mut self.room,
         )
         .is_err()
@@ -201,14 +204,53 @@ impl<D: Disk> Log<D> {
         ensures left { self.now.broken ≡ false →
             Leaves (IsLogOf (length self.now.blocks) self.now.blocks) (D.moment self.now.disk) }
     {
-        self.durable
+        self.index.len()
     }
 
-    /// The bytes of the durable blocks, the oldest first. Copies nothing.
-    pub fn blocks(&self) -> &[Vec<u8>]
-        ensures { lists_of result.now ≡ self.now.blocks }
+    /// The block of this number, counted from 1, as the disk gives it again; None where there is none. Err where the log
+    /// is broken, else where memory ran out for the block, where the disk failed, which breaks the log, or where what it
+    /// gives has another SHA-256 (FIPS 180-4), or is shorter. Reads as many bytes as the block has, and takes memory for
+    /// them.
+    pub fn block(&mut self, number: u64) -> Result<Option<Vec<u8>>, ReadFault>
+        // The bytes have the length and the SHA-256 of the block of that number,
+        ensures like { IfOk result (λ found. MatchOption found (numbered self.old.blocks number ≡ None)
+            (λ bytes. IsLike self.old.blocks number bytes.items)) }
+        // and on a disk that keeps what it holds they are that block.
+        ensures exact { D.keeps ≡ true → IfOk result (λ found. IfSome found (λ bytes.
+            numbered self.old.blocks number ≡ Some bytes.items)) }
+        // No block is told as damaged on a disk that keeps what it holds.
+        ensures damaged { (told : ℕ) → IsErrOf result (ReadFault.Damaged told) →
+            (told ≡ number) × (D.keeps ≡ true → ⊥) }
+        ensures broken { IsErrOf result ReadFault.Broken ↔ (self.old.broken ≡ true) }
+        ensures failed { IsErrOf result ReadFault.DiskFault →
+            D.failures self.new.disk ≡ one_more (D.failures self.old.disk) }
+        // There is no fault where there is no such block.
+        ensures none { numbered self.old.blocks number ≡ None → self.old.broken ≡ false → IsOk result }
+        // The log stays, but that a failure of the disk breaks it.
+        ensures blocks { self.new.blocks ≡ self.old.blocks }
+        ensures sound { (IsErrOf result ReadFault.DiskFault → ⊥) → self.new.broken ≡ self.old.broken }
+        ensures breaks { IsErrOf result ReadFault.DiskFault → self.new.broken ≡ true }
+        ensures worked { (IsErrOf result ReadFault.DiskFault → ⊥) →
+            D.failures self.new.disk ≡ D.failures self.old.disk }
+        ensures same { D.reads self.new.disk ≡ D.reads self.old.disk }
+        ensures still { D.moment self.new.disk ≡ D.moment self.old.disk }
+        ensures clock { D.past self.new.disk ≡ D.past self.old.disk }
     {
-        &self.kept[..self.durable]
+        if self.broken {
+            return Err(ReadFault::Broken);
+        }
+        let Some(span) = self.index.span(number, self.gate) else {
+            return Ok(None);
+        };
+        match fetch_block(self.alloc, &mut self.disk, &span) {
+            Ok(Some(bytes)) => Ok(Some(bytes)),
+            Ok(None) => Err(ReadFault::Damaged(number)),
+            Err(FetchFault::OutOfMemory) => Err(ReadFault::OutOfMemory),
+            Err(FetchFault::DiskFault) => {
+                self.broken = true;
+                Err(ReadFault::DiskFault)
+            }
+        }
     }
 
     /// The disk as it stands, also of a broken log. Touches nothing.
@@ -218,8 +260,7 @@ impl<D: Disk> Log<D> {
         let Log {
             alloc: _,
             disk,
-            kept: _,
-            durable: _,
+            index: _,
             gate: _,
             room: _,
             broken: _,

@@ -7,11 +7,9 @@ ghost use Rattle.immlog.specs.Frames.{NoRecordBehind};
 ghost use Rattle.immlog.specs.Left.{AreZeros, HasRecord, TellsLength, IsShort, IsLogEnd, IsLeft, IsLook, IsTornLog};
 ghost use Rattle.immlog.specs.Walks.{IsFilled, IsBody, IsNextByte, IsStep, IsSmallStep};
 
-use crate::digests::is_same;
 use crate::put::{MOST_WRITTEN, OPEN};
-use crate::records::{first_frame, is_block_size};
+use crate::records::{first_record, is_block_size};
 use crate::recover::room_for;
-use sha2::{Digest, Sha256};
 use std::alloc::Global;
 use std::io::{self, ErrorKind, Read};
 use thiserror::Error;
@@ -56,8 +54,9 @@ enum Step {
     End(bool),
 }
 
-/// Reads until the room is full, or the reader has no more, and answers how many bytes that were.
-fn fill<R: Read>(reader: &mut R, room: &mut [u8]) -> io::Result<usize>
+/// Reads until the room is full, or the reader has no more, and answers how many bytes that were. An interrupted read is
+/// made again.
+pub fn fill<R: Read>(reader: &mut R, room: &mut [u8]) -> io::Result<usize>
     ensures len { length room.new ≡ length room.old }
     ensures filled { IfOk result (IsFilled (R.remaining reader.old) (R.remaining reader.new) room.new) }
 {
@@ -77,7 +76,7 @@ fn fill<R: Read>(reader: &mut R, room: &mut [u8]) -> io::Result<usize>
 }
 
 /// The length of a block that the bytes begin with, if they begin with one.
-fn told_length(bytes: &[u8]) -> Option<usize>
+pub fn told_length(bytes: &[u8]) -> Option<usize>
     ensures { MatchOption result ((len : ℕ) → TellsLength bytes.now len → ⊥) (TellsLength bytes.now) }
 {
     let (size, _) = bytes.split_first_chunk::<4>()?;
@@ -89,12 +88,8 @@ fn told_length(bytes: &[u8]) -> Option<usize>
 fn whole_record(bytes: &[u8]) -> Option<&[u8]>
     ensures { MatchOption result (NoRecordBehind bytes.now) (λ more. HasRecord bytes.now more.now) }
 {
-    let (digest, block) = first_frame(bytes)?;
-    if is_same(digest, &Sha256::digest(block)) {
-        Some(&bytes[HEAD + block.len()..])
-    } else {
-        None
-    }
+    let (_, block) = first_record(bytes)?;
+    Some(&bytes[HEAD + block.len()..])
 }
 
 /// Takes the record that stands behind its gate, and answers how many bytes it has without that; None where none does.

@@ -1,6 +1,7 @@
 //! One block after the other is put on the disk, each behind a closed gate that is opened only when it is sure.
 
-ghost use Rattle.std.specs.Prelude.{◌≡◌, ℕ, ◌+◌, ◌<◌, ◌≤◌, List, [], ◌∷◌, ◌++◌, length, take, map, IfOk, OnOk, OnErr};
+ghost use Rattle.std.specs.Prelude.{◌≡◌, ℕ, ◌+◌, ◌<◌, ◌≤◌, List, [], ◌∷◌, ◌++◌, length, map, IfOk, OnOk, OnErr};
+ghost use Rattle.std.specs.Prelude.{vec_len, vec_capacity};
 ghost use Rattle.std.specs.Int.{w32, to_be_bytes};
 ghost use Rattle.std.specs.Prelude.{IsOk};
 ghost use Rattle.std.specs.List.{AllByRecursion};
@@ -9,10 +10,14 @@ ghost use Rattle.model.specs.Limits.{block_size_limit};
 ghost use Rattle.model.specs.Disk.{settled, Leaves, HoldsSince, LeavesSince, IsCounted};
 ghost use Rattle.model.specs.Log.{IsLogBlock, body_of, at_rest, IsLogOf};
 ghost use Rattle.immlog.specs.Steps.{IsFixed, KeepsFixed, IsGateMoment, gate_written};
+ghost use Rattle.immlog.specs.Index.{AreEntriesOf, blocks_in};
+ghost use Rattle.immlog.specs.OpenLog.{GoesOn};
 ghost use Rattle.immlog.specs.Views.{lists_of};
 
 use crate::disk::{Disk, DiskFailed};
+use crate::index::Index;
 use sha2::{Digest, Sha256};
+use std::alloc::AllocError;
 
 /// The gate of a record.
 pub const OPEN: u8 = 1;
@@ -49,33 +54,37 @@ fn write_end<D: Disk>(disk: &mut D, place: usize, bytes: &[u8]) -> Result<usize,
     Ok(place + bytes.len())
 }
 
-/// Spells the record of the block, but for its gate, and a closed gate behind it.
-fn spell(room: &mut [u8], block: &[u8])
+/// Spells the record of the block with this digest, but for its gate, and a closed gate behind it.
+fn spell(room: &mut [u8], digest: &[u8; 32], block: &[u8])
     requires room { length room.old ≡ length block.now + 37 }
     requires size { IsLogBlock block.now }
+    requires digest { digest.now ≡ sha256 block.now }
     ensures { room.new ≡ body_of block.now ++ 0 ∷ [] }
 {
     let (len, rest) = room.split_at_mut(4);
     len.copy_from_slice(&(block.len() as u32).to_be_bytes());
-    let (digest, rest) = rest.split_at_mut(32);
-    digest.copy_from_slice(&Sha256::digest(block));
+    let (told, rest) = rest.split_at_mut(32);
+    told.copy_from_slice(digest.as_slice());
     let (text, gate) = rest.split_at_mut(block.len());
     text.copy_from_slice(block);
     gate.copy_from_slice(&[0]);
 }
 
-/// Writes the record of the block behind the closed gate at this place, and a closed gate behind it, all of it sure;
-/// and answers the place of that gate. The closed gate at this place stays. Spells what it writes in this room.
+/// Writes the record of the block, which has this digest, behind the closed gate at this place, and a closed gate behind
+/// it, all of it sure; and answers the place of that gate. The closed gate at this place stays. Spells what it writes in
+/// this room.
 fn stage<D: Disk>(
     disk: &mut D,
     room: &mut [u8],
     gate: usize,
+    digest: &[u8; 32],
     block: &[u8],
 ) -> Result<usize, DiskFailed>
     requires room { block_size_limit + 37 ≤ length room.old }
     requires place { gate + 1 ≡ length (D.reads disk.old) }
     requires settled { D.moment disk.old ≡ settled (D.reads disk.old) }
     requires size { IsLogBlock block.now }
+    requires digest { digest.now ≡ sha256 block.now }
     ensures room { length room.new ≡ length room.old }
     ensures text { OnOk result (D.reads disk.new ≡ D.reads disk.old ++ (body_of block.now ++ 0 ∷ [])) }
     ensures place { IfOk result (λ next. next + 1 ≡ length (D.reads disk.new)) }
@@ -84,7 +93,7 @@ fn stage<D: Disk>(
     ensures failures { IsCounted (D.failures disk.old) (D.failures disk.new) result }
 {
     let record = &mut room[..block.len() + 37];
-    spell(record, block);
+    spell(record, digest, block);
     let end = write_end(disk, gate + 1, record)?;
     disk.sync()?;
     Ok(end - 1)
@@ -126,17 +135,20 @@ fn open_gate<D: Disk>(disk: &mut D, place: usize) -> Result<(), DiskFailed>
     }
 }
 
-/// Puts one block behind the closed gate at this place, and answers the place of the gate behind it.
+/// Puts one block, which has this digest, behind the closed gate at this place, and answers the place of the gate
+/// behind it.
 fn put<D: Disk>(
     disk: &mut D,
     room: &mut [u8],
     gate: usize,
+    digest: &[u8; 32],
     block: &[u8],
 ) -> Result<usize, DiskFailed>
     requires room { block_size_limit + 37 ≤ length room.old }
     requires place { gate + 1 ≡ length (D.reads disk.old) }
     requires settled { D.moment disk.old ≡ settled (D.reads disk.old) }
     requires size { IsLogBlock block.now }
+    requires digest { digest.now ≡ sha256 block.now }
     ensures room { length room.new ≡ length room.old }
     ensures text { OnOk result ((done : List (List ℕ)) → D.reads disk.old ≡ at_rest done →
         D.reads disk.new ≡ at_rest (done ++ block.now ∷ [])) }
@@ -147,41 +159,65 @@ fn put<D: Disk>(
         (IsLogOf (length done) (done ++ block.now ∷ later)) }
     ensures failures { IsCounted (D.failures disk.old) (D.failures disk.new) result }
 {
-    let next = stage(disk, room, gate, block)?;
+    let next = stage(disk, room, gate, digest, block)?;
     open_gate(disk, gate)?;
     Ok(next)
 }
 
-/// Puts the blocks past the first so many, which are on the disk, one after the other behind the closed gate at this
-/// place, and counts each once it is sure. Spells each in this room.
+/// Makes room for the entries of so many blocks, and in which each of their records can be spelled.
+pub fn make_room(index: &mut Index, room: &mut Vec<u8>, count: usize) -> Result<(), AllocError>
+    ensures blocks { blocks_in index.new ≡ blocks_in index.old }
+    ensures entries { index.new.entries.items ≡ index.old.entries.items }
+    ensures more { OnOk result (vec_len index.new.entries + count ≤ vec_capacity index.new.entries) }
+    ensures room { OnOk result (0 < count → block_size_limit + 37 ≤ length room.new.items) }
+    ensures none { count ≡ 0 → IsOk result }
+{
+    if count == 0 {
+        return Ok(());
+    }
+    index.reserve(count)?;
+    if room.len() < MOST_WRITTEN {
+        room.resize(MOST_WRITTEN, 0)?;
+    }
+    Ok(())
+}
+
+/// Puts the blocks, one after the other, behind the closed gate at this place and the blocks of the index, which has
+/// room for them, and adds each to the index once it is sure. Spells each in this room.
 pub fn put_all<D: Disk>(
     disk: &mut D,
     gate: &mut usize,
     blocks: &[Vec<u8>],
-    durable: &mut usize,
+    index: &mut Index,
     room: &mut [u8],
 ) -> Result<(), DiskFailed>
-    requires room { durable.old < length blocks.now → block_size_limit + 37 ≤ length room.old }
-    requires count { durable.old ≤ length blocks.now }
+    requires room { 0 < length blocks.now → block_size_limit + 37 ≤ length room.old }
+    requires more { vec_len index.old.entries + length blocks.now ≤ vec_capacity index.old.entries }
     requires sizes { AllByRecursion IsLogBlock (lists_of blocks.now) }
-    requires rest { D.reads disk.old ≡ at_rest (take durable.old (lists_of blocks.now)) }
+    requires known { AllByRecursion IsLogBlock (blocks_in index.old) }
+    requires entries { AreEntriesOf 0 (blocks_in index.old) index.old.entries.items }
+    requires rest { D.reads disk.old ≡ at_rest (blocks_in index.old) }
     requires settled { D.moment disk.old ≡ settled (D.reads disk.old) }
     requires place { gate.old + 1 ≡ length (D.reads disk.old) }
-    ensures counted { durable.old ≤ durable.new }
-    ensures within { durable.new ≤ length blocks.now }
-    ensures all { OnOk result (durable.new ≡ length blocks.now) }
-    ensures none { durable.old ≡ length blocks.now → IsOk result }
-    ensures rest { OnOk result (D.reads disk.new ≡ at_rest (lists_of blocks.now)) }
+    ensures goes { GoesOn (blocks_in index.old) (lists_of blocks.now) (blocks_in index.new) }
+    ensures all { OnOk result (blocks_in index.new ≡ blocks_in index.old ++ lists_of blocks.now) }
+    ensures none { blocks.now ≡ [] → IsOk result }
+    ensures known { AllByRecursion IsLogBlock (blocks_in index.new) }
+    ensures entries { AreEntriesOf 0 (blocks_in index.new) index.new.entries.items }
+    ensures rest { OnOk result (D.reads disk.new ≡ at_rest (blocks_in index.new)) }
     ensures settled { OnOk result (D.moment disk.new ≡ settled (D.reads disk.new)) }
     ensures place { OnOk result (gate.new + 1 ≡ length (D.reads disk.new)) }
     ensures crash { LeavesSince (D.past disk.old) (D.past disk.new) (D.moment disk.new)
-        (IsLogOf durable.old (lists_of blocks.now)) }
-    ensures sure { Leaves (IsLogOf durable.new (lists_of blocks.now)) (D.moment disk.new) }
+        (IsLogOf (length (blocks_in index.old)) (blocks_in index.old ++ lists_of blocks.now)) }
+    ensures sure { Leaves (IsLogOf (length (blocks_in index.new)) (blocks_in index.old ++ lists_of blocks.now))
+        (D.moment disk.new) }
     ensures failures { IsCounted (D.failures disk.old) (D.failures disk.new) result }
 {
-    for block in &blocks[*durable..] {
-        *gate = put(disk, room, *gate, block)?;
-        *durable += 1;
+    for block in blocks {
+        let digest = Sha256::digest(block);
+        let place = *gate;
+        *gate = put(disk, room, place, &digest, block)?;
+        index.add(place, &digest, block);
     }
     Ok(())
 }

@@ -1,80 +1,95 @@
 //! A disk that a crash may have left is made ready for more blocks.
 
-ghost use Rattle.std.specs.Prelude.{◌≡◌, ◌≢◌, ◌+◌, ◌<◌, ◌≤◌, ℕ, List, ◌∷◌, ◌++◌, length, take, slice_get};
-ghost use Rattle.std.specs.Prelude.{IfOk, IfErr, IsErrOf, OnOk, true, false};
+ghost use Rattle.std.specs.Prelude.{◌≡◌, ◌≢◌, ◌+◌, ◌^◌, ◌<◌, ◌≤◌, ℕ, List, [], ◌∷◌, ◌++◌, length, take, slice_get};
+ghost use Rattle.std.specs.Prelude.{IfOk, IsErrOf, OnOk};
 ghost use Rattle.model.specs.Disk.{settled, Leaves, HoldsSince, LeavesSince, IsCounted, one_more};
 ghost use Rattle.model.specs.Log.{Opens, IsDamaged, records, at_rest, IsLogOf};
 ghost use Rattle.immlog.specs.Steps.{IsFixed, IsFound, KeepsLogs, IsBeginningOf};
-ghost use Rattle.immlog.specs.Views.{lists_of};
+ghost use Rattle.immlog.specs.Index.{AreEntriesOf, blocks_in};
 
 use crate::disk::{Disk, DiskFailed};
 use crate::faults::OpenLogFault;
-use crate::put::{CLOSED, write_gate};
-use crate::records::{byte_at, read_blocks};
+use crate::here::{Here, look_here};
+use crate::index::Index;
+use crate::put::{CLOSED, MOST_WRITTEN, write_gate};
+use crate::records::BEFORE_BLOCK;
+use crate::sink::Sink;
 use std::alloc::{AllocError, Global};
-use std::thread::Threads;
 
-/// How many bytes are read at once.
-const CHUNK: usize = 65_536;
+/// What is found of a log.
+#[derive(Drop)]
+pub struct Found {
+    pub index: Index,
+    /// Where the records end.
+    pub gate: usize,
+}
 
 /// Room for so many bytes.
 pub fn room_for(alloc: Global, len: usize) -> Result<Vec<u8>, AllocError>
     ensures { IfOk result (λ room. length room.items ≡ len) }
 {
-    let mut room = Vec::new(alloc);
-    room.resize(len, 0)?;
-    Ok(room)
+    vec![in alloc; 0u8; len]
 }
 
-/// Reads more bytes of the disk behind those that are there, as many as there is room for, and answers whether there
-/// may be more.
-fn read_more<D: Disk>(
+/// Goes on from a record that stands at this place: it is given to the sink, and noted in the index.
+fn add_record<K: Sink>(
+    sink: &mut K,
+    index: &mut Index,
+    place: usize,
+    digest: &[u8; 32],
+    block: &[u8],
+) -> Result<usize, AllocError>
+    requires { place + (37 + length block.now) < 2 ^ 64 }
+    ensures next { IfOk result (λ next. next ≡ place + (37 + length block.now)) }
+    ensures noted { OnOk result (blocks_in index.new ≡ blocks_in index.old ++ block.now ∷ []) }
+    ensures entries { OnOk result (index.new.entries.items
+        ≡ index.old.entries.items ++ record { place = place; digest = digest.now } ∷ []) }
+    ensures given { OnOk result (K.given sink.new ≡ K.given sink.old ++ block.now ∷ []) }
+    ensures kept { K.kept sink.new ≡ K.kept sink.old }
+{
+    index.push(place, digest, block)?;
+    sink.give(block);
+    Ok(place + BEFORE_BLOCK + block.len())
+}
+
+/// The records of the disk, one after the other, and what stands where the gate behind them should. Their blocks are
+/// given to the sink. Err where the disk failed, where an open gate has no record behind it, or where memory ran out.
+fn find_records<D: Disk, K: Sink>(
+    alloc: Global,
     disk: &mut D,
-    bytes: &mut Vec<u8>,
-    room: &mut [u8],
-) -> Result<bool, OpenLogFault>
-    requires front { bytes.old.items ≡ take (length bytes.old.items) (D.reads disk.old) }
-    requires within { length bytes.old.items ≤ length (D.reads disk.old) }
-    requires some { 0 < length room.old }
-    ensures front { OnOk result (bytes.new.items ≡ take (length bytes.new.items) (D.reads disk.old)) }
-    ensures within { OnOk result (length bytes.new.items ≤ length (D.reads disk.old)) }
-    ensures more { IfOk result (λ more. more ≡ true → length bytes.old.items < length bytes.new.items) }
-    ensures end { IfOk result (λ more. more ≡ false → length (D.reads disk.old) ≤ length bytes.new.items) }
+    sink: &mut K,
+) -> Result<(Found, Option<u8>), OpenLogFault>
+    ensures found { IfOk result (λ found. IsFound (D.reads disk.old) found.0.gate (blocks_in found.0.index)) }
+    ensures entries { IfOk result (λ found.
+        AreEntriesOf 0 (blocks_in found.0.index) found.0.index.entries.items) }
+    ensures given { IfOk result (λ found. K.given sink.new ≡ K.given sink.old ++ blocks_in found.0.index) }
+    ensures kept { K.kept sink.new ≡ K.kept sink.old }
+    ensures gate { IfOk result (λ found. found.1 ≡ slice_get (D.reads disk.old) found.0.gate) }
+    ensures damaged { (place : ℕ) → IsErrOf result (OpenLogFault.Damaged place) → IsDamaged (D.reads disk.old) place }
     ensures same { D.reads disk.new ≡ D.reads disk.old }
     ensures still { D.moment disk.new ≡ D.moment disk.old }
     ensures clock { D.past disk.new ≡ D.past disk.old }
     ensures worked { OnOk result (D.failures disk.new ≡ D.failures disk.old) }
     ensures failed { IsErrOf result OpenLogFault.DiskFault → D.failures disk.new ≡ one_more (D.failures disk.old) }
-    ensures sound { (place : ℕ) → IsErrOf result (OpenLogFault.Damaged place) → ⊥ }
 {
-    let Ok(count) = disk.read(bytes.len(), room) else {
-        return Err(OpenLogFault::DiskFault);
-    };
-    if bytes.extend_from_slice(&room[..count]).is_err() {
-        return Err(OpenLogFault::OutOfMemory);
-    }
-    Ok(count == room.len())
-}
-
-/// Reads all bytes of the disk.
-fn read_all<D: Disk>(alloc: Global, disk: &mut D) -> Result<Vec<u8>, OpenLogFault>
-    ensures all { IfOk result (λ bytes. bytes.items ≡ D.reads disk.old) }
-    ensures same { D.reads disk.new ≡ D.reads disk.old }
-    ensures still { D.moment disk.new ≡ D.moment disk.old }
-    ensures clock { D.past disk.new ≡ D.past disk.old }
-    ensures worked { OnOk result (D.failures disk.new ≡ D.failures disk.old) }
-    ensures failed { IsErrOf result OpenLogFault.DiskFault → D.failures disk.new ≡ one_more (D.failures disk.old) }
-    ensures sound { (place : ℕ) → IsErrOf result (OpenLogFault.Damaged place) → ⊥ }
-{
-    let Ok(mut room) = room_for(alloc, CHUNK) else {
+    let Ok(mut room) = room_for(alloc, MOST_WRITTEN) else {
         return Err(OpenLogFault::OutOfMemory);
     };
-    let mut bytes = Vec::new(alloc);
-    let mut more = true;
-    while more {
-        more = read_more(disk, &mut bytes, &mut room)?;
+    let mut index = Index::new(alloc);
+    let mut gate = 0usize;
+    loop {
+        match look_here(disk, gate, &mut room) {
+            Ok(Here::Record(digest, block)) => {
+                let Ok(next) = add_record(sink, &mut index, gate, digest, block) else {
+                    return Err(OpenLogFault::OutOfMemory);
+                };
+                gate = next;
+            }
+            Ok(Here::Vain) => return Err(OpenLogFault::Damaged(gate)),
+            Ok(Here::End(byte)) => return Ok((Found { index, gate }, byte)),
+            Err(DiskFailed) => return Err(OpenLogFault::DiskFault),
+        }
     }
-    Ok(bytes)
 }
 
 /// Closes the gate at this place, where this stands, unless it is closed as it should be.
@@ -128,20 +143,23 @@ fn tidy<D: Disk>(disk: &mut D, place: usize, gate: Option<u8>) -> Result<(), Dis
     Ok(())
 }
 
-/// The blocks of the log on this disk, and the place of the closed gate behind them, which is made sure and has nothing
-/// behind it. Err where the disk failed, where the log is damaged, or where memory ran out for the bytes or the blocks.
-pub fn recover<D: Disk, R: Threads + Sync>(
-    rt: &R,
+/// The blocks of the log on this disk, which are given to the sink, and the place of the closed gate behind them, which
+/// is made sure and has nothing behind it. Err where the disk failed, where the log is damaged, or where memory ran out.
+pub fn recover<D: Disk, K: Sink>(
     alloc: Global,
     disk: &mut D,
-) -> Result<(Vec<Vec<u8>>, usize), OpenLogFault>
-    ensures opened { IfOk result (λ found. Opens (D.reads disk.old) (lists_of found.0.items)) }
-    ensures rest { IfOk result (λ found. D.reads disk.new ≡ at_rest (lists_of found.0.items)) }
-    ensures place { IfOk result (λ found. found.1 + 1 ≡ length (D.reads disk.new)) }
+    sink: &mut K,
+) -> Result<Found, OpenLogFault>
+    ensures opened { IfOk result (λ found. Opens (D.reads disk.old) (blocks_in found.index)) }
+    ensures entries { IfOk result (λ found. AreEntriesOf 0 (blocks_in found.index) found.index.entries.items) }
+    ensures given { IfOk result (λ found. K.given sink.new ≡ K.given sink.old ++ blocks_in found.index) }
+    ensures kept { K.kept sink.new ≡ K.kept sink.old }
+    ensures rest { IfOk result (λ found. D.reads disk.new ≡ at_rest (blocks_in found.index)) }
+    ensures place { IfOk result (λ found. found.gate + 1 ≡ length (D.reads disk.new)) }
     ensures settled { OnOk result (D.moment disk.new ≡ settled (D.reads disk.new)) }
     ensures keeps { KeepsLogs (D.moment disk.old) (D.past disk.old) (D.moment disk.new) (D.past disk.new) }
     ensures begins { IfOk result (λ found. (least : ℕ) (blocks : List (List ℕ)) →
-        Leaves (IsLogOf least blocks) (D.moment disk.old) → IsBeginningOf least blocks (lists_of found.0.items)) }
+        Leaves (IsLogOf least blocks) (D.moment disk.old) → IsBeginningOf least blocks (blocks_in found.index)) }
     ensures damaged { (place : ℕ) → IsErrOf result (OpenLogFault.Damaged place) → IsDamaged (D.reads disk.old) place }
     ensures failed { IsErrOf result OpenLogFault.DiskFault → D.failures disk.new ≡ one_more (D.failures disk.old) }
     ensures stays { (fault : OpenLogFault) → IsErrOf result fault → fault ≢ OpenLogFault.DiskFault →
@@ -151,10 +169,9 @@ pub fn recover<D: Disk, R: Threads + Sync>(
     let Ok(()) = disk.sync() else {
         return Err(OpenLogFault::DiskFault);
     };
-    let bytes = read_all(alloc, disk)?;
-    let (blocks, gate) = read_blocks(rt, alloc, &bytes)?;
-    let Ok(()) = tidy(disk, gate, byte_at(&bytes, gate)) else {
+    let (found, byte) = find_records(alloc, disk, sink)?;
+    let Ok(()) = tidy(disk, found.gate, byte) else {
         return Err(OpenLogFault::DiskFault);
     };
-    Ok((blocks, gate))
+    Ok(found)
 }

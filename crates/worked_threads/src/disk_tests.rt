@@ -5,10 +5,9 @@ ghost use Rattle.immlog.specs.Views.{lists_of};
 
 use super::fake_file::FakeFile;
 use file_disk::FileDisk;
-use immlog::{Disk, DiskFailed, Log};
+use immlog::{Disk, DiskFailed, Log, Nobody};
 use std::alloc::{AllocError, Global};
 use std::test::Fail;
-use std::thread::Threads;
 
 /// How many blocks are put on, one after the other.
 const APPENDED: usize = 10;
@@ -30,10 +29,7 @@ fn two_blocks(alloc: Global) -> Result<Vec<Vec<u8>>, AllocError>
 
 // How many blocks are opened after two were put onto a log whose disk fails in the call after so many, and how many
 // had been durable; None where no log was made or opened.
-fn opened_after(
-    rt: &(impl AllocGlobal + Threads + Sync),
-    calls: u64,
-) -> Result<Option<(usize, usize)>, AllocError> {
+fn opened_after(rt: &impl AllocGlobal, calls: u64) -> Result<Option<(usize, usize)>, AllocError> {
     let alloc = rt.alloc();
     let blocks = two_blocks(alloc)?;
     let Ok(disk) = FileDisk::open(alloc, FakeFile::new(alloc, calls)) else {
@@ -48,7 +44,7 @@ fn opened_after(
     let Ok(disk) = FileDisk::open(alloc, log.into_disk().into_file()) else {
         return Ok(None);
     };
-    match Log::open(rt, alloc, disk) {
+    match Log::open(alloc, disk, &mut Nobody::new()) {
         Ok(log) => Ok(Some((durable, log.durable()))),
         Err(_) => Ok(None),
     }
@@ -66,6 +62,32 @@ fn each_device_call_fails_once(rt: HostRuntime) -> Result<(), Fail> {
         if let Some((durable, opened)) = opened_after(&rt, calls)? {
             assert!(rt; durable <= opened, "after {calls} calls");
         }
+    }
+    Ok(())
+}
+
+/// The log of two blocks that stands on this file.
+fn log_of_two(alloc: Global, file: FakeFile) -> Option<Log<FileDisk<FakeFile>>> {
+    let blocks = two_blocks(alloc).ok()?;
+    let mut log = Log::create(alloc, FileDisk::open(alloc, file).ok()?).ok()?;
+    log.append(&blocks).ok()?;
+    Some(log)
+}
+
+// Blocks count from 1. They are read from the file again, also after it was written.
+#[test]
+fn blocks_are_read_again(rt: HostRuntime) -> Result<(), Fail> {
+    let alloc = rt.alloc();
+    let mut log = log_of_two(alloc, FakeFile::new(alloc, u64::MAX)).expect(&rt, "a log");
+    for (number, wanted) in [
+        (0, None),
+        (1, Some(b"one".as_slice())),
+        (2, Some(b"two".as_slice())),
+        (3, None),
+        (u64::MAX, None),
+    ] {
+        let found = log.block(number)?;
+        assert!(rt; found.as_deref() == wanted, "block {number}");
     }
     Ok(())
 }
@@ -120,18 +142,18 @@ fn left_on(alloc: Global, file: FakeFile) -> Option<Left> {
 }
 
 /// What another program leaves that opens the log of this file, and stops at its failing call. None where it opens it.
-fn left_again(rt: &(impl Threads + Sync), alloc: Global, file: FakeFile) -> Option<FakeFile> {
+fn left_again(alloc: Global, file: FakeFile) -> Option<FakeFile> {
     let disk = FileDisk::open(alloc, file).ok()?;
-    match Log::open(rt, alloc, disk) {
+    match Log::open(alloc, disk, &mut Nobody::new()) {
         Ok(_) => None,
         Err((_fault, disk)) => Some(disk.into_file()),
     }
 }
 
 /// How many blocks the log of this file has.
-fn opened_on(rt: &(impl Threads + Sync), alloc: Global, file: FakeFile) -> Option<usize> {
+fn opened_on(alloc: Global, file: FakeFile) -> Option<usize> {
     let disk = FileDisk::open(alloc, file.failing_after(u64::MAX)).ok()?;
-    match Log::open(rt, alloc, disk) {
+    match Log::open(alloc, disk, &mut Nobody::new()) {
         Ok(log) => Some(log.durable()),
         Err(_) => None,
     }
@@ -139,27 +161,20 @@ fn opened_on(rt: &(impl Threads + Sync), alloc: Global, file: FakeFile) -> Optio
 
 /// Counts how many blocks more are opened than were told durable, after a second program stopped in whichever call of
 /// its opening: none, one, or something else.
-fn count_opened(
-    rt: &(impl Threads + Sync),
-    alloc: Global,
-    left: &Left,
-    counts: &mut [u64; 3],
-) -> Option<()> {
+fn count_opened(alloc: Global, left: &Left, counts: &mut [u64; 3]) -> Option<()> {
     for calls in OPENING..u64::MAX {
         let file = left.file.try_clone().ok()?;
-        let Some(again) = left_again(rt, alloc, file.failing_after(calls)) else {
+        let Some(again) = left_again(alloc, file.failing_after(calls)) else {
             break;
         };
-        let more = opened_on(rt, alloc, again)?
-            .wrapping_sub(left.durable)
-            .min(2);
+        let more = opened_on(alloc, again)?.wrapping_sub(left.durable).min(2);
         counts[more] = counts[more].saturating_add(1);
     }
     Some(())
 }
 
 /// Counts this for each call of ten appends in which the first program stops, torn writes or not.
-fn count_stops(rt: &(impl Threads + Sync), alloc: Global, torn: bool, counts: &mut [u64; 3]) {
+fn count_stops(alloc: Global, torn: bool, counts: &mut [u64; 3]) {
     for calls in 0..100 {
         let file = FakeFile::new(alloc, calls);
         let torn_file = FakeFile::torn(alloc, calls);
@@ -167,7 +182,7 @@ fn count_stops(rt: &(impl Threads + Sync), alloc: Global, torn: bool, counts: &m
         if let Some(left) = stopped
             && left.durable < APPENDED
         {
-            if count_opened(rt, alloc, &left, counts).is_none() {
+            if count_opened(alloc, &left, counts).is_none() {
                 counts[2] = counts[2].saturating_add(1);
             }
         }
@@ -181,7 +196,7 @@ fn count_stops(rt: &(impl Threads + Sync), alloc: Global, torn: bool, counts: &m
 #[test]
 fn stops_in_ten_appends(rt: HostRuntime) {
     let mut counts = [0; 3];
-    count_stops(&rt, rt.alloc(), false, &mut counts);
+    count_stops(rt.alloc(), false, &mut counts);
     assert!(rt; counts == [60 * 3, 0, 0]);
 }
 
@@ -190,6 +205,6 @@ fn stops_in_ten_appends(rt: HostRuntime) {
 #[test]
 fn torn_writes_in_ten_appends(rt: HostRuntime) {
     let mut counts = [0; 3];
-    count_stops(&rt, rt.alloc(), true, &mut counts);
+    count_stops(rt.alloc(), true, &mut counts);
     assert!(rt; counts == [50 * 3 + 10 * 6, 0, 0]);
 }

@@ -6,6 +6,7 @@ ghost use Rattle.model.specs.Signature.{test_verifies};
 ghost use Rattle.shared.specs.Starts.{network_from};
 
 use file_disk::FileDisk;
+use flushing::Restart;
 use genesis::Genesis;
 use immlog::Log;
 use inbox::{Mailroom, PEERS, PeerEnd};
@@ -225,6 +226,28 @@ pub fn log_on<F: Read + Write + Seek + OpenFile + Drop>(
     let disk = FileDisk::open(rt.alloc(), file).expect(rt, MEMORY);
     match Log::create(rt.alloc(), disk) {
         Ok(log) => log,
+        Err(_) => rt.abort(),
+    }
+}
+
+/// A node that begins, on no block.
+pub fn restart_of(rt: &(impl Abort + AllocGlobal)) -> Restart<TestScheme>
+    ensures { result.blocks ≡ [] }
+{
+    Restart::new(rt.alloc(), genesis_of(rt)).expect(rt, MEMORY)
+}
+
+/// The log that is in the file of this one, with a node that begins on its blocks.
+pub fn again<F: Read + Write + Seek + OpenFile + Drop>(
+    rt: &(impl Abort + AllocGlobal),
+    log: Log<FileDisk<F>>,
+) -> (Log<FileDisk<F>>, Restart<TestScheme>)
+    ensures { result.1.blocks ≡ result.0.blocks }
+{
+    let disk = FileDisk::open(rt.alloc(), log.into_disk().into_file()).expect(rt, MEMORY);
+    let mut restart = restart_of(rt);
+    match Log::open(rt.alloc(), disk, &mut restart) {
+        Ok(log) => (log, restart),
         Err(_) => rt.abort(),
     }
 }

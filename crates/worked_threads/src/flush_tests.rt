@@ -1,7 +1,7 @@
 //! The blocks of a core on a log, and a core on the blocks of a log.
 
 use super::fake_file::FakeFile;
-use super::fixture::{MEMORY, genesis_of};
+use super::fixture::{MEMORY, again, genesis_of};
 use block::{Header, empty_body_hash, read, write_empty};
 use chain_core::Core;
 use file_disk::FileDisk;
@@ -62,9 +62,10 @@ fn size_of(rt: &(impl Abort + AllocGlobal), log: Log<FileDisk<FakeFile>>) -> usi
 fn log_after_a_run(rt: HostRuntime) {
     for (arrived, height, size) in [(1, 0, 1), (2, 0, 1), (3, 1, 78), (4, 2, 188)] {
         let log = Box::into_inner(log_after(&rt, arrived));
-        let again = Core::<TestScheme>::reopen(rt.alloc(), genesis_of(&rt), log.blocks());
-        let again = Box::new(rt.alloc(), again.expect(&rt, "a chain")).expect(&rt, MEMORY);
-        assert!(rt; again.height() == height);
+        let (log, restart) = again(&rt, log);
+        let core = restart.core().expect(&rt, "a chain");
+        let core = Box::new(rt.alloc(), core).expect(&rt, MEMORY);
+        assert!(rt; core.height() == height);
         assert!(rt; size_of(&rt, log) == size);
     }
 }

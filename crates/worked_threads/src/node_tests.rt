@@ -4,10 +4,10 @@ ghost use Rattle.std.specs.Prelude.{◌≡◌};
 ghost use Rattle.chain_core.specs.Immutable.{texts_of};
 
 use super::fake_file::FakeFile;
-use super::fixture::{MEMORY, genesis_of, log_on, next_of, same};
+use super::fixture::{MEMORY, again, log_on, next_of, restart_of, same};
 use chain_core::{FollowerId, Instruction};
 use file_disk::FileDisk;
-use flushing::{flush_shared, shared_on};
+use flushing::{Restart, flush_shared};
 use ident::Point;
 use immlog::Log;
 use inbox::{Mailroom, PeerEnd};
@@ -182,10 +182,13 @@ fn run_node<
 fn begin_node<R: Threads + Wait + Abort + AllocGlobal + Sync>(
     rt: &R,
     log: &mut Log<FileDisk<FakeFile>>,
+    restart: Restart<TestScheme>,
     now: u64,
     chain: Vec<Point>,
-) -> (Client, Client) {
-    let Ok(opened) = shared_on(rt.alloc(), genesis_of(rt), log, 5) else {
+) -> (Client, Client)
+    requires { restart.blocks ≡ log.old.blocks }
+{
+    let Ok(opened) = restart.shared(5) else {
         rt.abort();
     };
     let inbox = inbox::Opened::new(rt.alloc(), 8).expect(rt, "an inbox");
@@ -208,11 +211,12 @@ fn was_told(rt: &impl Abort, client: &Client, first: u64, last: u64) {
 #[test]
 fn a_node_goes_on(rt: HostRuntime) {
     let mut log = log_on(&rt, FakeFile::new(rt.alloc(), u64::MAX));
-    let (one, other) = begin_node(&rt, &mut log, 1, Vec::new(rt.alloc()));
+    let (one, other) = begin_node(&rt, &mut log, restart_of(&rt), 1, Vec::new(rt.alloc()));
     was_told(&rt, &one, 1, 40);
     was_told(&rt, &other, 1, 40);
     same(&rt, "blocks of the log", log.durable() as u64, 38);
-    let (one, other) = begin_node(&rt, &mut log, 101, one.chain);
+    let (mut log, restart) = again(&rt, log);
+    let (one, other) = begin_node(&rt, &mut log, restart, 101, one.chain);
     was_told(&rt, &one, 39, 78);
     was_told(&rt, &other, 1, 78);
     same(&rt, "blocks of the log", log.durable() as u64, 76);

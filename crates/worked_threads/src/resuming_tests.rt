@@ -5,14 +5,14 @@ ghost use Rattle.chain_core.specs.Immutable.{texts_of};
 
 use super::fake_file::FakeFile;
 use super::fixture::{
-    MEMORY, Parts, chain_lines, drains, genesis_of, log_on, names_of, next_of, parts_of,
+    MEMORY, Parts, again, chain_lines, drains, log_on, names_of, next_of, parts_of, restart_of,
     send_blocks,
 };
 use chain_core::{FollowerId, Instruction};
 use file_disk::FileDisk;
-use flushing::{flush_shared, shared_on};
+use flushing::{Restart, flush_shared};
 use ident::Point;
-use immlog::{Disk, Log};
+use immlog::Log;
 use inbox::Mailroom;
 use script::Names;
 use shared::{Caller, Opened, Room, Shared};
@@ -128,24 +128,17 @@ fn runs<B: Room + Send + Sync, M: Mailroom, R: Threads + Wait + Abort + AllocGlo
 fn runs_on<R: Threads + Wait + Abort + AllocGlobal + Sync>(
     rt: &R,
     log: &mut NodeLog,
+    restart: Restart<TestScheme>,
     told: Vec<Point>,
     part: Part<'_>,
-) -> Vec<Point> {
-    let Ok(opened) = shared_on(rt.alloc(), genesis_of(rt), log, 3) else {
+) -> Vec<Point>
+    requires { restart.blocks ≡ log.old.blocks }
+{
+    let Ok(opened) = restart.shared(3) else {
         rt.abort();
     };
     let inbox = inbox::Opened::new(rt.alloc(), 64).expect(rt, "an inbox");
     runs::<Brand, Brand, _>(rt, opened, inbox, log, told, part)
-}
-
-/// The log that is in the file of this one.
-fn again<R: Threads + Abort + AllocGlobal + Sync>(rt: &R, log: NodeLog) -> NodeLog {
-    let file = log.into_disk().into_file();
-    let disk = FileDisk::open(rt.alloc(), file).expect(rt, MEMORY);
-    match Log::open(rt, rt.alloc(), disk) {
-        Ok(log) => log,
-        Err(_) => rt.abort(),
-    }
 }
 
 #[test]
@@ -157,16 +150,16 @@ fn begins_again_on_its_log(rt: HostRuntime) {
         first: 1,
         last: FIRST,
     };
-    let told = runs_on(&rt, &mut log, Vec::new(rt.alloc()), part);
+    let told = runs_on(&rt, &mut log, restart_of(&rt), Vec::new(rt.alloc()), part);
     assert!(rt; told.len() == FIRST);
-    let mut log = again(&rt, log);
+    let (mut log, restart) = again(&rt, log);
     assert!(rt; log.durable() == FIRST - BACK);
     let part = Part {
         names: &names,
         first: FIRST - BACK + 1,
         last: ALL,
     };
-    let told = runs_on(&rt, &mut log, told, part);
+    let told = runs_on(&rt, &mut log, restart, told, part);
     assert!(rt; told.len() == ALL);
     assert!(rt; log.durable() == ALL - BACK);
 }

@@ -8,7 +8,7 @@ pub returns : goal.returns
 returns c =
     let block = c.args.block.now in
     let len : c.copy_from_slice.new.self ≡ to_be_bytes w32 (length block) = search rules in
-    let digest : c.copy_from_slice-2.new.self ≡ sha256 block = search rules in
+    let digest : c.copy_from_slice-2.new.self ≡ sha256 block = search (rules, c.requires.digest) in
     let text : c.copy_from_slice-3.new.self ≡ block = search rules in
     let gate : c.copy_from_slice-4.new.self ≡ 0 ∷ [] = search rules in
     (λ i. len i ++ (digest i ++ (text i ++ gate i)))

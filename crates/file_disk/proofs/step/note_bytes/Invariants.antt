@@ -1,6 +1,0 @@
-use Rattle.std.proofs.Common.{◌≡◌, take}
-use Rattle.file_disk.specs.Steps.{noted}
-use Rattle.file_disk.proofs.step.note_bytes.Given as goal
-
-abbrev pub invariant-loop-byte : goal.invariant-loop-byte
-invariant-loop-byte l = noted l.so_far.items ≡ take l.byte-index l.bytes
