@@ -115,7 +115,7 @@ fn megabyte(alloc: Global) -> Vec<u8> {
 fn are_brought<B: Room, M: Mailroom, R: AllocGlobal + Threads + Wait + Sync>(
     rt: &R,
     shared: &Shared<TestScheme, B>,
-    adder: &mut Adder<OpenGate, B, M>,
+    adder: &mut Adder<TestScheme, OpenGate, B, M>,
     peer: &mut PeerEnd<M>,
     arrivals: u64,
 ) -> bool {
@@ -138,7 +138,7 @@ fn measure_arrivals<
 >(
     rt: &R,
     shared: &Shared<TestScheme, B>,
-    adder: &mut Adder<OpenGate, B, M>,
+    adder: &mut Adder<TestScheme, OpenGate, B, M>,
     peer: &mut PeerEnd<M>,
 ) -> io::Result<()> {
     print_held(rt, "malformed megabytes", 0)?;

@@ -180,7 +180,7 @@ fn run_threads<B: Room + Send + Sync, M: Mailroom + Send + Sync, R: Threads + Wa
     rt: &R,
     alloc: Global,
     shared: &Shared<TestScheme, B>,
-    adder: &mut Adder<OpenGate, B, M>,
+    adder: &mut Adder<TestScheme, OpenGate, B, M>,
     senders: Vec<Sender<M>>,
     clients: Vec<Client<B>>,
 ) -> Ended<B> {
@@ -224,7 +224,7 @@ fn are_counted(counts: &[u64; PEERS]) -> bool {
 fn learns_all<B: Room, M: Mailroom, R: Wait>(
     rt: &R,
     shared: &Shared<TestScheme, B>,
-    adder: &mut Adder<OpenGate, B, M>,
+    adder: &mut Adder<TestScheme, OpenGate, B, M>,
     client: &mut Client<B>,
 ) -> bool {
     adder.meet(rt, shared, &mut client.caller);
@@ -237,7 +237,7 @@ fn learns_all<B: Room, M: Mailroom, R: Wait>(
 fn summed_up<B: Room, M: Mailroom, R: Wait>(
     rt: &R,
     shared: &Shared<TestScheme, B>,
-    adder: &mut Adder<OpenGate, B, M>,
+    adder: &mut Adder<TestScheme, OpenGate, B, M>,
     clients: &mut [Client<B>],
     brought: Work,
 ) -> Option<(Work, u64)> {

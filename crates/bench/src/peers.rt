@@ -89,7 +89,7 @@ pub fn dealt<M: Mailroom>(
 fn bring_all<B: Room, M: Mailroom, R: Threads + Wait + Sync>(
     rt: &R,
     shared: &Shared<TestScheme, B>,
-    adder: &mut Adder<OpenGate, B, M>,
+    adder: &mut Adder<TestScheme, OpenGate, B, M>,
     blocks: u64,
 ) {
     let mut left = blocks;
@@ -109,7 +109,7 @@ fn bring_all<B: Room, M: Mailroom, R: Threads + Wait + Sync>(
 fn bring<B: Room, M: Mailroom, R: Threads + Wait + Clock + Sync>(
     rt: &R,
     shared: &Shared<TestScheme, B>,
-    adder: &mut Adder<OpenGate, B, M>,
+    adder: &mut Adder<TestScheme, OpenGate, B, M>,
     blocks: u64,
     ended: &AtomicBool,
 ) -> Work {
@@ -128,7 +128,7 @@ pub fn bring_if<B: Room, M: Mailroom, R: Threads + Wait + Clock + Sync>(
     all_started: bool,
     rt: &R,
     shared: &Shared<TestScheme, B>,
-    adder: &mut Adder<OpenGate, B, M>,
+    adder: &mut Adder<TestScheme, OpenGate, B, M>,
     blocks: u64,
     ended: &AtomicBool,
 ) -> Option<Work> {
@@ -220,7 +220,7 @@ fn two_of<B: Room>(callers: &mut Vec<Caller<B>>) -> Option<(Caller<B>, Caller<B>
 fn run_all<B: Room + Send + Sync, M: Mailroom + Send + Sync, R: Threads + Wait + Clock + Sync>(
     rt: &R,
     shared: &Shared<TestScheme, B>,
-    adder: &mut Adder<OpenGate, B, M>,
+    adder: &mut Adder<TestScheme, OpenGate, B, M>,
     senders: Vec<Sender<M>>,
     watcher: Caller<B>,
     question: Question,

@@ -101,7 +101,7 @@ impl<'a> BlockRef<'a> {
     {
         let bytes = Vec::from_slice(alloc, self.bytes)?;
         let transactions = check_all(alloc, self.transactions)?;
-        CheckedBlock::of_parts(alloc, bytes, self.facts, transactions)
+        Ok(CheckedBlock::of_parts(alloc, bytes, self.facts, transactions)?)
     }
 }
 

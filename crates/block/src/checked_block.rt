@@ -14,7 +14,7 @@ use crate::facts::Facts;
 use crate::fault::ReadFault;
 use crate::header::Header;
 use ident::{BlockHash, Point};
-use std::alloc::{AllocError, Global};
+use std::alloc::{AllocError, AllocFailed, Global};
 use std::fmt;
 use std::marker::Model;
 use std::sync::Arc;
@@ -213,23 +213,26 @@ pub fn check_all<S: SigScheme>(
 }
 
 impl<S: SigScheme> CheckedBlock<S> {
-    /// A block of its own of these bytes and what they were read as, which are moved in.
+    /// A block of its own of these bytes and what they were read as, which are moved in. Where there is no memory for
+    /// it the bytes come back.
     pub(crate) fn of_parts(
         alloc: Global,
         bytes: Vec<u8>,
         facts: Facts,
         transactions: Vec<CheckedTx<S>>,
-    ) -> Result<CheckedBlock<S>, AllocError>
+    ) -> Result<CheckedBlock<S>, AllocFailed<Vec<u8>>>
         requires { AreFactsOf facts transactions.items bytes.items }
-        ensures { IfOk result (λ b. b ≡ block_of facts transactions.items) }
+        ensures block { IfOk result (λ b. b ≡ block_of facts transactions.items) }
+        ensures back { IfErr result (λ failed. failed.value ≡ bytes) }
     {
         let inner = CheckedInner {
             bytes,
             facts,
             transactions,
         };
-        Ok(CheckedBlock {
-            inner: Arc::new(alloc, inner)?,
-        })
+        match Arc::new(alloc, inner) {
+            Ok(inner) => Ok(CheckedBlock { inner }),
+            Err(AllocFailed { value }) => Err(AllocFailed { value: value.bytes }),
+        }
     }
 }

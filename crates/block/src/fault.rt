@@ -5,9 +5,11 @@ ghost use Rattle.block.specs.declared.fault.ReadFault.TheVariants as read;
 ghost use Rattle.block.specs.declared.fault.WriteFault.TheVariants as write;
 ghost use Rattle.block.specs.declared.fault.NoText.TheVariants as text;
 ghost use Rattle.block.specs.Read.{bad_fault};
+ghost use Rattle.witness_pool.specs.declared.pool_fault.PoolFault.TheVariants as pool;
 
-use std::alloc::AllocError;
+use std::alloc::{AllocError, AllocFailed};
 use thiserror::Error;
+use witness_pool::PoolFault;
 
 /// Why bytes are no block, whatever the memory, in the order in which the reasons are looked for.
 #[derive(Clone, Copy, Debug, PartialEq, Eq, Error)]
@@ -41,6 +43,16 @@ pub enum ReadFault {
     OutOfMemory,
 }
 
+/// Bytes that were not read, for want of memory or of workers. They come back.
+#[derive(Debug, Drop, Error)]
+#[error("{fault}")]
+pub struct NotRead {
+    /// Why they were not read.
+    pub fault: PoolFault,
+    /// The bytes.
+    pub bytes: Vec<u8>,
+}
+
 /// Why a header has no text.
 #[derive(Clone, Copy, Debug, PartialEq, Eq, Error)]
 pub enum WriteFault {
@@ -64,6 +76,17 @@ pub enum NoText {
     /// Memory ran out, and neither of the others applies.
     #[error("out of memory")]
     OutOfMemory,
+}
+
+impl From<AllocFailed<Vec<u8>>> for NotRead {
+    ghost from_gives = { λ failed e. e ≡ record { fault = pool.OutOfMemory; bytes = failed.value } };
+
+    fn from(failed: AllocFailed<Vec<u8>>) -> NotRead {
+        NotRead {
+            fault: PoolFault::OutOfMemory,
+            bytes: failed.value,
+        }
+    }
 }
 
 impl From<AllocError> for ReadFault {

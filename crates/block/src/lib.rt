@@ -17,7 +17,7 @@ mod writing;
 pub use block::{Block, read};
 pub use block_ref::{BlockRef, MAX_BLOCK_SIZE, look};
 pub use checked_block::CheckedBlock;
-pub use fault::{BadBytes, NoText, ReadFault, WriteFault};
+pub use fault::{BadBytes, NoText, NotRead, ReadFault, WriteFault};
 pub use full::{write, write_with_body, write_with_hash};
 pub use header::{Header, NUMBER_LIMIT};
 pub use laws::one_answer;

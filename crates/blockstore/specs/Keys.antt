@@ -40,7 +40,8 @@ pub record AreKeysOf {K : Type 0} (IsKey : Block → K → Type 0) (has : K → 
   pub named : (key : K) → has key ≡ true
       → (hash : List ℕ) × (x : Stored) × (at hash ≡ Some x) × IsKey x.block key
 
--- the least of the links whose blocks name this one as the block before them, and the greatest
+-- the least of the links whose blocks name this one as the block before them, and the greatest; where it is None, of
+-- those whose blocks name none
 abbrev pub first_link : Option (List ℕ) → Link
 first_link previous = record { previous = previous; hash = replicate hash_size 0 }
 

@@ -27,7 +27,8 @@ pub struct Link {
 }
 
 impl Link {
-    /// The least of those whose blocks name the one with this hash as the block before them, or name none.
+    /// The least of those whose blocks name the one with this hash as the block before them; where there is no hash, of
+    /// those whose blocks name none.
     pub fn first(previous: Option<BlockHash>) -> Link
         ensures { result ≡ first_link (option_map hash_bytes previous) }
     {

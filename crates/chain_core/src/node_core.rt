@@ -222,14 +222,30 @@ impl<S: SigScheme> Core<S> {
         ensures start { KeepsStart self.old self.new }
         ensures err { OnErr result (self.new ≡ self.old) }
     {
-        let block = match seen.into_result() {
+        self.arrive_lent(&seen)
+    }
+
+    /// As [`Core::arrive_seen`] has it, of bytes that stay with the caller, which may bring them again where memory ran
+    /// out. A block that is kept is shared with it.
+    pub fn arrive_lent(&mut self, seen: &Seen<S>) -> Result<ArriveReply, AllocError>
+        // For every state of the definitions that the core stands for, this is a step to one that it then stands for.
+        ensures step { Steps S.verifies self.old (Arrive seen.now) (arrive_reply_of result) self.new }
+        // Memory runs out only where no refusal applies.
+        ensures memory { OnErr result ((s : State) → Stands self.old s → (refusal : history.Refusal) →
+            Applies (network_held self.old S.verifies) s seen.now refusal → ⊥) }
+        ensures size { OnErr result (length seen.now ≤ block_size_limit) }
+        ensures start { KeepsStart self.old self.new }
+        ensures err { OnErr result (self.new ≡ self.old) }
+    {
+        let block = match seen.block() {
             Ok(block) => block,
             Err(bad) => return Ok(ArriveReply::Refused(Refusal::from(bad))),
         };
         if let Some(refusal) = first_refusal(&self.chain_db, block.point(), block.bytes()) {
             return Ok(ArriveReply::Refused(refusal));
         }
-        let change = self.chain_db.add(self.alloc, &self.genesis, block)?;
+        let shared = block.try_clone()?;
+        let change = self.chain_db.add(self.alloc, &self.genesis, shared)?;
         self.followers
             .moved(self.chain_db.chain.len() as u64 - change.added);
         Ok(ArriveReply::Kept {

@@ -1,6 +1,6 @@
 -- An adder, one step after the other.
 use Rattle.std.proofs.Common.{◌≡◌, ◌≢◌, ◌⊎◌, ℕ, suc, ◌+◌, ◌-◌, ◌<◌, ◌≤◌, ◌^◌, min, Bool, true, false, true≢false, not, is_some, List, [], ◌∷◌, ◌++◌, length, Option, Some, None, refl, sym, ap, ◌∙◌, subst, inl, inr, ⊎_elim, append_assoc, append-nil, arith}
-use Rattle.std.specs.Prelude.{slice_index, slice_set, IfNone}
+use Rattle.std.specs.Prelude.{slice_index, slice_set, IfNone, IfSome, option_map}
 use Rattle.std.specs.List.{AllByRecursion}
 use Rattle.std.proofs.lemmas.Bool.Decides.{eqb_tells}
 use Rattle.std.proofs.lemmas.List.{length-append, get_or-set_same, get_or-set_other}
@@ -13,6 +13,8 @@ use Rattle.inbox.proofs.ForCallers.{came_own, came_other}
 use Rattle.shared.specs.Later.{IsLater, Same, Called, Looked, Met}
 use Rattle.shared.specs.Arrivals.{arrivals_in}
 use Rattle.shared.specs.Entries.{arrival_by}
+use Rattle.shared.specs.declared.held.Held.{Held}
+use Rattle.shared.specs.HeldArrivals.{held_arrival}
 use Rattle.shared.specs.Adding.{Adding, held_in, IsInStep, IsArrival, IsBrought, HasAdded, HasTaken, IsGrownBy, IsAllBrought, IsBroughtCount}
 use Rattle.shared.proofs.Arriving.{arrivals_push}
 
@@ -27,6 +29,15 @@ begins_on c b a more first = (first.0 ++ more.0, more.1 ∙ (ap (λ (l : List Ar
 
 begins_same : (a : List Arrival) → BeginsWith a a
 begins_same a = ([], sym (append-nil a))
+
+-- what is held came from a peer
+pub held_peer : {S : Type 0} (o : Option (Held S)) (h : Held S) → o ≡ Some h → IfSome o (λ x. IsPeer (held_arrival x).peer) → IsPeer (held_arrival h).peer
+held_peer {S} o h is from = subst (λ (x : Option (Held S)). IfSome x (λ y. IsPeer (held_arrival y).peer)) is from
+
+-- whether anything is held
+pub held_some : {S : Type 0} (o : Option (Held S)) → is_some (option_map held_arrival o) ≡ is_some o
+held_some None = refl
+held_some (Some h) = refl
 
 -- ---- what was brought
 

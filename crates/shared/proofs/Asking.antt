@@ -1,7 +1,6 @@
 -- What a core answers, said of its journal.
-use Rattle.std.proofs.Common.{◌≡◌, sym, ap, subst}
+use Rattle.std.proofs.Common.{◌≡◌, sym, subst}
 use Rattle.model.specs.Signature.{Verifies}
-use Rattle.model.specs.Ledger.{Network, network_on}
 use Rattle.shared.specs.Starts.{Start, network_from}
 use Rattle.model.specs.History.{State}
 use Rattle.model.specs.Journal.{Journal, Knowledge, height_of}

@@ -2,7 +2,7 @@
 use Rattle.std.proofs.Common.{◌≡◌, ◌≢◌, List, [], ◌∷◌, ◌++◌, length, refl, sym, ap, ◌∙◌, subst, ℕ, Option, Result, Ok, Err}
 use Rattle.std.proofs.lemmas.List.{map-append}
 use Rattle.model.specs.Signature.{Verifies}
-use Rattle.model.specs.Ledger.{Network, network_on}
+use Rattle.model.specs.Ledger.{Network}
 use Rattle.shared.specs.Starts.{Start, network_from, start_of}
 use Rattle.model.specs.Chain.{IsOpening}
 use Rattle.model.specs.History.{State, Event, Reply, OutOfMemory, Entry, opening, Step, IsLegal}

@@ -3,7 +3,7 @@ use Rattle.std.proofs.Common.{◌≡◌, ℕ, List, [], ◌∷◌, ◌++◌, len
 use Rattle.std.proofs.lemmas.List.{map-append, take-append-drop}
 use Rattle.model.specs.Signature.{Verifies}
 use Rattle.model.specs.Block.{Block, block_text}
-use Rattle.model.specs.Ledger.{Network, network_on}
+use Rattle.model.specs.Ledger.{Network}
 use Rattle.shared.specs.Starts.{Start, network_from}
 use Rattle.model.specs.Chain.{IsOpening, immutable_part, BeginsWith}
 use Rattle.model.specs.History.{State, Entry, opening, IsRun, IsLegal}

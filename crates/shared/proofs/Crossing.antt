@@ -14,6 +14,7 @@ use Rattle.atomic_table.proofs.shared.Seat.TheSendSync as seat
 use Rattle.atomic_table.proofs.owned.Table.TheSendSync as table
 use Rattle.chain_core.specs.contracts.node_core.Core as Core
 use Rattle.witness_pool.specs.declared.scheme.SigScheme as scheme
+use Rattle.block.proofs.ForCallers.{Seen-send}
 use Rattle.chain_core.proofs.ForCallers.{Core-send}
 use Rattle.shared.specs.declared.room.Room as room
 use Rattle.shared.specs.contracts.caller.Caller as Caller
@@ -25,8 +26,10 @@ use Rattle.shared.specs.contracts.desk.Desk as Desk
 use Rattle.shared.specs.contracts.shared.Shared as Shared
 use Rattle.inbox.specs.declared.mailroom.Mailroom as mailroom
 use Rattle.shared.specs.contracts.adder.Adder as Adder
+use Rattle.shared.specs.contracts.held.Held as Held
 use Rattle.shared.proofs.caller.Caller.TheSendSync as caller
-use Rattle.shared.proofs.adder.Adder.TheSendSync as adder
+use Rattle.shared.proofs.caller_seat.CallerSeat.TheSendSync as caller_seat
+use Rattle.inbox.proofs.adder_end.AdderEnd.TheSendSync as adder_end
 
 unit_send : IsSend unit
 unit_send = search sendable
@@ -34,11 +37,18 @@ unit_send = search sendable
 pub Caller-send : (B : RattleType) (b : room.Ghosts B.Denot) → IsSend (Caller.the_field B b).row
 Caller-send = caller.the_send
 
--- an adder whose gate may
-pub Adder-send : (G B M : RattleType) (b : room.Ghosts B.Denot) (m : mailroom.Ghosts M.Denot) → IsSend G → IsSend (Adder.the_row G B M b m)
-Adder-send = adder.the_send
-
 module _ (S : RattleType) (s : scheme.Ghosts S.Denot) where
+  held_send : IsSend (Held.the_field S s).row
+  held_send = let seen = Seen-send S s in search (crosses, sendable) depth 20
+
+  -- an adder whose gate may
+  pub Adder-send : (G B M : RattleType) (b : room.Ghosts B.Denot) (m : mailroom.Ghosts M.Denot) → IsSend G → IsSend (Adder.the_field S G B M s b m).row
+  Adder-send G B M b m gate =
+      let held = held_send in
+      let caller = caller_seat.the_send B b in
+      let end = adder_end.the_send M m in
+      search (crosses, sendable) depth 20
+
   module _ (B : RattleType) (b : room.Ghosts B.Denot) where
     journal_send : IsSend (Journal.the_field B b).row
     journal_send = search (seat.the_send, crosses, sendable) depth 20

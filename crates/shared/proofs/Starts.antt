@@ -5,7 +5,6 @@ use Rattle.model.specs.Signature.{Verifies}
 use Rattle.model.specs.Genesis.{Genesis}
 use Rattle.model.specs.Block.{Block, SpellsBlock, block_text}
 use Rattle.model.specs.Chain.{IsOpening}
-use Rattle.model.specs.Ledger.{network_of}
 use Rattle.model.proofs.BlockTexts.{block_text_is}
 use Rattle.model.proofs.LegalHistories.{opens_nothing}
 use Rattle.chain_core.specs.Held.{Held, opening_held}

@@ -17,4 +17,5 @@ pub mod Forging
 pub mod Opening
 pub mod OpenedCores
 pub mod Adding
+pub mod HeldArrivals
 pub mod Adders

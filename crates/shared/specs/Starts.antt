@@ -1,5 +1,5 @@
 -- What a shared core begins from: a new genesis, or a chain that its blocks were kept of.
-use Rattle.std.specs.Prelude.{◌≡◌, ℕ, List, [], length}
+use Rattle.std.specs.Prelude.{◌≡◌, ℕ, List, []}
 use mathlib.Core.Path.{refl}
 use Rattle.std.specs.Coded.{Coded, coded×, coded_list, code_by}
 use Rattle.model.specs.Signature.{Verifies}

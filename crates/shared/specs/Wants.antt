@@ -1,7 +1,6 @@
 -- When a call under the lock asks for memory.
 use Rattle.std.specs.Prelude.{◌≡◌, ◌<◌, ℕ, List}
 use Rattle.model.specs.Signature.{Verifies}
-use Rattle.model.specs.Ledger.{Network}
 use Rattle.model.specs.Follower.{free_id}
 use Rattle.model.specs.Limits.{follower_limit}
 use Rattle.model.specs.History.{State, Reply, Refusal, OutOfMemory, HasDue, Applies}

@@ -8,16 +8,16 @@ ghost use Rattle.model.specs.Journal.{IsMeeting};
 ghost use Rattle.inbox.specs.Arrivals.{IsPeer, peers};
 ghost use Rattle.inbox.specs.Telling.{IsAllThatWasSent};
 ghost use Rattle.witness_pool.specs.Workers.{AreWorkers};
-ghost use Rattle.shared.specs.Adding.{HasAdded, HasTaken, IsGrownBy, IsBrought, IsAllBrought, IsBroughtCount};
+ghost use Rattle.shared.specs.Adding.{HasAdded, HasTaken, IsGrownBy, IsAllBrought, IsBroughtCount};
 
 use crate::caller::Caller;
 use crate::caller_seat::CallerSeat;
-use crate::faults::NotArrived;
+use crate::held::Held;
 use crate::reader::Reader;
 use crate::room::Room;
 use crate::shared::Shared;
-use inbox::{AdderEnd, Arrival, Mailroom, PEERS, PeerEnd};
-use std::alloc::{AllocError, Global};
+use inbox::{AdderEnd, Mailroom, PEERS, PeerEnd};
+use std::alloc::{AllocError, AllocFailed, Global};
 use std::marker::Model;
 use std::sync::Wait;
 use std::thread::Threads;
@@ -28,15 +28,15 @@ use witness_pool::{Gate, Pool, SigScheme};
 /// a caller, what it took, and the arrival that it took and hasn't brought: one that memory ran out for stays with it.
 ///
 /// Of each peer, the arrivals among its calls, and then the one that it holds, are what it took of that peer.
-pub struct Adder<G, B: Room, M: Mailroom> {
+pub struct Adder<S: SigScheme, G, B: Room, M: Mailroom> {
     reader: Reader<G>,
     caller: CallerSeat<B>,
     end: AdderEnd<M>,
-    held: Option<Arrival>,
+    held: Option<Held<S>>,
 }
 
 // By hand, so that each exit calls it: the derived one is copied to each exit of each owner.
-impl<G: Drop, B: Room, M: Mailroom> Drop for Adder<G, B, M> {
+impl<S: SigScheme, G: Drop, B: Room, M: Mailroom> Drop for Adder<S, G, B, M> {
     fn drop(self) {
         let Adder {
             reader: _,
@@ -47,7 +47,7 @@ impl<G: Drop, B: Room, M: Mailroom> Drop for Adder<G, B, M> {
     }
 }
 
-impl<G, B: Room, M: Mailroom> Model for Adder<G, B, M> {
+impl<S: SigScheme, G, B: Room, M: Mailroom> Model for Adder<S, G, B, M> {
     ghost use Rattle.shared.specs.Adding.{Adding, coded_adding};
 
     ghost Value = { Adding };
@@ -71,7 +71,7 @@ fn count_out(counts: &mut [u64; PEERS], peer: u64)
     counts[place] = counts[place].saturating_sub(1);
 }
 
-impl<G: Gate, B: Room, M: Mailroom> Adder<G, B, M> {
+impl<S: SigScheme + Send, G: Gate, B: Room, M: Mailroom> Adder<S, G, B, M> {
     /// An adder that takes from this end of an inbox, from which nothing was taken yet, and makes its calls as this
     /// caller. Blocks' transactions are checked by so many workers of the pool, 1 to 16. Takes no memory.
     pub fn new(
@@ -80,7 +80,7 @@ impl<G: Gate, B: Room, M: Mailroom> Adder<G, B, M> {
         caller: Caller<B>,
         pool: Pool<G>,
         workers: usize,
-    ) -> Adder<G, B, M>
+    ) -> Adder<S, G, B, M>
         requires end { end.taken ≡ [] }
         requires workers { AreWorkers workers }
         ensures { result ≡ record { knows = caller; intake = end; held = None } }
@@ -104,20 +104,15 @@ impl<G: Gate, B: Room, M: Mailroom> Adder<G, B, M> {
         ensures { (place : ℕ) → place < peers → IsBroughtCount self.now place (slice_index result place) }
     {
         let mut counts = self.end.counts();
-        if let Some(arrival) = &self.held {
-            count_out(&mut counts, arrival.peer);
+        if let Some(held) = &self.held {
+            count_out(&mut counts, held.peer());
         }
         counts
     }
 
     /// The adder and a caller meet: each looks at the height, and has then seen the same journal, which begins with all
     /// that it had seen. Waits for the lock. Takes no memory.
-    pub fn meet<S: SigScheme, R: Wait>(
-        &mut self,
-        rt: &R,
-        shared: &Shared<S, B>,
-        caller: &mut Caller<B>,
-    )
+    pub fn meet<R: Wait>(&mut self, rt: &R, shared: &Shared<S, B>, caller: &mut Caller<B>)
         ensures meeting { IsMeeting (network_from B.start S.verifies) self.old.knows caller.old self.new.knows
             caller.new }
         ensures same { self.new ≡ record self.old { knows = self.new.knows } }
@@ -130,7 +125,7 @@ impl<G: Gate, B: Room, M: Mailroom> Adder<G, B, M> {
         requires { self.old.held ≡ None }
         ensures { HasTaken self.old self.new }
     {
-        self.held = self.end.take(rt);
+        self.held = Held::taken(self.end.take(rt));
     }
 
     /// Takes the oldest arrival with these peers lent, which have ended; where there is none all that they sent was
@@ -141,11 +136,11 @@ impl<G: Gate, B: Room, M: Mailroom> Adder<G, B, M> {
         ensures peers { peers.new ≡ peers.old }
         ensures last { IfNone self.new.held (AllByRecursion (IsAllThatWasSent self.new.intake.taken) peers.old) }
     {
-        self.held = self.end.take_last(rt, peers);
+        self.held = Held::taken(self.end.take_last(rt, peers));
     }
 
     /// Brings the arrival that is held, if one is. Where memory runs out it is still held.
-    fn bring<S: SigScheme + Send, R: Threads + Wait + Sync>(
+    fn bring<R: Threads + Wait + Sync>(
         &mut self,
         rt: &R,
         shared: &Shared<S, B>,
@@ -158,14 +153,19 @@ impl<G: Gate, B: Room, M: Mailroom> Adder<G, B, M> {
         ensures err { OnErr result (self.new ≡ self.old) }
         ensures waits { OnErr result (IsSome self.old.held) }
     {
-        let Some(arrival) = self.held.take() else {
+        let Some(held) = self.held.take() else {
             return Ok(0);
         };
-        let Arrival { peer, bytes } = arrival;
-        match bring_bytes(rt, &self.reader, shared, &mut self.caller, peer, bytes) {
-            Ok(()) => Ok(1),
-            Err(NotArrived { bytes }) => {
-                self.held = Some(Arrival { peer, bytes });
+        match self.reader.read(rt, held) {
+            Ok(arrival) => match shared.arrive(rt, &mut self.caller, &arrival) {
+                Ok(_reply) => Ok(1),
+                Err(AllocError) => {
+                    self.held = Some(Held::Seen(arrival));
+                    Err(AllocError)
+                }
+            },
+            Err(AllocFailed { value }) => {
+                self.held = Some(Held::Unread(value));
                 Err(AllocError)
             }
         }
@@ -176,9 +176,9 @@ impl<G: Gate, B: Room, M: Mailroom> Adder<G, B, M> {
     /// finds the inbox empty counts as one. Where memory runs out for an arrival it stays with the adder, and the next
     /// call begins with it. Waits for the lock, and for a thread that is in the middle of a step.
     ///
-    /// An arrival costs what reading it costs, shared by the workers, one copy of its bytes, and what it costs the
-    /// core, which alone is done under the lock.
-    pub fn run<S: SigScheme + Send, R: Threads + Wait + Sync>(
+    /// An arrival costs what reading it costs, shared by the workers, and what it costs the core, which alone is done
+    /// under the lock. It is read once, also where memory ran out for it under the lock, and its bytes are never copied.
+    pub fn run<R: Threads + Wait + Sync>(
         &mut self,
         rt: &R,
         shared: &Shared<S, B>,
@@ -205,7 +205,7 @@ impl<G: Gate, B: Room, M: Mailroom> Adder<G, B, M> {
     /// The peers, which are all that the inbox has, have ended, and are lent. Where memory runs out for an arrival it
     /// stays with the adder, and the next call begins with it. Waits for the lock, and for a thread that is in the
     /// middle of a step.
-    pub fn drain<S: SigScheme + Send, R: Threads + Wait + Sync>(
+    pub fn drain<R: Threads + Wait + Sync>(
         &mut self,
         rt: &R,
         shared: &Shared<S, B>,
@@ -228,30 +228,4 @@ impl<G: Gate, B: Room, M: Mailroom> Adder<G, B, M> {
         }
         unreachable!()
     }
-}
-
-/// Brings bytes that a peer sent. Where memory runs out they come back.
-fn bring_bytes<S, G, B, R>(
-    rt: &R,
-    reader: &Reader<G>,
-    shared: &Shared<S, B>,
-    caller: &mut CallerSeat<B>,
-    peer: u64,
-    bytes: Vec<u8>,
-) -> Result<(), NotArrived>
-where
-    S: SigScheme + Send,
-    G: Gate,
-    B: Room,
-    R: Threads + Wait + Sync,
-    requires peer { IsPeer peer }
-    ensures called { OnOk result (IsBrought (network_from B.start S.verifies) caller.old peer bytes.items caller.new) }
-    ensures caller { OnErr result (caller.new ≡ caller.old) }
-    ensures back { IfErr result (λ e. e.bytes ≡ bytes) }
-{
-    let Ok(seen) = reader.read(rt, &bytes) else {
-        return Err(NotArrived { bytes });
-    };
-    shared.arrive(rt, caller, peer, bytes, seen)?;
-    Ok(())
 }

@@ -28,7 +28,6 @@ ghost use Rattle.shared.specs.Standing.{IsHeightOf, IsCoreOf};
 
 use crate::call::Call;
 use crate::caller_seat::CallerSeat;
-use crate::faults::NotArrived;
 use crate::heights::Heights;
 use crate::journal::Journal;
 use crate::room::Room;
@@ -85,38 +84,32 @@ fn is_want<S: SigScheme>(answer: &Result<Option<Instruction<S>>, NextFault>) -> 
 // entry. The journal itself takes no memory. So a call that memory runs out for changes nothing and is in no journal.
 // What the core is only asked is in no journal either.
 impl<S: SigScheme, B: Room> Desk<S, B> {
-    /// Bytes of a block arrive that a peer sent; the caller brings them, and has seen what they are. Where memory runs
-    /// out they come back.
+    /// Bytes of a block arrive that a peer sent; the caller brings them, and has seen what they are.
     pub fn arrive(
         &mut self,
         heights: &Heights<S>,
         caller: &mut CallerSeat<B>,
         peer: u64,
-        bytes: Vec<u8>,
-        seen: Seen<S>,
-    ) -> Result<ArriveReply, NotArrived>
+        seen: &Seen<S>,
+    ) -> Result<ArriveReply, AllocError>
         requires heights { IsHeightOf B.table B.start heights.now }
         requires peer { IsPeer peer }
-        requires seen { seen ≡ bytes.items }
         // The call is the last entry of the journal, and the caller has seen all of it.
         ensures journal { IfOk result (λ reply. self.new ≡ self.old
-            ++ arrival_by caller.old.caller peer bytes.items (arrive_reply_of (Ok reply)) ∷ []) }
+            ++ arrival_by caller.old.caller peer seen.now (arrive_reply_of (Ok reply)) ∷ []) }
         ensures seen { OnOk result (caller.new.seen ≡ self.new) }
         ensures called { IfOk result (λ reply. IsCalled (network_from B.start S.verifies) caller.old
-            (arrival_by caller.old.caller peer bytes.items (arrive_reply_of (Ok reply))) caller.new) }
+            (arrival_by caller.old.caller peer seen.now (arrive_reply_of (Ok reply))) caller.new) }
         // Memory runs out only where no refusal applies.
-        ensures memory { OnErr result (IsWantAtArriving S.verifies B.start self.old bytes.items) }
-        ensures size { OnErr result (length bytes.items ≤ block_size_limit) }
+        ensures memory { OnErr result (IsWantAtArriving S.verifies B.start self.old seen.now) }
+        ensures size { OnErr result (length seen.now ≤ block_size_limit) }
         ensures err { OnErr result (self.new ≡ self.old) }
         ensures caller { OnErr result (caller.new ≡ caller.old) }
-        ensures back { IfErr result (λ e. e.bytes ≡ bytes) }
     {
-        let Ok(reply) = self.core.arrive_seen(seen) else {
-            return Err(NotArrived { bytes });
-        };
+        let reply = self.core.arrive_lent(seen)?;
         let entry = caller.entry(Call::Arrive {
             peer,
-            bytes: &bytes,
+            bytes: seen.bytes(),
             reply: &reply,
         });
         self.journal.write(heights, caller, &self.core, &entry);

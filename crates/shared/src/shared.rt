@@ -29,11 +29,11 @@ ghost use Rattle.shared.specs.Entries.{call_by, arrival_by};
 use crate::caller::Caller;
 use crate::caller_seat::CallerSeat;
 use crate::desk::Desk;
-use crate::faults::NotArrived;
 use crate::handles::{copy_handles, share_block};
 use crate::heights::Heights;
+use crate::held::SeenArrival;
 use crate::room::Room;
-use block::{CheckedBlock, Seen};
+use block::CheckedBlock;
 use chain_core::{
     ArriveReply, FollowerId, ForgeFault, Forged, Instruction, NextFault, OpenFollowerFault,
     UnknownFollower,
@@ -329,26 +329,22 @@ impl<S: SigScheme, B: Room> Shared<S, B> {
         desk.forge(&self.heights, &mut caller.seat, slot)
     }
 
-    /// Bytes of a block arrive that a peer sent, brought by the caller of this seat, which has seen what they are. The
-    /// call stands in the journal with its reply; where memory runs out it doesn't, and the bytes come back.
+    /// An arrival, brought by the caller of this seat, which has seen what its bytes are. The call stands in the
+    /// journal with its reply; where memory runs out it doesn't, and nothing changes.
     pub(crate) fn arrive<R: Wait>(
         &self,
         rt: &R,
         caller: &mut CallerSeat<B>,
-        peer: u64,
-        bytes: Vec<u8>,
-        seen: Seen<S>,
-    ) -> Result<ArriveReply, NotArrived>
-        requires peer { IsPeer peer }
-        requires seen { seen ≡ bytes.items }
-        ensures called { IfOk result (λ reply. IsCalled (network_from B.start S.verifies) caller.old
-            (arrival_by caller.old.caller peer bytes.items (arrive_reply_of (Ok reply))) caller.new) }
-        ensures size { OnErr result (length bytes.items ≤ block_size_limit) }
+        arrival: &SeenArrival<S>,
+    ) -> Result<ArriveReply, AllocError>
+        requires { IsPeer arrival.now.peer }
+        ensures called { IfOk result (λ reply. IsCalled (network_from B.start S.verifies) caller.old (arrival_by
+            caller.old.caller arrival.now.peer arrival.now.seen (arrive_reply_of (Ok reply))) caller.new) }
+        ensures size { OnErr result (length arrival.now.seen ≤ block_size_limit) }
         ensures err { OnErr result (caller.new ≡ caller.old) }
-        ensures back { IfErr result (λ e. e.bytes ≡ bytes) }
     {
         let mut desk = self.desk.lock(rt);
-        desk.arrive(&self.heights, caller, peer, bytes, seen)
+        desk.arrive(&self.heights, caller, arrival.peer, &arrival.seen)
     }
 
     /// The callers of two seats meet.

@@ -58,7 +58,7 @@ fn deal<M: Mailroom>(peers: &mut Vec<Peer<M>>, sends: Vec<Sending>) -> Result<()
 /// Those who act in a simulation.
 #[derive(Drop)]
 struct Cast<B: Room, M: Mailroom> {
-    adder: Adder<OpenGate, B, M>,
+    adder: Adder<TestScheme, OpenGate, B, M>,
     peers: Vec<Peer<M>>,
     clients: Vec<Caller<B>>,
 }
@@ -66,7 +66,7 @@ struct Cast<B: Room, M: Mailroom> {
 /// Those who have done their part.
 #[derive(Drop)]
 struct Ended<B: Room, M: Mailroom> {
-    adder: Adder<OpenGate, B, M>,
+    adder: Adder<TestScheme, OpenGate, B, M>,
     peers: Vec<PeerEnd<M>>,
     clients: Vec<Client<B>>,
 }
@@ -124,7 +124,7 @@ fn all_ended<B: Room, M: Mailroom, R: Threads>(
     rt: &R,
     alloc: Global,
     course: &Course,
-    adder: Adder<OpenGate, B, M>,
+    adder: Adder<TestScheme, OpenGate, B, M>,
     sending: Vec<JoinHandle<PeerEnd<M>>>,
     watching: Vec<JoinHandle<Option<Client<B>>>>,
 ) -> Result<Ended<B, M>, AllocError> {
@@ -182,7 +182,7 @@ fn run_threads<B: Room + Send + Sync, M: Mailroom + Send + Sync, R: Threads + Wa
 fn meet_all<B: Room, M: Mailroom, R: Wait>(
     rt: &R,
     shared: &Shared<TestScheme, B>,
-    adder: &mut Adder<OpenGate, B, M>,
+    adder: &mut Adder<TestScheme, OpenGate, B, M>,
     first: &mut Client<B>,
     others: &mut [Client<B>],
 )
@@ -220,7 +220,7 @@ fn summed_up<B: Room, M: Mailroom, R: Threads + Wait + Sync>(
     rt: &R,
     alloc: Global,
     shared: &Shared<TestScheme, B>,
-    adder: &mut Adder<OpenGate, B, M>,
+    adder: &mut Adder<TestScheme, OpenGate, B, M>,
     peers: &mut [PeerEnd<M>; PEERS],
     first: &mut Client<B>,
     others: &mut [Client<B>],

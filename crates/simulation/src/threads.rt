@@ -30,7 +30,7 @@ const ROUNDS: u64 = 1_000;
 fn add<B: Room, M: Mailroom, R: Threads + Wait + Sync>(
     rt: &R,
     shared: &Shared<TestScheme, B>,
-    adder: &mut Adder<OpenGate, B, M>,
+    adder: &mut Adder<TestScheme, OpenGate, B, M>,
     course: &Course,
 ) {
     for _ in rt.forever() {
@@ -51,8 +51,8 @@ pub fn run_adder<B: Room, M: Mailroom, R: Threads + Wait + Sync, G: Gate>(
     shared: &Shared<TestScheme, B>,
     course: &Course,
     gate: &G,
-    mut adder: Adder<OpenGate, B, M>,
-) -> Adder<OpenGate, B, M> {
+    mut adder: Adder<TestScheme, OpenGate, B, M>,
+) -> Adder<TestScheme, OpenGate, B, M> {
     gate.start(ADDER);
     add(rt, shared, &mut adder, course);
     gate.done(ADDER);

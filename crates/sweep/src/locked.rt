@@ -25,7 +25,7 @@ struct Named<B: Room> {
 #[derive(Drop)]
 struct Parts<B: Room, M: Mailroom> {
     shared: Box<Named<B>>,
-    adder: Adder<OpenGate, B, M>,
+    adder: Adder<TestScheme, OpenGate, B, M>,
     peers: [PeerEnd<M>; PEERS],
     caller: Caller<B>,
 }

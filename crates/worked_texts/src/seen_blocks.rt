@@ -4,7 +4,7 @@ use super::blocks::FIRST;
 use super::fixture::{MEMORY, boxed, check};
 use super::transactions::read_all;
 use super::verdicts::{BADLY, SIGNED};
-use block::{BadBytes, CheckedBlock, MAX_BLOCK_SIZE, Seen, write};
+use block::{BadBytes, CheckedBlock, MAX_BLOCK_SIZE, NotRead, Seen, write};
 use std::process::Abort;
 use std::thread::Threads;
 use witness_pool::{OpenGate, Pool, PoolFault, TestScheme};
@@ -20,16 +20,17 @@ fn seen_by<R: Threads + Sync + Abort + AllocGlobal>(
     rt: &R,
     workers: usize,
     bytes: &[u8],
-) -> Result<Seen<TestScheme>, PoolFault> {
+) -> Result<Seen<TestScheme>, NotRead> {
     let pool = Pool::new(OpenGate);
     let bytes = Vec::from_slice(rt.alloc(), bytes).expect(rt, MEMORY);
     Seen::read_with(rt, rt.alloc(), &pool, workers, bytes)
 }
 
-/// So many workers are refused.
+/// So many workers are refused, and the bytes come back.
 fn is_refused<R: Threads + Sync + Abort + AllocGlobal>(rt: &R, workers: usize, bytes: &[u8]) {
-    let fault = seen_by(rt, workers, bytes).err();
-    check(rt, "workers", fault == Some(PoolFault::BadWorkers));
+    let refused = seen_by(rt, workers, bytes).err().expect(rt, "a fault");
+    check(rt, "workers", refused.fault == PoolFault::BadWorkers);
+    check(rt, "back", refused.bytes.as_slice() == bytes);
 }
 
 /// The block of these bytes has transactions that are signed so.

@@ -47,7 +47,7 @@ fn forge_blocks<B: Room, M: Mailroom, R: Wait + Abort>(
 fn add_blocks<B: Room, M: Mailroom, R: Threads + Wait + Abort + Sync>(
     rt: &R,
     shared: &Shared<TestScheme, B>,
-    adder: &mut Adder<OpenGate, B, M>,
+    adder: &mut Adder<TestScheme, OpenGate, B, M>,
 ) {
     let mut brought = 0;
     for _ in rt.forever() {
@@ -123,7 +123,7 @@ fn run_threads<
 >(
     rt: &R,
     shared: &Shared<TestScheme, B>,
-    adder: &mut Adder<OpenGate, B, M>,
+    adder: &mut Adder<TestScheme, OpenGate, B, M>,
     peer: PeerEnd<M>,
     callers: &mut Vec<Caller<B>>,
     now: u64,

@@ -4,7 +4,6 @@ use Rattle.shared.specs.Heights.{first_view, IsKept}
 use Rattle.shared.specs.Starts.{network_from, start_of}
 use Rattle.shared.proofs.Calls.{nothing_legal}
 use Rattle.shared.proofs.Moves.{begins}
-use Rattle.shared.proofs.Starts.{opens_of}
 use Rattle.shared.proofs.opened.Opened.on.Goals as goal
 
 pub of_words-requires : goal.of_words-requires

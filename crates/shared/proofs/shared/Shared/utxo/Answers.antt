@@ -1,6 +1,6 @@
 use Rattle.std.proofs.Common.{rules, ◌≡◌, ◌∙◌, List, Some, subst}
 use Rattle.model.specs.Block.{Block}
-use Rattle.model.specs.Ledger.{Ledger, Network, ledger_of}
+use Rattle.model.specs.Ledger.{Network, ledger_of}
 use Rattle.shared.specs.Starts.{network_from}
 use Rattle.shared.specs.Meeting.{IsInformed}
 use Rattle.shared.specs.Standing.{IsCoreOf}
