@@ -14,6 +14,7 @@ use std::alloc::Global;
 use std::fs::{self, OpenFile, OpenOptions};
 use std::io::{self, Read, Write};
 use std::rt::{Clock, Files};
+use std::thread::Threads;
 
 /// The file, in the folder in which the program is run. It is removed in the end.
 const PATH: &str = "bench.log";
@@ -113,11 +114,14 @@ fn fill<R: Files + AllocGlobal>(rt: &R) -> Option<()> {
 }
 
 /// How long it takes to open the log, which has so many blocks.
-fn time_open<R: Files + AllocGlobal + Clock>(rt: &R, blocks: usize) -> Option<u128> {
+fn time_open<R: Files + AllocGlobal + Clock + Threads + Sync>(
+    rt: &R,
+    blocks: usize,
+) -> Option<u128> {
     let file = opened(rt)?;
     let start = now(rt);
     let disk = FileDisk::open(rt.alloc(), file).ok()?;
-    let log = match Log::open(rt.alloc(), disk, &mut Nobody::new()) {
+    let log = match Log::open(rt, rt.alloc(), disk, &mut Nobody::new()) {
         Ok(log) => log,
         Err(_) => return None,
     };
@@ -135,7 +139,7 @@ fn time_hash<R: Files + AllocGlobal + Clock>(rt: &R) -> Option<u128> {
 }
 
 /// The log of the file, which is made where it is missing or has no byte.
-fn log_of<R: Files + AllocGlobal>(rt: &R) -> Option<Log<FileDisk<R::File>>> {
+fn log_of<R: Files + AllocGlobal + Threads + Sync>(rt: &R) -> Option<Log<FileDisk<R::File>>> {
     let file = OpenOptions::new()
         .read(true)
         .write(true)
@@ -146,7 +150,7 @@ fn log_of<R: Files + AllocGlobal>(rt: &R) -> Option<Log<FileDisk<R::File>>> {
     if disk.is_empty() {
         return Log::create(rt.alloc(), disk).ok();
     }
-    Log::open(rt.alloc(), disk, &mut Nobody::new()).ok()
+    Log::open(rt, rt.alloc(), disk, &mut Nobody::new()).ok()
 }
 
 /// Puts these blocks onto the log again and again, and prints each time how many it then has.
@@ -164,7 +168,7 @@ fn append_on<R: Print, D: Disk>(rt: &R, log: &mut Log<D>, blocks: &[Vec<u8>]) ->
 
 /// Opens the log, prints how many blocks it has, and puts blocks onto it until the program is killed. `.ci/kills` does
 /// that.
-pub fn append<R: Files + AllocGlobal + Print>(rt: &R) -> io::Result<()> {
+pub fn append<R: Files + AllocGlobal + Print + Threads + Sync>(rt: &R) -> io::Result<()> {
     let Some(blocks) = blocks_of(rt.alloc(), 1, APPENDED_ON) else {
         return Err(io::ErrorKind::Other.into());
     };
@@ -202,7 +206,9 @@ fn measure_appends<R: Files + AllocGlobal + Clock + Print>(rt: &R) -> io::Result
 }
 
 /// Prints what it takes to open a log of a gigabyte, and to read and hash its file.
-fn measure_opening<R: Files + AllocGlobal + Clock + Print>(rt: &R) -> io::Result<()> {
+fn measure_opening<R: Files + AllocGlobal + Clock + Print + Threads + Sync>(
+    rt: &R,
+) -> io::Result<()> {
     let blocks = 1_000 * OPENED;
     if fill(rt).is_none() {
         return Err(io::ErrorKind::Other.into());
@@ -228,7 +234,7 @@ fn measure_opening<R: Files + AllocGlobal + Clock + Print>(rt: &R) -> io::Result
 }
 
 /// Runs each measurement, and prints what it took a block, and of an opening in all.
-pub fn measure<R: Files + AllocGlobal + Clock + Print>(rt: &R) -> io::Result<()> {
+pub fn measure<R: Files + AllocGlobal + Clock + Print + Threads + Sync>(rt: &R) -> io::Result<()> {
     measure_appends(rt)?;
     measure_opening(rt)?;
     fs::remove_file(rt, PATH)

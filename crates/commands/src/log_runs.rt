@@ -24,11 +24,12 @@ use std::fs::{File, OpenFile, OpenOptions};
 use std::io::{BufReader, ErrorKind, Read, Write};
 use std::os::fd::AsRawFd;
 use std::rt::Files;
+use std::thread::Threads;
 use witness_pool::TestScheme;
 
 /// The log on a disk, which is made where the disk is empty. Its blocks are given to the sink.
-fn log_on<'a, D: Disk + Drop, K: Sink>(
-    alloc: Global,
+fn log_on<'a, R: AllocGlobal + Threads + Sync, D: Disk + Drop, K: Sink>(
+    rt: &R,
     disk: D,
     is_empty: bool,
     sink: &mut K,
@@ -38,12 +39,12 @@ fn log_on<'a, D: Disk + Drop, K: Sink>(
     ensures kept { K.kept sink.new ≡ K.kept sink.old }
 {
     if is_empty {
-        return match Log::create(alloc, disk) {
+        return match Log::create(rt.alloc(), disk) {
             Ok(log) => Ok(log),
             Err(_) => Err(Failure::DiskFault),
         };
     }
-    match Log::open(alloc, disk, sink) {
+    match Log::open(rt, rt.alloc(), disk, sink) {
         Ok(log) => Ok(log),
         Err((fault, _disk)) => Err(fault.into()),
     }
@@ -111,7 +112,7 @@ fn sync_folder<'a, R: Files + AllocGlobal>(rt: &R, path: &'a str) -> Result<(), 
 
 /// The log of a file that is this program's. Where the file is empty, or is missing and may be made, it has no block.
 /// Its blocks are given to the sink.
-fn log_of_file<'a, R: Files<File = File> + AllocGlobal, K: Sink>(
+fn log_of_file<'a, R: Files<File = File> + AllocGlobal + Threads + Sync, K: Sink>(
     rt: &R,
     path: &'a str,
     may_make: bool,
@@ -130,7 +131,7 @@ fn log_of_file<'a, R: Files<File = File> + AllocGlobal, K: Sink>(
             if is_empty {
                 sync_folder(rt, path)?;
             }
-            log_on(rt.alloc(), disk, is_empty, sink)
+            log_on(rt, disk, is_empty, sink)
         }
         Err(error) if error.kind() == ErrorKind::OutOfMemory => {
             Err(Failure::Scenario(ScenarioFault::OutOfMemory))
@@ -242,7 +243,7 @@ fn run_script<'a, D: Disk, R: Files + AllocGlobal, W: Write>(
 /// Runs the script of a file under the genesis of another, on the log of a third, which is made where it is missing.
 /// The genesis is read first, then the log is opened, then the script is run. After that, also after a fault of the
 /// script, the blocks that are never rolled back any more are put onto the log.
-pub fn run_logged<'a, R: Files<File = File> + AllocGlobal, W: Write>(
+pub fn run_logged<'a, R: Files<File = File> + AllocGlobal + Threads + Sync, W: Write>(
     rt: &R,
     genesis: &'a str,
     script: &'a str,
@@ -257,7 +258,7 @@ pub fn run_logged<'a, R: Files<File = File> + AllocGlobal, W: Write>(
 }
 
 /// Opens the log of a file under the genesis of another, and prints how high its chain is. Has the log until then.
-pub fn replay<'a, R: Files<File = File> + AllocGlobal, W: Write>(
+pub fn replay<'a, R: Files<File = File> + AllocGlobal + Threads + Sync, W: Write>(
     rt: &R,
     genesis: &'a str,
     log: &'a str,

@@ -19,11 +19,11 @@ const MOST_BYTES: usize = 0x7fff_ffff_ffff_ffff;
 
 /// A file as a disk. In memory it keeps what the file gave when it was opened until the first change, and nothing from
 /// then on: no contract can say what a file of the system gives later, so each read then fails, and nothing is promised
-/// of what [`Disk::fetch`] gives. Each change is noted in a list that only proofs read, which takes no memory; so no call
-/// takes any. Once the system failed in a write, a cut or a sync it isn't known what the file holds: from then on each
-/// call fails but [`Disk::put_back`]. [`FileDisk::into_file`] gives the file, on which a disk may be opened anew, to be
-/// read or after a failure. That the file holds what was written, and that after a sync that succeeds a crash leaves it,
-/// is trusted of the system.
+/// of what [`Disk::fetch`] gives. Each change is noted in a list that only proofs read, which takes no memory; so no
+/// call takes any. Once the system failed in a write, a cut or a sync it isn't known what the file holds: from then on
+/// each call fails but [`Disk::put_back`]. [`FileDisk::into_file`] gives the file, on which a disk may be opened anew,
+/// to be read or after a failure. That the file holds what was written, and that after a sync that succeeds a crash
+/// leaves it, is trusted of the system.
 #[derive(Drop)]
 pub struct FileDisk<F: Read + Write + Seek + OpenFile + Drop> {
     file: F,

@@ -2,7 +2,7 @@
 //!
 //! ```text
 //! let file = OpenOptions::new().read(true).write(true).create(true).open(&rt, path)?;
-//! let log = Log::open(alloc, FileDisk::open(alloc, file)?, &mut sink)?;
+//! let log = Log::open(&rt, alloc, FileDisk::open(alloc, file)?, &mut sink)?;
 //! ```
 #![tactic(auto)]
 

@@ -17,7 +17,7 @@ use Rattle.shared.specs.Opening.{AreCallers, IsOpenFault}
 use Rattle.shared.specs.Starts.{IsUntouched}
 use Rattle.shared.specs.declared.open_fault.OpenFault.{OpenFault}
 use Rattle.shared.specs.declared.open_fault.OpenFault.TheVariants as opening
-use Rattle.flushing.specs.Beginning.{IsSharedOnFault, reopening_fault, opening_fault}
+use Rattle.flushing.specs.Beginning.{IsSharedOnFault, TellsNoBlock, reopening_fault, opening_fault}
 use Rattle.flushing.specs.Texts.{Begins}
 
 -- blocks that are read of texts have these
@@ -75,3 +75,11 @@ not_opened network texts callers OutOfMemory are is = are
 pub not_shared : (network : Network) (texts : List (List ℕ)) (callers : ℕ) (fault : OpenFault) → IsOpenFault callers fault → IsSharedOnFault network texts callers (opening_fault fault)
 not_shared network texts callers opening.BadCallers is = is
 not_shared network texts callers opening.OutOfMemory is = is
+
+-- where the core's fault is want of memory the shared one's tells of no block, nor does that of a shared core
+pub reopening_tells_none : (fault : ReopenFault) → fault ≡ OutOfMemory → TellsNoBlock (reopening_fault fault)
+reopening_tells_none fault is = subst (λ (f : ReopenFault). TellsNoBlock (reopening_fault f)) (sym is) tt
+
+pub opening_tells_none : (fault : OpenFault) → TellsNoBlock (opening_fault fault)
+opening_tells_none opening.BadCallers = tt
+opening_tells_none opening.OutOfMemory = tt

@@ -26,3 +26,9 @@ IsSharedOnFault network texts callers BadCallers = AreCallers callers → ⊥
 IsSharedOnFault network texts callers (InvalidBlock number) =
     AreCallers callers × IsFirstInvalid network texts number
 IsSharedOnFault network texts callers OutOfMemory = AreCallers callers
+
+-- it tells of no block
+abbrev pub TellsNoBlock : SharedOnFault → Type 0
+TellsNoBlock BadCallers = Unit {0}
+TellsNoBlock (InvalidBlock number) = ⊥
+TellsNoBlock OutOfMemory = Unit {0}

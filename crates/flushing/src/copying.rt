@@ -12,8 +12,8 @@ use std::alloc::AllocError;
 use witness_pool::SigScheme;
 
 /// Puts the core's blocks that are never rolled back onto the log, behind those that it has, which are the first of
-/// them. Err where the log is broken, else where memory ran out for copies or for what [`Log::append`] takes, else where
-/// the disk failed.
+/// them. Err where the log is broken, else where memory ran out for copies or for what [`Log::append`] takes, else
+/// where the disk failed.
 ///
 /// Copies the new blocks once, and writes them as [`Log::append`] does.
 pub fn flush<D: Disk, S: SigScheme>(log: &mut Log<D>, core: &Core<S>) -> Result<(), AppendFault>

@@ -2,7 +2,7 @@
 //!
 //! ```text
 //! let mut restart = Restart::<TestScheme>::new(alloc, genesis)?;
-//! let mut log = Log::open(alloc, disk, &mut restart)?;
+//! let mut log = Log::open(rt, alloc, disk, &mut restart)?;
 //! let mut core = restart.core()?;
 //! core.arrive(&bytes)?;
 //! flush(&mut log, &core)?; // after a crash a core is opened on these blocks again

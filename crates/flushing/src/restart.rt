@@ -14,13 +14,13 @@ use witness_pool::SigScheme;
 ///
 /// ```text
 /// let mut restart = Restart::<TestScheme>::new(alloc, genesis)?;
-/// let mut log = Log::open(alloc, disk, &mut restart)?; // or the disk again, beside why not
+/// let mut log = Log::open(rt, alloc, disk, &mut restart)?; // or the disk again, beside why not
 /// let mut core = restart.core()?; // on the log's blocks; or for threads, `restart.shared(callers)?`
 /// ```
 ///
 /// Each block is read, hashed and judged once, and its bytes are copied once, for the core. At the first block that is
-/// none or can't come next, or where memory runs out, it makes nothing more, and tells it at the end. Where the log isn't
-/// opened, the blocks that were given are those of no log: begin a new one.
+/// none or can't come next, or where memory runs out, it makes nothing more, and tells it at the end. Where the log
+/// isn't opened, the blocks that were given are those of no log: begin a new one.
 #[derive(Drop)]
 pub struct Restart<S: SigScheme> {
     pub(crate) alloc: Global,
@@ -66,8 +66,8 @@ impl<S: SigScheme> Restart<S> {
         })
     }
 
-    /// The core on the blocks that were given. Err at the first of them that is none or can't come next, or where memory
-    /// ran out.
+    /// The core on the blocks that were given. Err at the first of them that is none or can't come next, or where
+    /// memory ran out.
     pub fn core(self) -> Result<Core<S>, ReopenFault>
         ensures opened { IfOk result (λ core. core ≡ opening_held self.genesis core.opened) }
         // It was opened on a valid chain of these blocks.

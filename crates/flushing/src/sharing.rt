@@ -6,10 +6,10 @@ ghost use Rattle.model.specs.Journal.{IsLook, BeginsWithSeen};
 ghost use Rattle.model.specs.Ledger.{network_of};
 ghost use Rattle.model.specs.Log.{Opens, OpensToBeginning, IsLogOf};
 ghost use Rattle.chain_core.specs.Immutable.{texts_of};
-ghost use Rattle.chain_core.specs.Reopening.{IsChainOf};
+ghost use Rattle.chain_core.specs.Reopening.{IsChainOf, WereImmutable};
 ghost use Rattle.shared.specs.Starts.{network_from};
 ghost use Rattle.shared.specs.Copies.{AreImmutableAfter};
-ghost use Rattle.flushing.specs.Beginning.{IsSharedOnFault};
+ghost use Rattle.flushing.specs.Beginning.{IsSharedOnFault, TellsNoBlock};
 ghost use Rattle.flushing.specs.Sharing.{BeginAfter};
 ghost use Rattle.flushing.specs.Texts.{Begins};
 
@@ -33,6 +33,9 @@ impl<S: SigScheme> Restart<S> {
         ensures blocks { IfOk result (λ opened. texts_of opened.start.opened ≡ self.blocks) }
         ensures callers { IfOk result (λ opened. opened.callers ≡ callers) }
         ensures fault { IfErr result (IsSharedOnFault (network_of self.genesis S.verifies) self.blocks callers) }
+        // Of blocks that a node put there, of those that no rollback reaches, none is told as invalid.
+        ensures again { IfErr result (λ fault. WereImmutable (network_of self.genesis S.verifies) self.blocks
+            → TellsNoBlock fault) }
     {
         if callers == 0 || callers > MAX_CALLERS {
             return Err(SharedOnFault::BadCallers);

@@ -8,6 +8,6 @@ pub mod Reading
 pub mod Framing
 pub mod Recovering
 pub mod Looking
-pub mod AtPlace
+pub mod Turns
 pub mod Torn
 pub mod Again

@@ -21,6 +21,10 @@ pub record BeginsWithRecord (digest block bytes : List ℕ) : Type 0 where
 abbrev pub NoRecordBehind : List ℕ → Type 0
 NoRecordBehind bytes = (block more : List ℕ) → IsLogBlock block → bytes ≡ body_of block ++ more → ⊥
 
+-- no record of any block begins here
+abbrev pub NoRecordHere : List ℕ → Type 0
+NoRecordHere bytes = (block more : List ℕ) → IsLogBlock block → bytes ≡ 1 ∷ (body_of block ++ more) → ⊥
+
 -- an open gate, behind which no record begins
 pub record IsOpenInVain (bytes : List ℕ) : Type 0 where
   pub rest : List ℕ

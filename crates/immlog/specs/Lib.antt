@@ -2,7 +2,7 @@ pub mod Steps
 pub mod Views
 pub mod Index
 pub mod Frames
-pub mod Here
+pub mod Framed
 pub mod OpenLog
 pub mod HeldLog
 pub mod Left

@@ -1,6 +1,7 @@
 //! A disk, as the log sees it.
 
-ghost use Rattle.std.specs.Prelude.{◌≡◌, ℕ, ◌+◌, ◌^◌, ◌<◌, ◌≤◌, Bool, true, List, [], ◌∷◌, length, take, IfOk, OnOk, OnErr};
+ghost use Rattle.std.specs.Prelude.{◌≡◌, ℕ, ◌+◌, ◌^◌, ◌<◌, ◌≤◌, Bool, true, List, [], ◌∷◌, length, take};
+ghost use Rattle.std.specs.Prelude.{IfOk, OnOk, OnErr};
 ghost use Rattle.model.specs.Disk.{Moment, settled, Stays, MayLeave, IsGiven, IsWritten, IsTouched, IsCounted};
 
 use thiserror::Error;
@@ -40,8 +41,8 @@ pub trait Disk {
         ensures clock { past self.new ≡ past self.old }
         ensures failures { IsCounted (failures self.old) (failures self.new) result };
 
-    /// Reads from a place on what now stands there, and answers how many bytes it gave. Of a disk that doesn't keep what
-    /// it holds nothing is promised of them. Err where the disk failed.
+    /// Reads from a place on what now stands there, and answers how many bytes it gave. Of a disk that doesn't keep
+    /// what it holds nothing is promised of them. Err where the disk failed.
     fn fetch(&mut self, place: usize, into: &mut [u8]) -> Result<usize, DiskFailed>
         ensures within { IfOk result (λ count. count ≤ length into.old) }
         ensures given { keeps ≡ true → IfOk result (IsGiven (reads self.old) place into.old into.new) }

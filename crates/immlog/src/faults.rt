@@ -20,7 +20,7 @@ pub enum OpenLogFault {
     /// The disk failed in this call.
     #[error("disk fault")]
     DiskFault,
-    /// Memory ran out for the longest record, or for what is kept of each block.
+    /// Memory ran out for what is read of the disk at once and found in it, or for what is kept of each block.
     #[error("out of memory")]
     OutOfMemory,
 }

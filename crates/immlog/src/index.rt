@@ -1,6 +1,7 @@
 //! What a log keeps in memory of the blocks on its disk.
 
-ghost use Rattle.std.specs.Prelude.{◌≡◌, ◌+◌, ◌<◌, ◌≤◌, [], ◌∷◌, ◌++◌, None, length, slice_get, MatchOption, OnOk, vec_len, vec_capacity};
+ghost use Rattle.std.specs.Prelude.{◌≡◌, ◌+◌, ◌<◌, ◌≤◌, [], ◌∷◌, ◌++◌, None, length, slice_get, MatchOption};
+ghost use Rattle.std.specs.Prelude.{OnOk, OnErr, vec_len, vec_capacity};
 ghost use Rattle.model.specs.Log.{records};
 ghost use Rattle.immlog.specs.Index.{AreEntriesOf, IsBeginOf, blocks_in};
 ghost use Rattle.immlog.specs.Numbered.{IsSpan, numbered};
@@ -74,7 +75,8 @@ impl Index {
     pub fn span(&self, number: u64, end: usize) -> Option<Span>
         requires entries { AreEntriesOf 0 (blocks_in self.now) self.now.entries.items }
         requires end { end ≡ length (records (blocks_in self.now)) }
-        ensures { MatchOption result (numbered (blocks_in self.now) number ≡ None) (IsSpan (blocks_in self.now) number) }
+        ensures { MatchOption result (numbered (blocks_in self.now) number ≡ None)
+            (IsSpan (blocks_in self.now) number) }
     {
         let at = number.checked_sub(1)? as usize;
         let entry = self.entry(at)?;
@@ -101,6 +103,8 @@ impl Index {
         ensures blocks { OnOk result (blocks_in self.new ≡ blocks_in self.old ++ block.now ∷ []) }
         ensures entries { OnOk result (self.new.entries.items
             ≡ self.old.entries.items ++ record { place = place; digest = digest.now } ∷ []) }
+        ensures same { OnErr result ((blocks_in self.new ≡ blocks_in self.old)
+            × (self.new.entries.items ≡ self.old.entries.items)) }
     {
         let digest = *digest;
         self.entries.push(IndexEntry { place, digest })?;

@@ -2,7 +2,7 @@
 //!
 //! ```text
 //! let seen = look_at(alloc, &mut reader)?; // whether a log left these bytes; changes none
-//! let mut log = Log::open(alloc, disk, &mut sink)?; // or the disk again, beside why not
+//! let mut log = Log::open(rt, alloc, disk, &mut sink)?; // or the disk again, beside why not
 //! log.append(&blocks)?;                  // once it answers Ok, each crash leaves them all
 //! println!(rt; "{}", log.durable())?;
 //! let block = log.block(1)?;             // the first one, read again
@@ -14,7 +14,7 @@ mod blocks;
 mod disk;
 mod faults;
 mod fetching;
-mod here;
+mod frames;
 mod index;
 mod log;
 mod look;

@@ -19,6 +19,7 @@ use crate::recover::{Found, recover};
 use crate::sink::Sink;
 use std::alloc::Global;
 use std::marker::Model;
+use std::thread::Threads;
 
 /// A log of blocks on a disk. In memory it keeps 40 bytes for each of them: where its record begins, and its digest.
 /// Where the disk failed in a call, the log is broken: it doesn't touch the disk any more, and is opened again from it.
@@ -75,14 +76,22 @@ impl<D: Disk> Log<D> {
     /// closed gate, which is made sure, and nothing else. Err, with the disk beside it, where the disk failed, where an
     /// open gate has no record behind it, or where memory ran out; which blocks the sink was given is then not said.
     ///
-    /// Reads each record once, and computes the digest of its block. Takes memory for the longest record that there may
-    /// be, about a megabyte, and 40 bytes for each block; no block is kept.
+    /// Reads the disk 4,194,304 bytes at a time, and computes the digests of the blocks that stand whole in them on
+    /// threads that it starts for that: up to two for each processor, and 64. A record that ends past those bytes is
+    /// read again with the next ones, and so is what stands behind 16,384 records. Takes memory for those bytes, and
+    /// less than two megabytes for what it finds in them, until it returns, and 40 bytes for each block; no block is
+    /// copied or kept.
     ///
     /// ```text
     /// let mut sink = Nobody::new(); // who makes nothing of the blocks
-    /// let log = Log::open(alloc, disk, &mut sink)?; // or the disk again, beside why not
+    /// let log = Log::open(rt, alloc, disk, &mut sink)?; // or the disk again, beside why not
     /// ```
-    pub fn open<K: Sink>(alloc: Global, disk: D, sink: &mut K) -> Result<Log<D>, (OpenLogFault, D)>
+    pub fn open<R: Threads + Sync, K: Sink>(
+        rt: &R,
+        alloc: Global,
+        disk: D,
+        sink: &mut K,
+    ) -> Result<Log<D>, (OpenLogFault, D)>
         // The blocks are those of what the reads gave,
         ensures opened { IfOk result (λ log. Opens (D.reads disk) log.blocks) }
         // and they were given to the sink;
@@ -115,7 +124,7 @@ impl<D: Disk> Log<D> {
             Leaves (IsLogOf least blocks) (D.moment disk) → (place : ℕ) → refused.0 ≡ OpenLogFault.Damaged place → ⊥) }
     {
         let mut disk = disk;
-        match recover(alloc, &mut disk, sink) {
+        match recover(rt, alloc, &mut disk, sink) {
             Ok(Found { index, gate }) => Ok(Log {
                 alloc,
                 disk,
@@ -129,10 +138,10 @@ impl<D: Disk> Log<D> {
     }
 
     /// Puts these blocks, of 1 to 1,048,576 bytes each, onto the log, one after the other. Err where the log is broken,
-    /// else where memory ran out, else where the disk failed. Writes the bytes of the blocks and 37 bytes for each, each
-    /// record at once and then its gate, and waits for the disk twice for each. Computes the digest of each once. Takes
-    /// memory for 40 bytes for each, and once for the longest record, about a megabyte, where each is spelled; no copy is
-    /// kept.
+    /// else where memory ran out, else where the disk failed. Writes the bytes of the blocks and 37 bytes for each,
+    /// each record at once and then its gate, and waits for the disk twice for each. Computes the digest of each once.
+    /// Takes memory for 40 bytes for each, and once for the longest record, about a megabyte, where each is spelled; no
+    /// copy is kept.
     pub fn append(&mut self, blocks: &[Vec<u8>]) -> Result<(), AppendFault>
         requires { AllByRecursion IsLogBlock (lists_of blocks.now) }
 
@@ -207,10 +216,10 @@ impl<D: Disk> Log<D> {
         self.index.len()
     }
 
-    /// The block of this number, counted from 1, as the disk gives it again; None where there is none. Err where the log
-    /// is broken, else where memory ran out for the block, where the disk failed, which breaks the log, or where what it
-    /// gives has another SHA-256 (FIPS 180-4), or is shorter. Reads as many bytes as the block has, and takes memory for
-    /// them.
+    /// The block of this number, counted from 1, as the disk gives it again; None where there is none. Err where the
+    /// log is broken, else where memory ran out for the block, where the disk failed, which breaks the log, or where
+    /// what it gives has another SHA-256 (FIPS 180-4), or is shorter. Reads as many bytes as the block has, and takes
+    /// memory for them.
     pub fn block(&mut self, number: u64) -> Result<Option<Vec<u8>>, ReadFault>
         // The bytes have the length and the SHA-256 of the block of that number,
         ensures like { IfOk result (λ found. MatchOption found (numbered self.old.blocks number ≡ None)

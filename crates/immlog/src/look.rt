@@ -54,8 +54,8 @@ enum Step {
     End(bool),
 }
 
-/// Reads until the room is full, or the reader has no more, and answers how many bytes that were. An interrupted read is
-/// made again.
+/// Reads until the room is full, or the reader has no more, and answers how many bytes that were. An interrupted read
+/// is made again.
 pub fn fill<R: Read>(reader: &mut R, room: &mut [u8]) -> io::Result<usize>
     ensures len { length room.new ≡ length room.old }
     ensures filled { IfOk result (IsFilled (R.remaining reader.old) (R.remaining reader.new) room.new) }
@@ -76,7 +76,7 @@ pub fn fill<R: Read>(reader: &mut R, room: &mut [u8]) -> io::Result<usize>
 }
 
 /// The length of a block that the bytes begin with, if they begin with one.
-pub fn told_length(bytes: &[u8]) -> Option<usize>
+fn told_length(bytes: &[u8]) -> Option<usize>
     ensures { MatchOption result ((len : ℕ) → TellsLength bytes.now len → ⊥) (TellsLength bytes.now) }
 {
     let (size, _) = bytes.split_first_chunk::<4>()?;

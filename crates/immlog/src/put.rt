@@ -70,9 +70,9 @@ fn spell(room: &mut [u8], digest: &[u8; 32], block: &[u8])
     gate.copy_from_slice(&[0]);
 }
 
-/// Writes the record of the block, which has this digest, behind the closed gate at this place, and a closed gate behind
-/// it, all of it sure; and answers the place of that gate. The closed gate at this place stays. Spells what it writes in
-/// this room.
+/// Writes the record of the block, which has this digest, behind the closed gate at this place, and a closed gate
+/// behind it, all of it sure; and answers the place of that gate. The closed gate at this place stays. Spells what it
+/// writes in this room.
 fn stage<D: Disk>(
     disk: &mut D,
     room: &mut [u8],

@@ -2,19 +2,26 @@
 
 ghost use Rattle.std.specs.Prelude.{◌≡◌, ◌≢◌, ◌+◌, ◌^◌, ◌<◌, ◌≤◌, ℕ, List, [], ◌∷◌, ◌++◌, length, take, slice_get};
 ghost use Rattle.std.specs.Prelude.{IfOk, IsErrOf, OnOk};
+ghost use Rattle.std.specs.List.{AllByRecursion};
 ghost use Rattle.model.specs.Disk.{settled, Leaves, HoldsSince, LeavesSince, IsCounted, one_more};
 ghost use Rattle.model.specs.Log.{Opens, IsDamaged, records, at_rest, IsLogOf};
 ghost use Rattle.immlog.specs.Steps.{IsFixed, IsFound, KeepsLogs, IsBeginningOf};
+ghost use Rattle.immlog.specs.Framed.{framed_blocks, IsSound, BeginWith};
 ghost use Rattle.immlog.specs.Index.{AreEntriesOf, blocks_in};
 
 use crate::disk::{Disk, DiskFailed};
 use crate::faults::OpenLogFault;
-use crate::here::{Here, look_here};
+use crate::frames::{Frame, count_sound, digests_of, first_frames};
 use crate::index::Index;
-use crate::put::{CLOSED, MOST_WRITTEN, write_gate};
+use crate::put::{CLOSED, OPEN, write_gate};
 use crate::records::BEFORE_BLOCK;
 use crate::sink::Sink;
 use std::alloc::{AllocError, Global};
+use std::thread::Threads;
+
+/// How many bytes of a disk are read at once: as many as four of the longest blocks have, so that threads have blocks
+/// to share. The longest record has fewer, so each stands whole in what is read from its gate on.
+const ROOM: usize = 4_194_304;
 
 /// What is found of a log.
 #[derive(Drop)]
@@ -52,9 +59,63 @@ fn add_record<K: Sink>(
     Ok(place + BEFORE_BLOCK + block.len())
 }
 
-/// The records of the disk, one after the other, and what stands where the gate behind them should. Their blocks are
-/// given to the sink. Err where the disk failed, where an open gate has no record behind it, or where memory ran out.
-fn find_records<D: Disk, K: Sink>(
+/// Goes on from these records, which stand from this place on and tell the digests of their blocks: the blocks are
+/// given to the sink, one after the other, and noted in the index. Answers where they end.
+fn add_frames<K: Sink>(
+    sink: &mut K,
+    index: &mut Index,
+    place: usize,
+    frames: &[Frame<'_>],
+) -> Result<usize, AllocError>
+    requires sound { AllByRecursion IsSound frames.now }
+    requires entries { AreEntriesOf 0 (blocks_in index.old) index.old.entries.items }
+    requires place { place ≡ length (records (blocks_in index.old)) }
+    requires fits { length (records (blocks_in index.old ++ framed_blocks frames.now)) < 2 ^ 64 }
+    ensures next { IfOk result (λ next. next ≡ length (records (blocks_in index.new))) }
+    ensures noted { OnOk result (blocks_in index.new ≡ blocks_in index.old ++ framed_blocks frames.now) }
+    ensures entries { OnOk result (AreEntriesOf 0 (blocks_in index.new) index.new.entries.items) }
+    ensures given { OnOk result (K.given sink.new ≡ K.given sink.old ++ framed_blocks frames.now) }
+    ensures kept { K.kept sink.new ≡ K.kept sink.old }
+{
+    let mut next = place;
+    for frame in frames {
+        next = add_record(sink, index, next, frame.digest, frame.block)?;
+    }
+    Ok(next)
+}
+
+/// Goes on from the records at the front of these bytes, which stand at this place of a disk: the digests of their
+/// blocks are computed, and the blocks are added, up to the first whose record tells another digest. Answers where they
+/// end.
+fn add_records<R: Threads + Sync, K: Sink>(
+    rt: &R,
+    alloc: Global,
+    sink: &mut K,
+    index: &mut Index,
+    place: usize,
+    bytes: &[u8],
+) -> Result<usize, AllocError>
+    requires entries { AreEntriesOf 0 (blocks_in index.old) index.old.entries.items }
+    requires place { place ≡ length (records (blocks_in index.old)) }
+    requires fits { place + length bytes.now < 2 ^ 64 }
+    ensures next { IfOk result (λ next. next ≡ length (records (blocks_in index.new))) }
+    ensures added { OnOk result ((blocks : List (List ℕ)) × BeginWith bytes.now blocks
+        × (blocks_in index.new ≡ blocks_in index.old ++ blocks)
+        × (K.given sink.new ≡ K.given sink.old ++ blocks)) }
+    ensures entries { OnOk result (AreEntriesOf 0 (blocks_in index.new) index.new.entries.items) }
+    ensures kept { K.kept sink.new ≡ K.kept sink.old }
+{
+    let frames = first_frames(alloc, bytes)?;
+    let digests = digests_of(rt, alloc, &frames)?;
+    let sound = count_sound(&frames, &digests);
+    add_frames(sink, index, place, &frames[..sound])
+}
+
+/// The records of the disk, as many at once as there is room for, and what stands where the gate behind them should.
+/// Their blocks are given to the sink, one after the other. Err where the disk failed, where an open gate has no record
+/// behind it, or where memory ran out.
+fn find_records<R: Threads + Sync, D: Disk, K: Sink>(
+    rt: &R,
     alloc: Global,
     disk: &mut D,
     sink: &mut K,
@@ -72,23 +133,27 @@ fn find_records<D: Disk, K: Sink>(
     ensures worked { OnOk result (D.failures disk.new ≡ D.failures disk.old) }
     ensures failed { IsErrOf result OpenLogFault.DiskFault → D.failures disk.new ≡ one_more (D.failures disk.old) }
 {
-    let Ok(mut room) = room_for(alloc, MOST_WRITTEN) else {
+    let Ok(mut room) = room_for(alloc, ROOM) else {
         return Err(OpenLogFault::OutOfMemory);
     };
     let mut index = Index::new(alloc);
     let mut gate = 0usize;
     loop {
-        match look_here(disk, gate, &mut room) {
-            Ok(Here::Record(digest, block)) => {
-                let Ok(next) = add_record(sink, &mut index, gate, digest, block) else {
-                    return Err(OpenLogFault::OutOfMemory);
-                };
-                gate = next;
+        let Ok(count) = disk.read(gate, &mut room) else {
+            return Err(OpenLogFault::DiskFault);
+        };
+        let bytes = &room[..count];
+        let Ok(next) = add_records(rt, alloc, sink, &mut index, gate, bytes) else {
+            return Err(OpenLogFault::OutOfMemory);
+        };
+        if next == gate {
+            let byte = bytes.first().copied();
+            if byte == Some(OPEN) {
+                return Err(OpenLogFault::Damaged(gate));
             }
-            Ok(Here::Vain) => return Err(OpenLogFault::Damaged(gate)),
-            Ok(Here::End(byte)) => return Ok((Found { index, gate }, byte)),
-            Err(DiskFailed) => return Err(OpenLogFault::DiskFault),
+            return Ok((Found { index, gate }, byte));
         }
+        gate = next;
     }
 }
 
@@ -144,8 +209,10 @@ fn tidy<D: Disk>(disk: &mut D, place: usize, gate: Option<u8>) -> Result<(), Dis
 }
 
 /// The blocks of the log on this disk, which are given to the sink, and the place of the closed gate behind them, which
-/// is made sure and has nothing behind it. Err where the disk failed, where the log is damaged, or where memory ran out.
-pub fn recover<D: Disk, K: Sink>(
+/// is made sure and has nothing behind it. Err where the disk failed, where the log is damaged, or where memory ran
+/// out.
+pub fn recover<R: Threads + Sync, D: Disk, K: Sink>(
+    rt: &R,
     alloc: Global,
     disk: &mut D,
     sink: &mut K,
@@ -169,7 +236,7 @@ pub fn recover<D: Disk, K: Sink>(
     let Ok(()) = disk.sync() else {
         return Err(OpenLogFault::DiskFault);
     };
-    let (found, byte) = find_records(alloc, disk, sink)?;
+    let (found, byte) = find_records(rt, alloc, disk, sink)?;
     let Ok(()) = tidy(disk, found.gate, byte) else {
         return Err(OpenLogFault::DiskFault);
     };

@@ -19,6 +19,8 @@ pub struct FakeFile {
     place: usize,
     calls_left: Cell<u64>,
     is_torn: bool,
+    /// Where a read gives another byte than is there.
+    spoilt: Option<usize>,
 }
 
 impl FakeFile {
@@ -30,6 +32,7 @@ impl FakeFile {
             place: 0,
             calls_left: Cell::new(calls),
             is_torn: false,
+            spoilt: None,
         }
     }
 
@@ -49,6 +52,27 @@ impl FakeFile {
         }
     }
 
+    /// The same file, of which a read gives another byte at this place than was written there.
+    pub fn spoilt_at(self, place: usize) -> FakeFile {
+        FakeFile {
+            spoilt: Some(place),
+            ..self
+        }
+    }
+
+    /// What it has.
+    pub fn into_bytes(self) -> Vec<u8> {
+        let FakeFile {
+            bytes,
+            len: _,
+            place: _,
+            calls_left: _,
+            is_torn: _,
+            spoilt: _,
+        } = self;
+        bytes
+    }
+
     /// Another file of the same bytes.
     pub fn try_clone(&self) -> Result<FakeFile, AllocError> {
         Ok(FakeFile {
@@ -57,6 +81,7 @@ impl FakeFile {
             place: self.place,
             calls_left: Cell::new(self.calls_left.get()),
             is_torn: self.is_torn,
+            spoilt: self.spoilt,
         })
     }
 
@@ -107,6 +132,12 @@ impl Read for FakeFile {
         let from = self.place.min(self.bytes.len());
         let count = buf.len().min(self.bytes.len() - from);
         buf[..count].copy_from_slice(&self.bytes[from..from + count]);
+        if let Some(place) = self.spoilt
+            && from <= place
+            && place - from < count
+        {
+            buf[place - from] ^= 1;
+        }
         self.place = from + count;
         Ok(count)
     }

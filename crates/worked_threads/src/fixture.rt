@@ -104,7 +104,7 @@ pub fn copy(rt: &(impl Abort + AllocGlobal), bytes: &[u8]) -> Vec<u8> {
 #[derive(Drop)]
 pub struct Parts<G, B: Room, M: Mailroom> {
     pub shared: Shared<TestScheme, B>,
-    pub adder: Adder<G, B, M>,
+    pub adder: Adder<TestScheme, G, B, M>,
     pub peers: [PeerEnd<M>; PEERS],
     pub callers: Vec<Caller<B>>,
 }
@@ -159,7 +159,7 @@ pub fn sends<M: Mailroom, R: Wait + Abort + AllocGlobal>(
 /// The adder brings so many arrivals in so many turns.
 pub fn adds<G, B, M, R>(
     rt: &R,
-    adder: &mut Adder<G, B, M>,
+    adder: &mut Adder<TestScheme, G, B, M>,
     shared: &Shared<TestScheme, B>,
     turns: u64,
     want: u64,
@@ -177,7 +177,7 @@ where
 /// The adder brings what is left of what the peers sent.
 pub fn drains<G, B, M, R>(
     rt: &R,
-    adder: &mut Adder<G, B, M>,
+    adder: &mut Adder<TestScheme, G, B, M>,
     shared: &Shared<TestScheme, B>,
     peers: &mut [PeerEnd<M>; PEERS],
 )
@@ -239,14 +239,14 @@ pub fn restart_of(rt: &(impl Abort + AllocGlobal)) -> Restart<TestScheme>
 
 /// The log that is in the file of this one, with a node that begins on its blocks.
 pub fn again<F: Read + Write + Seek + OpenFile + Drop>(
-    rt: &(impl Abort + AllocGlobal),
+    rt: &(impl Abort + AllocGlobal + Threads + Sync),
     log: Log<FileDisk<F>>,
 ) -> (Log<FileDisk<F>>, Restart<TestScheme>)
     ensures { result.1.blocks ≡ result.0.blocks }
 {
     let disk = FileDisk::open(rt.alloc(), log.into_disk().into_file()).expect(rt, MEMORY);
     let mut restart = restart_of(rt);
-    match Log::open(rt.alloc(), disk, &mut restart) {
+    match Log::open(rt, rt.alloc(), disk, &mut restart) {
         Ok(log) => (log, restart),
         Err(_) => rt.abort(),
     }

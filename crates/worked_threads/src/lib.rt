@@ -19,6 +19,8 @@ mod flush_tests;
 #[cfg(test)]
 mod gated_file;
 #[cfg(test)]
+mod kept_disk;
+#[cfg(test)]
 mod log_tests;
 #[cfg(test)]
 mod node_tests;

@@ -3,10 +3,10 @@ use Rattle.model.specs.Block.{Block}
 use Rattle.model.specs.Ledger.{network_of}
 use Rattle.model.proofs.Results.{if_err}
 use Rattle.chain_core.specs.Immutable.{texts_of}
-use Rattle.chain_core.specs.Reopening.{IsChainOf}
+use Rattle.chain_core.specs.Reopening.{IsChainOf, WereImmutable}
 use Rattle.shared.specs.Starts.{Start}
-use Rattle.flushing.specs.Beginning.{IsSharedOnFault, reopening_fault, opening_fault}
-use Rattle.flushing.proofs.Opened.{untouched_of, not_opened, not_shared}
+use Rattle.flushing.specs.Beginning.{IsSharedOnFault, TellsNoBlock, reopening_fault, opening_fault}
+use Rattle.flushing.proofs.Opened.{untouched_of, not_opened, not_shared, reopening_tells_none, opening_tells_none}
 use Rattle.flushing.proofs.restart.Restart.shared.Goals as goal
 
 pub returns-in_err-core-clause-fault : goal.returns-in_err-core-clause-fault
@@ -31,3 +31,13 @@ returns-clause-chain g c =
 
 pub returns-clause-blocks : goal.returns-clause-blocks
 returns-clause-blocks g c = ap (λ (s : Start). texts_of s.opened) c.in_ok-opened.ensures.start ∙ c.in_ok-core.ensures.blocks
+
+pub returns-in_err-core-clause-again : goal.returns-in_err-core-clause-again
+returns-in_err-core-clause-again g c =
+    if_err c.from_residual.result (reopening_fault c.in_err-core.field-0.0) (λ f. WereImmutable (network_of c.args.self.genesis g.S.SigScheme.verifies) c.args.self.blocks → TellsNoBlock f) c.from_residual.ensures.1
+    (λ were. reopening_tells_none c.in_err-core.field-0.0 (c.in_err-core.ensures.again were))
+
+pub returns-in_err-opened-clause-again : goal.returns-in_err-opened-clause-again
+returns-in_err-opened-clause-again g c =
+    if_err c.from_residual-in_err-opened.result (opening_fault c.in_err-opened.field-0.0) (λ f. WereImmutable (network_of c.args.self.genesis g.S.SigScheme.verifies) c.args.self.blocks → TellsNoBlock f) c.from_residual-in_err-opened.ensures.1
+    (λ were. opening_tells_none c.in_err-opened.field-0.0)
