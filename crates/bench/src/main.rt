@@ -16,6 +16,7 @@ mod maps;
 mod memory;
 mod networks;
 mod peers;
+mod places;
 mod pools;
 mod reopening;
 mod scripts;
@@ -45,6 +46,7 @@ enum Asked {
     Load,
     Calls,
     Questions,
+    Places,
     /// Blocks are put onto a log until the program is killed.
     Appending,
     /// What is measured once, to see that it can be.
@@ -70,6 +72,7 @@ fn asked_by(word: &str) -> Option<Asked> {
         "load" => Some(Asked::Load),
         "calls" => Some(Asked::Calls),
         "questions" => Some(Asked::Questions),
+        "places" => Some(Asked::Places),
         "append" => Some(Asked::Appending),
         _ => None,
     }
@@ -109,6 +112,7 @@ fn main(rt: HostRuntime) -> io::Result<()> {
         Asked::Load => load::measure(&rt, rt.alloc()),
         Asked::Calls => calls::measure(&rt),
         Asked::Questions => peers::measure_questions(&rt, rt.alloc()),
+        Asked::Places => places::measure(&rt),
         Asked::Appending => logs::append(&rt),
         Asked::Names => {
             blocks::measure(&rt, Telling::Names)?;

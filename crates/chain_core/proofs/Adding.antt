@@ -7,15 +7,15 @@ use Rattle.std.proofs.lemmas.Bool.{cases_lt}
 use Rattle.std.proofs.lemmas.List.{length-append, length-take, take-take, take-append-le, take-append-drop}
 use Rattle.model.proofs.FollowerSteps.{begins_not_longer}
 use Rattle.std.proofs.lemmas.List.Elements.{Contains-append_left, Contains-append_right, Contains-append_cases}
-use Rattle.model.specs.Block.{Block}
+use Rattle.model.specs.Block.{Block, block_hash_of}
 use Rattle.model.specs.Ledger.{Network}
-use Rattle.std.specs.BTreeSet.{BTreeSet}
+use Rattle.std.specs.BTreeMap.{BTreeMap}
 use Rattle.model.specs.Chain.{Tip, HaveDistinctHashes, IsLinked, genesis_tip, tip_after, immutable_length, immutable_part}
 use Rattle.model.specs.Rules.{Params}
 use Rattle.model.specs.Applying.{LedgerState, IsStateOf}
 use Rattle.model.specs.Mempool.{SubmitReply}
 use Rattle.model.specs.History.{IsChange}
-use Rattle.model.proofs.Lists.{all_of_member, all_from_members, all_take, all_drop, all_push, contains_first, contains_later, contains_cases}
+use Rattle.model.proofs.Lists.{all_of_member, all_from_members, all_weaker, all_take, all_drop, all_push, contains_first, contains_later, contains_cases}
 use Rattle.model.proofs.MappedLists.{contains_map, contains_before}
 use Rattle.model.proofs.Chains.{one_with_hash, linked_front, length_immutable, tip_number}
 use Rattle.model.proofs.Selections.{selection_not_shorter}
@@ -38,8 +38,8 @@ use Rattle.mempool.specs.View.{reply_of}
 use Rattle.mempool.specs.declared.reply.SubmitReply.{SubmitReply as CodeReply}
 use Rattle.chain_core.specs.Mempools.{IsMempoolOf, IsResynced}
 use Rattle.chain_core.proofs.Mempools.{mempool_resynced, stay_resynced, submits, mempool_after}
-use Rattle.chain_core.specs.PastHashes.{IsNoted, IsBlockNoted}
-use Rattle.chain_core.proofs.PastHashes.{blocks_keep}
+use Rattle.chain_core.specs.PastHashes.{IsBlockNotedIn, AreAmong, KeepsNotes, AreNotedAtSwitch}
+use Rattle.chain_core.proofs.PastHashes.{all_in_more, among_longer, part_linked, part_is}
 use Rattle.chain_core.specs.ChainDbs.{IsWhole, IsAdded, IsTakenIn, IsCutBack, IsCommitted, IsBeside, IsTaken}
 
 -- where ways begin after a switch
@@ -156,6 +156,14 @@ beside_all P old new side is all one =
           (all_drop P (length (old.sides ++ s ∷ []) - most_sides) (old.sides ++ s ∷ []) (all_push P old.sides s all (subst (λ (o : Option LedgerState). IfSome o P) kept.1 one)))
     ]
 
+-- what is noted of the part of the chain that is never rolled back is so still
+part_keeps : {S : Type 0} (network : Network) (old : ChainDb S) → IsWhole network old → (noted : BTreeMap (List ℕ) ℕ) → KeepsNotes old.past noted (take (length old.chain.items - depth old.db) old.chain.items)
+    → AllByRecursion (IsBlockNotedIn noted (immutable_part network old.chain.items)) (immutable_part network old.chain.items)
+part_keeps network old whole noted grows =
+    let part = immutable_part network old.chain.items in
+    let keeps : KeepsNotes old.past noted part = subst (KeepsNotes old.past noted) (part_is network old whole) grows in
+    all_weaker (IsBlockNotedIn old.past part) (IsBlockNotedIn noted part) part (λ b. keeps (part_linked network old whole) (block_hash_of b)) whole.past
+
 -- where the chain, the store and the states stay it is settled still
 settled_same : {S : Type 0} (network : Network) (old new : ChainDb S) → new.chain.items ≡ old.chain.items → new.store ≡ old.store → new.db ≡ old.db → IsWhole network old → IsSettled network new.chain.items new.store new.db
 settled_same network old new chain store db whole =
@@ -164,14 +172,14 @@ settled_same network old new chain store db whole =
 
 -- and whole, where the mempool stays and no hash is forgotten
 pub whole_same : {S : Type 0} (network : Network) (old new : ChainDb S) → new.opened ≡ old.opened → new.chain.items ≡ old.chain.items → new.store ≡ old.store → new.db ≡ old.db → new.mempool ≡ old.mempool
-    → ((hash : List ℕ) → IsNoted old.past hash → IsNoted new.past hash) → IsWhole network old → IsWhole network new
+    → KeepsNotes old.past new.past (take (length old.chain.items - depth old.db) old.chain.items) → IsWhole network old → IsWhole network new
 whole_same network old new opened chain store db mempool grows whole = record {
   opened = opened ∙ whole.opened;
   settled = settled_same network old new chain store db whole;
   k = ap (λ (d : Database). d.k) db ∙ whole.k;
   capacity = ap (λ (x : Store). x.capacity) store ∙ whole.capacity;
   mempool = subst (λ (c : List Block). IsMempoolOf network c new.mempool) (sym chain) (subst (IsMempoolOf network old.chain.items) (sym mempool) whole.mempool);
-  past = subst (λ (c : List Block). AllByRecursion (IsBlockNoted new.past) (immutable_part network c)) (sym chain) (blocks_keep old.past new.past grows (immutable_part network old.chain.items) whole.past);
+  past = subst (λ (c : List Block). AllByRecursion (IsBlockNotedIn new.past (immutable_part network c)) (immutable_part network c)) (sym chain) (part_keeps network old whole new.past grows);
 }
 
 -- ---- a submission, which leaves another mempool and nothing else
@@ -198,43 +206,59 @@ whole_after network old mempool bytes (Err e) ok err whole = subst (λ (p : Memp
 
 -- ---- hashes that are noted at a switch
 
--- the blocks that were opened on are noted still
-opened_noted : {S : Type 0} (network : Network) (old : ChainDb S) → IsWhole network old → (back : ℕ) (blocks : List Block) (noted : BTreeSet (List ℕ)) → back ≤ depth old.db → ((hash : List ℕ) → IsNoted old.past hash → IsNoted noted hash)
-    → AllByRecursion (IsBlockNoted noted) (take (length network.opened) (without_last back old.chain.items ++ blocks))
-opened_noted network old whole back blocks noted within grows =
-    let items = old.chain.items in
-    let o = length network.opened in
-    let stays = length items - back in
-    let begins = begins_not_longer items network.opened whole.settled.opened in
-    let d = whole.settled.depth in
-    let first : AllByRecursion (IsBlockNoted old.past) (take o items) = subst (AllByRecursion (IsBlockNoted old.past)) (take-take o (immutable_length network items) items (omega (arith, begins))) (all_take (IsBlockNoted old.past) o (immutable_part network items) whole.past) in
-    let same : take o (take stays items ++ blocks) ≡ take o items =
-    take-append-le o (take stays items) blocks (omega (arith, length-take stays items, begins, within, d)) ∙ take-take o stays items (omega (arith, begins, within, d)) in
-    subst (AllByRecursion (IsBlockNoted noted)) (sym same) (blocks_keep old.past noted grows (take o items) first)
+module _ {S : Type 0} (network : Network) (old : ChainDb S) (whole : IsWhole network old) (switch : Switch S) (noted : BTreeMap (List ℕ) ℕ) (k : ℕ) (within : switch.back ≤ depth old.db) (k_is : k ≡ network.genesis.k)
+    (not_shorter : length old.chain.items ≤ length (without_last switch.back old.chain.items ++ switch.blocks.items)) (grows : KeepsNotes old.past noted (take (length old.chain.items - depth old.db) old.chain.items)) where
+  abbrev after : List Block
+  after = without_last switch.back old.chain.items ++ switch.blocks.items
 
-pub switch_noted : {S : Type 0} (network : Network) (old : ChainDb S) → IsWhole network old → (switch : Switch S) (noted next : BTreeSet (List ℕ)) (k : ℕ) → switch.back ≤ depth old.db → k ≡ network.genesis.k
-    → next ≡ noted → ((hash : List ℕ) → IsNoted old.past hash → IsNoted noted hash)
-    → (AllByRecursion (IsBlockNoted old.past) (take (length old.chain.items - depth old.db) old.chain.items)
-    → AllByRecursion (IsBlockNoted noted) (take (length old.chain.items - switch.back + length switch.blocks.items - k) (without_last switch.back old.chain.items ++ switch.blocks.items)))
-    → AllByRecursion (IsBlockNoted next) (immutable_part network (without_last switch.back old.chain.items ++ switch.blocks.items))
-switch_noted network old whole switch noted next k within k_is stays grows told =
-    let items = old.chain.items in
-    let after = without_last switch.back items ++ switch.blocks.items in
-    let a = length items - switch.back + length switch.blocks.items - k in
-    let before : AllByRecursion (IsBlockNoted old.past) (take (length items - depth old.db) items) =
-    subst (λ n. AllByRecursion (IsBlockNoted old.past) (take n items)) (let d = whole.settled.depth in let e : immutable_length network items ≡ length items - depth old.db = omega (arith, d) in e) whole.past in
-    let here : AllByRecursion (IsBlockNoted noted) (take a after) = told before in
-    let long = length-append (without_last switch.back items) switch.blocks.items in
-    let kept = length-take (length items - switch.back) items in
-    let begins = begins_not_longer items network.opened whole.settled.opened in
-    let d = whole.settled.depth in
-    subst (λ (p : BTreeSet (List ℕ)). AllByRecursion (IsBlockNoted p) (immutable_part network after)) (sym stays)
-    (elim (cases_lt a (length network.opened)) [
-      | inl fewer ↦
-          subst (λ n. AllByRecursion (IsBlockNoted noted) (take n after)) (let e : length network.opened ≡ immutable_length network after = omega (arith, k_is, long, kept, begins, within, d, fewer) in e)
-          (opened_noted network old whole switch.back switch.blocks.items noted within grows)
-      | inr more ↦ subst (λ n. AllByRecursion (IsBlockNoted noted) (take n after)) (let e : a ≡ immutable_length network after = omega (arith, k_is, long, kept, more) in e) here
-    ])
+  abbrev stays : ℕ
+  stays = length old.chain.items - switch.back
+
+  long : length after ≡ stays + length switch.blocks.items
+  long = omega (arith, length-append (without_last switch.back old.chain.items) switch.blocks.items, length-take stays old.chain.items)
+
+  -- what stays of the chain begins the next one
+  same : (n : ℕ) → n ≤ stays → take n after ≡ take n old.chain.items
+  same n le = take-append-le n (take stays old.chain.items) switch.blocks.items (omega (arith, length-take stays old.chain.items, le)) ∙ take-take n stays old.chain.items le
+
+  -- the part that is never rolled back is among the next one
+  part_in : AreAmong (immutable_part network old.chain.items) (immutable_part network after)
+  part_in b member =
+      let m = immutable_length network old.chain.items in
+      let d = whole.settled.depth in
+      let le : m ≤ stays = omega (arith, d, within) in
+      among_longer m (immutable_length network after) after (omega (arith, not_shorter)) b (subst (λ (bs : List Block). Contains bs b) (sym (same m le)) member)
+
+  -- the blocks that were opened on are noted still
+  opened_noted : AllByRecursion (IsBlockNotedIn noted (immutable_part network after)) (take (length network.opened) after)
+  opened_noted =
+      let items = old.chain.items in
+      let o = length network.opened in
+      let part = immutable_part network items in
+      let begins = begins_not_longer items network.opened whole.settled.opened in
+      let d = whole.settled.depth in
+      let first : AllByRecursion (IsBlockNotedIn noted part) (take o items) = subst (AllByRecursion (IsBlockNotedIn noted part)) (take-take o (immutable_length network items) items (omega (arith, begins))) (all_take (IsBlockNotedIn noted part) o part (part_keeps network old whole noted grows)) in
+      all_in_more noted part (immutable_part network after) (take o after) part_in (subst (AllByRecursion (IsBlockNotedIn noted part)) (sym (same o (omega (arith, begins, within, d)))) first)
+
+  pub switch_noted : (next : BTreeMap (List ℕ) ℕ) → next ≡ noted
+      → AreNotedAtSwitch old.past noted (take (length old.chain.items - depth old.db) old.chain.items) (take (length old.chain.items - switch.back + length switch.blocks.items - k) (without_last switch.back old.chain.items ++ switch.blocks.items))
+      → AllByRecursion (IsBlockNotedIn next (immutable_part network (without_last switch.back old.chain.items ++ switch.blocks.items))) (immutable_part network (without_last switch.back old.chain.items ++ switch.blocks.items))
+  switch_noted next is told =
+      let part = immutable_part network old.chain.items in
+      let n = immutable_length network after in
+      let a = stays + length switch.blocks.items - k in
+      let said : AreNotedAtSwitch old.past noted part (take a after) = subst (λ (bs : List Block). AreNotedAtSwitch old.past noted bs (take a after)) (part_is network old whole) told in
+      let begins = begins_not_longer old.chain.items network.opened whole.settled.opened in
+      let d = whole.settled.depth in
+      let here : AllByRecursion (IsBlockNotedIn noted (immutable_part network after)) (take a after) =
+      all_in_more noted (part ++ take a after) (immutable_part network after) (take a after)
+      (λ b member. elim (Contains-append_cases part (take a after) b member) [ inl first ↦ part_in b first | inr later ↦ among_longer a n after (omega (arith, k_is, long)) b later ])
+      (said (part_linked network old whole) whole.past) in
+      subst (λ (p : BTreeMap (List ℕ) ℕ). AllByRecursion (IsBlockNotedIn p (immutable_part network after)) (immutable_part network after)) (sym is)
+      (elim (cases_lt a (length network.opened)) [
+        | inl fewer ↦ subst (λ (m : ℕ). AllByRecursion (IsBlockNotedIn noted (immutable_part network after)) (take m after)) (let e : length network.opened ≡ n = omega (arith, k_is, long, begins, within, d, fewer) in e) opened_noted
+        | inr more ↦ subst (λ (m : ℕ). AllByRecursion (IsBlockNotedIn noted (immutable_part network after)) (take m after)) (let e : a ≡ n = omega (arith, k_is, long, more) in e) here
+      ])
 
 -- ---- all that is kept
 
@@ -293,7 +317,7 @@ module _ {S : Type 0} (network : Network) (old : ChainDb S) (new : Block) (whole
   pub added_switched : (switch : Switch S) (mid : Store) (next : ChainDb S) (told : Change) → IsSwitch network old.chain.items old.store old.db new switch → IsTakenIn old.store new invalid mid
       → next.chain.items ≡ without_last switch.back old.chain.items ++ switch.blocks.items → IsCommitted old.db switch.prepared next.db → IsCutBack mid next.chain.items (length next.chain.items - depth next.db) next.store
       → (waiting : Waiting) → IsResynced network (without_last switch.back old.chain.items ++ switch.blocks.items) old.mempool.waiting.txs waiting → next.mempool ≡ record old.mempool { waiting = waiting }
-      → AllByRecursion (IsBlockNoted next.past) (immutable_part network (without_last switch.back old.chain.items ++ switch.blocks.items)) → next.opened ≡ old.opened → told.back ≡ switch.back → told.added ≡ length switch.blocks.items → IsAdded network old new next told
+      → AllByRecursion (IsBlockNotedIn next.past (immutable_part network (without_last switch.back old.chain.items ++ switch.blocks.items))) (immutable_part network (without_last switch.back old.chain.items ++ switch.blocks.items)) → next.opened ≡ old.opened → told.back ≡ switch.back → told.added ≡ length switch.blocks.items → IsAdded network old new next told
   added_switched switch mid next told is taken chain_is committed cut waiting resynced mempool_is noted same_opened back_is added_is = record {
     selected = selected;
     change = subst (λ (n : ℕ). IsChange old.chain.items next.chain.items told.back n) (sym added_is)
@@ -311,7 +335,7 @@ module _ {S : Type 0} (network : Network) (old : ChainDb S) (new : Block) (whole
       k = committed.k ∙ whole.k;
       capacity = cut.cut.capacity ∙ (taken.marked.capacity ∙ (taken.inserted.capacity ∙ whole.capacity));
       mempool = mempool_resynced network next.chain.items old.mempool next.mempool waiting whole.mempool.capacity resynced_here mempool_is;
-      past = subst (λ (c : List Block). AllByRecursion (IsBlockNoted next.past) (immutable_part network c)) (sym chain_is) noted;
+      past = subst (λ (c : List Block). AllByRecursion (IsBlockNotedIn next.past (immutable_part network c)) (immutable_part network c)) (sym chain_is) noted;
     };
   }
     where
@@ -365,7 +389,7 @@ module _ {S : Type 0} (network : Network) (old : ChainDb S) (new : Block) (whole
       → mid.chain.items ≡ old.chain.items → mid.db ≡ old.db → OnOk result (next.chain.items ≡ without_last switch.back mid.chain.items ++ switch.blocks.items) → OnOk result (IsCommitted mid.db switch.prepared next.db)
       → OnOk result (IsCutBack mid.store next.chain.items (length next.chain.items - depth next.db) next.store)
       → (waiting : Waiting) → IsResynced network (without_last switch.prepared.back old.chain.items ++ switch.blocks.items) old.mempool.waiting.txs waiting → next.mempool ≡ record old.mempool { waiting = waiting }
-      → AllByRecursion (IsBlockNoted next.past) (immutable_part network (without_last switch.back old.chain.items ++ switch.blocks.items)) → next.opened ≡ old.opened → IfOk result (λ told. (told.back ≡ switch.back) × (told.added ≡ length switch.blocks.items)) → IfOk result (IsAdded network old new next)
+      → AllByRecursion (IsBlockNotedIn next.past (immutable_part network (without_last switch.back old.chain.items ++ switch.blocks.items))) (immutable_part network (without_last switch.back old.chain.items ++ switch.blocks.items)) → next.opened ≡ old.opened → IfOk result (λ told. (told.back ≡ switch.back) × (told.added ≡ length switch.blocks.items)) → IfOk result (IsAdded network old new next)
   added_at_switch switch mid next (Err e) is taken same_chain same_db chain_is committed cut waiting resynced mempool_is noted same_opened told_is = tt
   added_at_switch switch mid next (Ok told) is taken same_chain same_db chain_is committed cut waiting resynced mempool_is noted same_opened told_is =
       added_switched switch mid.store next told is taken (chain_is ∙ ap (λ (c : List Block). without_last switch.back c ++ switch.blocks.items) same_chain)

@@ -73,7 +73,7 @@ module _ (S : RattleType) (scheme : Ghosts S.Denot) where
       let s = store_send in
       let d = db_send in
       let m = Mempool-send S scheme in
-      search (set.the_send, crosses, sendable) depth 20
+      search (map.the_send, crosses, sendable) depth 20
 
   pub Core-send : IsSend (Core.the_field S scheme).row
   Core-send =

@@ -15,3 +15,6 @@ pub mod Points
 pub mod FollowerCalls
 pub mod Crossing
 pub mod ForCallers
+pub mod BlocksByHash
+pub mod TxPlaces
+pub mod WaysBack

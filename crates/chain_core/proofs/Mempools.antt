@@ -1,5 +1,5 @@
 -- The mempool beside a chain: brought up to date with another one, and after a submission.
-use Rattle.std.proofs.Common.{◌≡◌, ℕ, ◌+◌, List, Option, Some, [], sym, ap, subst, ◌∙◌, arith}
+use Rattle.std.proofs.Common.{◌≡◌, ℕ, ◌+◌, List, Option, Some, None, [], sym, ap, subst, ◌∙◌, arith}
 use Rattle.std.specs.Option.{option_map, option_map_or}
 use Rattle.std.proofs.lemmas.Option.{same_Some}
 use Rattle.model.specs.Block.{Block}
@@ -9,10 +9,13 @@ use Rattle.model.specs.Rules.{Params}
 use Rattle.model.specs.Chain.{Tip}
 use Rattle.model.specs.Ledger.{Network, Ledger}
 use Rattle.model.specs.Applying.{LedgerState, IsStateOf}
-use Rattle.model.specs.Mempool.{utxo_after_all, passed, utxo_of, next_slot, revalidated, IsValidMempool, SubmitReply, Answers, Submits}
+use Rattle.model.specs.Mempool.{utxo_after_all, passed, utxo_of, next_slot, revalidated, IsValidMempool, SubmitReply, Refused, Answers, Submits, IsInMempool}
+use Rattle.model.specs.Explaining.{Detail, IsDetail}
+use Rattle.model.specs.History.{State}
+use Rattle.model.specs.Asked.{ExplainsSubmission}
 use Rattle.model.proofs.MempoolSteps.{up_to_date, nothing_valid, submitted_valid}
 use Rattle.mempool.specs.Contents.{Mempool, Waiting}
-use Rattle.mempool.specs.Calls.{resynced_on, IsSubmission, IsWantFor}
+use Rattle.mempool.specs.Calls.{resynced_on, IsSubmission, IsWantFor, ExplainsBytes}
 use Rattle.mempool.proofs.ForCallers.{left_txs, left_capacity, left_unspent}
 use Rattle.chain_core.specs.Mempools.{IsMempoolOf, IsResynced, IsWantOf}
 
@@ -65,17 +68,45 @@ module _ (network : Network) (chain : List Block) (state : LedgerState) (is : Is
       unspent = λ utxo of_chain. left_unspent mempool bytes reply new utxo submission.left (of.unspent utxo of_chain);
     }
 
-  -- where memory was wanting in the code's mempool it was wanting beside the chain
-  pub wants : (mempool : Mempool) → IsMempoolOf network chain mempool → (params : Params) (slot : ℕ) → params ≡ state.params → slot ≡ state.tip.slot → (bytes : List ℕ)
-      → IsWantFor network.verifies params (slot + 1) mempool bytes → IsWantOf network chain mempool.waiting.txs bytes
-  wants mempool of params slot params_is slot_of bytes want reply early after s =
-      let same : state.ledger.utxo ≡ s.utxo = same_Some state.ledger.utxo s.utxo (sym outputs_are ∙ s.of_chain) in
-      let unspent : utxo_after_all s.utxo mempool.waiting.txs ≡ mempool.waiting.unspent = sym (of.unspent state.ledger.utxo outputs_are ∙ ap (λ (u : Utxo). utxo_after_all u mempool.waiting.txs) same) in
-      want reply early
-      (subst (λ (p : Params). Answers network.verifies p (slot + 1) mempool.waiting.unspent mempool.capacity mempool.waiting.txs bytes reply) (sym (params_is ∙ is.params))
-      (subst (λ (n : ℕ). Answers network.verifies network.genesis.params n mempool.waiting.unspent mempool.capacity mempool.waiting.txs bytes reply) (sym (ap (λ n. n + 1) slot_of ∙ slot_is))
-      (subst (λ (u : Utxo). Answers network.verifies network.genesis.params (next_slot chain) u mempool.capacity mempool.waiting.txs bytes reply) unspent
-      (subst (λ (n : ℕ). Answers network.verifies network.genesis.params (next_slot chain) (utxo_after_all s.utxo mempool.waiting.txs) n mempool.waiting.txs bytes reply) (sym of.capacity) s.answers))))
+  -- what is answered beside the chain is answered by the code's mempool
+  module _ (mempool : Mempool) (of : IsMempoolOf network chain mempool) (params : Params) (slot : ℕ) (params_is : params ≡ state.params) (slot_of : slot ≡ state.tip.slot) (bytes : List ℕ) where
+    answers_inside : (reply : SubmitReply) (after : List Transaction) → Submits network chain mempool.waiting.txs bytes reply after → Answers network.verifies params (slot + 1) mempool.waiting.unspent mempool.capacity mempool.waiting.txs bytes reply
+    answers_inside reply after s =
+        let same : state.ledger.utxo ≡ s.utxo = same_Some state.ledger.utxo s.utxo (sym outputs_are ∙ s.of_chain) in
+        let unspent : utxo_after_all s.utxo mempool.waiting.txs ≡ mempool.waiting.unspent = sym (of.unspent state.ledger.utxo outputs_are ∙ ap (λ (u : Utxo). utxo_after_all u mempool.waiting.txs) same) in
+        subst (λ (p : Params). Answers network.verifies p (slot + 1) mempool.waiting.unspent mempool.capacity mempool.waiting.txs bytes reply) (sym (params_is ∙ is.params))
+        (subst (λ (n : ℕ). Answers network.verifies network.genesis.params n mempool.waiting.unspent mempool.capacity mempool.waiting.txs bytes reply) (sym (ap (λ n. n + 1) slot_of ∙ slot_is))
+        (subst (λ (u : Utxo). Answers network.verifies network.genesis.params (next_slot chain) u mempool.capacity mempool.waiting.txs bytes reply) unspent
+        (subst (λ (n : ℕ). Answers network.verifies network.genesis.params (next_slot chain) (utxo_after_all s.utxo mempool.waiting.txs) n mempool.waiting.txs bytes reply) (sym of.capacity) s.answers)))
+
+    -- so where memory was wanting in that it was wanting beside the chain
+    pub wants : IsWantFor network.verifies params (slot + 1) mempool bytes → IsWantOf network chain mempool.waiting.txs bytes
+    wants want reply early after s = want reply early (answers_inside reply after s)
+
+    -- and what that would refuse bytes for, they would be refused for beside the chain
+    pub explained : (s : State) → chain ≡ s.chain → mempool.waiting.txs ≡ s.mempool → (told : Option Detail) → ExplainsBytes network.verifies params (slot + 1) mempool bytes told → ExplainsSubmission network s bytes told
+    explained s chain_is txs_is None none = λ reason after submits.
+        none reason (answers_inside (Refused reason) after
+        (subst (λ (c : List Block). Submits network c mempool.waiting.txs bytes (Refused reason) after) (sym chain_is)
+        (subst (λ (ts : List Transaction). Submits network s.chain ts bytes (Refused reason) after) (sym txs_is) submits)))
+    explained s chain_is txs_is (Some detail) found =
+        let params = network.genesis.params in
+        let utxo = state.ledger.utxo in (
+          utxo,
+          subst (λ (c : List Block). utxo_of network c ≡ Some utxo) chain_is outputs_are,
+          (
+            found.0,
+            found.1,
+            (
+              λ there. found.2.0 (subst (λ (ts : List Transaction). IsInMempool ts found.0) (sym txs_is) there),
+              subst (λ (ts : List Transaction). IsDetail network.verifies params (utxo_after_all utxo ts) (next_slot s.chain) found.0 detail) txs_is
+                  (subst (λ (c : List Block). IsDetail network.verifies params (utxo_after_all utxo mempool.waiting.txs) (next_slot c) found.0 detail) chain_is
+                  (subst (λ (u : Utxo). IsDetail network.verifies params u (next_slot chain) found.0 detail) (of.unspent utxo outputs_are)
+                  (subst (λ (n : ℕ). IsDetail network.verifies params mempool.waiting.unspent n found.0 detail) (ap (λ n. n + 1) slot_of ∙ slot_is)
+                  (subst (λ (p : Params). IsDetail network.verifies p mempool.waiting.unspent (slot + 1) found.0 detail) (params_is ∙ is.params) found.2.1)))),
+            ),
+          ),
+        )
 
 -- a mempool that was brought up to date with another chain is that chain's
 pub mempool_resynced : (network : Network) (chain : List Block) (old new : Mempool) (waiting : Waiting) → old.capacity ≡ network.genesis.max_mempool → IsResynced network chain old.waiting.txs waiting

@@ -1,5 +1,5 @@
 -- That blocks which no rollback reaches are read again: of whatever legal history, their texts are those of a valid chain.
-use Rattle.std.proofs.Common.{◌≡◌, ◌≢◌, ℕ, ◌<◌, ◌≤◌, true, false, List, [], ◌∷◌, ◌++◌, length, take, drop, Contains, refl, sym, ap, subst, ◌∙◌, append_assoc, inl, inr}
+use Rattle.std.proofs.Common.{◌≡◌, ◌≢◌, ℕ, ◌≤◌, true, false, List, [], ◌∷◌, ◌++◌, length, drop, Contains, refl, sym, ap, subst, ◌∙◌, append_assoc, inl, inr}
 use Rattle.std.specs.Prelude.{Result, Ok, Err, IfErr, bytes_eq}
 use Rattle.std.specs.List.{AllByRecursion}
 use Rattle.std.proofs.lemmas.Bool.{cases_lt}
@@ -12,7 +12,7 @@ use Rattle.model.specs.Block.{Block, SpellsBlock, block_text, body_hash_of}
 use Rattle.model.specs.Ledger.{Network, Ledger, network_on, network_of, ledger_from, ledger_after_block, opening_ledger}
 use Rattle.std.specs.Prelude.{Option, IsSome, option_and_then}
 use Rattle.model.specs.Chain.{IsValidChain, IsOpening, immutable_part, immutable_length}
-use Rattle.model.specs.History.{State, Entry, Event, Reply, Step, Keeps, IsRun, IsLegal, opening, TooLarge, BodyHashMismatch}
+use Rattle.model.specs.History.{State, Entry, Event, Reply, Keeps, IsRun, opening, TooLarge, BodyHashMismatch}
 use Rattle.model.proofs.Lists.{all_of_member}
 use Rattle.model.proofs.BlockTexts.{one_block, block_text_is}
 use Rattle.model.proofs.Candidates.{state_of_valid, valid_of_state}
@@ -20,7 +20,7 @@ use Rattle.model.proofs.StatesAlong.{front_state}
 use Rattle.model.proofs.LegalHistories.{Kind, Keeping, Quiet, kind_of, legal_sound}
 use Rattle.block.specs.Read.{IsRead}
 use Rattle.chain_core.specs.Immutable.{texts_of}
-use Rattle.chain_core.specs.Reopening.{AreRead, IsChainOf, IsFirstInvalid, IsReopenFault, WereImmutable}
+use Rattle.chain_core.specs.Reopening.{AreRead, IsFirstInvalid, IsReopenFault, WereImmutable}
 use Rattle.chain_core.specs.declared.reopening.ReopenFault.{ReopenFault}
 use Rattle.chain_core.specs.declared.reopening.ReopenFault.TheVariants.{InvalidBlock, OutOfMemory}
 use Rattle.chain_core.proofs.OpenedOn.{spelled_all}

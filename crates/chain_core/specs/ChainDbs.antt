@@ -20,18 +20,19 @@ use Rattle.ledgerdb.specs.Chains.{without_last, IsDatabaseOf, IsPreparedOf}
 use Rattle.chainsel.specs.Ready.{IsSettled}
 use Rattle.chainsel.specs.Choices.{IsSelected}
 use Rattle.chain_core.specs.Mempools.{IsMempoolOf}
-use Rattle.chain_core.specs.PastHashes.{IsBlockNoted}
+use Rattle.chain_core.specs.PastHashes.{IsBlockNotedIn}
 use Rattle.chain_core.specs.declared.chain_db.ChainDb.{ChainDb}
 use Rattle.chain_core.specs.declared.chain_db.Change.{Change}
 
--- between two arrivals: settled, with the limits of the genesis, the mempool beside the chain, the hashes of the blocks
--- that are never rolled back noted, and how many blocks it was opened on
+-- Between two arrivals: settled, with the limits of the genesis, the mempool beside the chain, and how many blocks it
+-- was opened on. Under the hash of each block that is never rolled back stands the number of one of these of that hash.
 pub record IsWhole {S : Type 0} (network : Network) (a : ChainDb S) : Type 0 where
   pub settled : IsSettled network a.chain.items a.store a.db
   pub k : a.db.k ≡ network.genesis.k
   pub capacity : a.store.capacity ≡ network.genesis.max_volatile
   pub mempool : IsMempoolOf network a.chain.items a.mempool
-  pub past : AllByRecursion (IsBlockNoted a.past) (immutable_part network a.chain.items)
+  pub past : AllByRecursion (IsBlockNotedIn a.past (immutable_part network a.chain.items))
+      (immutable_part network a.chain.items)
   pub opened : a.opened ≡ length network.opened
 
 -- what it begins from, under a genesis and a scheme of signatures

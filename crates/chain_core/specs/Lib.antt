@@ -15,3 +15,5 @@ pub mod Immutable
 pub mod Reopening
 pub mod ChainSoFar
 pub mod ReopeningInside
+pub mod Asking
+pub mod Ways

@@ -3,23 +3,28 @@
 ghost use Rattle.std.specs.Prelude.{◌≡◌, ◌≤◌, ◌<◌, ◌+◌, ◌-◌, ◌^◌, ◌++◌, [], List, ℕ, length, take, IfOk, OnOk, OnErr};
 ghost use Rattle.std.specs.Prelude.{◌≢◌, vec_capacity};
 ghost use Rattle.std.specs.List.{AllByRecursion};
+ghost use Rattle.std.specs.Option.{option_map};
 ghost use Rattle.model.specs.Genesis.{Genesis};
 ghost use Rattle.model.specs.Cbor.{text_of};
 ghost use Rattle.model.specs.Transaction.{Transaction, SpellsTransaction, item_of_transaction};
+ghost use Rattle.tx.specs.Bare.{BeginsLikeTransaction};
+ghost use Rattle.utxo_rules.specs.DetailView.{detail_of};
 ghost use Rattle.mempool.specs.Calls.{IsWantAtSubmission};
 ghost use Rattle.mempool.specs.View.{reply_of};
 ghost use Rattle.model.specs.Block.{Block, SpellsBlock, block_text, block_hash_of};
 ghost use Rattle.model.specs.Ledger.{Network, network_on};
 ghost use Rattle.model.specs.Chain.{immutable_length};
 ghost use Rattle.model.specs.Applying.{IsStateOf};
+ghost use Rattle.model.specs.History.{State};
+ghost use Rattle.model.specs.Asked.{ExplainsSubmission};
 ghost use Rattle.blockstore.specs.Stored.{IsSet, blocks_of};
 ghost use Rattle.blockstore.specs.Insertion.{IsFull};
 ghost use Rattle.chainsel.specs.Ready.{IsReady};
 ghost use Rattle.ledgerdb.specs.Values.{depth};
 ghost use Rattle.ledgerdb.specs.Chains.{without_last, IsDatabaseOf, IsPreparedOf};
 ghost use Rattle.chain_core.specs.ChainDbs.{IsWhole, IsAdded, AreMarked, IsTakenIn, IsCutBack, IsCommitted};
-ghost use Rattle.chain_core.specs.ChainDbs.{IsBeside, IsTaken, network_db};
-ghost use Rattle.chain_core.specs.PastHashes.{IsNoted, IsBlockNoted};
+ghost use Rattle.chain_core.specs.ChainDbs.{IsBeside, IsTaken, HasState, network_db};
+ghost use Rattle.chain_core.specs.PastHashes.{KeepsNotes, AreNotedAtSwitch};
 ghost use Rattle.chain_core.specs.Mempools.{IsResynced, IsWantOf};
 
 use crate::past::{Bytes, note_all};
@@ -33,7 +38,8 @@ use ledger::LedgerState;
 use ledgerdb::LedgerDb;
 use mempool::{Mempool, Resynced, SubmitReply};
 use std::alloc::{AllocError, Global};
-use std::collections::BTreeSet;
+use std::collections::BTreeMap;
+use utxo_rules::Detail;
 use witness_pool::{CheckedTx, SigScheme};
 
 /// How many blocks of the old selected chain were rolled back, and how many of the new one were put on.
@@ -43,15 +49,16 @@ pub struct Change {
     pub added: u64,
 }
 
-/// The selected chain, the live blocks, the states of the chain's last blocks, the mempool beside it, and the hashes of
-/// the blocks that are never rolled back: with those of the live blocks they are all by which a block can clash.
+/// The selected chain, the live blocks, the states of the chain's last blocks, the mempool beside it, and the numbers
+/// of the blocks that are never rolled back, by their hashes: with those of the live blocks they are all by which a
+/// block can clash. Where memory ran out, numbers of other blocks may be there too.
 #[derive(Drop)]
 pub struct ChainDb<S: SigScheme> {
     pub chain: Vec<CheckedBlock<S>>,
     pub store: BlockStore<S>,
     pub db: LedgerDb,
     pub mempool: Mempool<S>,
-    pub past: BTreeSet<Bytes>,
+    pub past: BTreeMap<Bytes, u64>,
     /// How many blocks the chain had at first.
     pub opened: usize,
 }
@@ -68,7 +75,7 @@ fn mark_all<S: SigScheme>(store: &mut BlockStore<S>, invalid: &[BlockHash])
 
 impl<S: SigScheme> ChainDb<S> {
     /// On a chain with its state, before anything else is kept: none of its blocks is ever rolled back. Err where
-    /// memory runs out. Notes the hash of each block.
+    /// memory runs out. Notes the number of each block by its hash.
     pub fn open(
         alloc: Global,
         genesis: &Genesis,
@@ -85,8 +92,8 @@ impl<S: SigScheme> ChainDb<S> {
     {
         let OpenedChain { state, chain } = on;
         let mempool = Mempool::new(alloc, genesis.max_mempool(), state.utxo())?;
-        let mut past = BTreeSet::new(alloc);
-        note_all(&mut past, &chain)?;
+        let mut past = BTreeMap::new(alloc);
+        note_all(&mut past, &chain[..0], &chain)?;
         let store = BlockStore::behind(alloc, genesis.max_volatile(), chain_tip(&chain));
         let db = LedgerDb::new(alloc, state, genesis.k());
         let opened = chain.len();
@@ -135,7 +142,8 @@ impl<S: SigScheme> ChainDb<S> {
         ensures store { OnErr result (self.new.store ≡ self.old.store) }
         ensures db { OnErr result (self.new.db ≡ self.old.db) }
         ensures mempool { OnErr result (self.new.mempool ≡ self.old.mempool) }
-        ensures past { (hash : List ℕ) → IsNoted self.old.past hash → IsNoted self.new.past hash }
+        ensures past { KeepsNotes self.old.past self.new.past
+            (take (length self.old.chain.items - depth self.old.db) self.old.chain.items) }
         ensures opened { self.new.opened ≡ self.old.opened }
     {
         let Selection {
@@ -170,11 +178,10 @@ impl<S: SigScheme> ChainDb<S> {
             (without_last switch.now.prepared.back chain ++ blocks) self.old.mempool.waiting.txs resynced) }
         ensures room { OnOk result (length self.new.chain.items + length switch.now.blocks.items
             ≤ vec_capacity self.new.chain) }
-        ensures kept { (hash : List ℕ) → IsNoted self.old.past hash → IsNoted self.new.past hash }
-        ensures noted { OnOk result (
-            AllByRecursion (IsBlockNoted self.old.past)
-            (take (length self.old.chain.items - depth self.old.db) self.old.chain.items) →
-            AllByRecursion (IsBlockNoted self.new.past)
+        ensures kept { KeepsNotes self.old.past self.new.past
+            (take (length self.old.chain.items - depth self.old.db) self.old.chain.items) }
+        ensures noted { OnOk result (AreNotedAtSwitch self.old.past self.new.past
+            (take (length self.old.chain.items - depth self.old.db) self.old.chain.items)
             (take (length self.old.chain.items - switch.now.back + length switch.now.blocks.items - k)
             (without_last switch.now.back self.old.chain.items ++ switch.now.blocks.items))) }
         ensures chain { self.new.chain.items ≡ self.old.chain.items }
@@ -200,16 +207,15 @@ impl<S: SigScheme> ChainDb<S> {
             .resync(state.params(), state.utxo(), state.slot() + 1)
     }
 
-    /// Notes the hashes of the blocks that the switch puts past the last `k` ones. Where memory runs out some of them
+    /// Notes the numbers of the blocks that the switch puts past the last `k` ones. Where memory runs out some of them
     /// may be noted, which changes no answer.
     fn note_past(&mut self, k: u64, switch: &Switch<S>) -> Result<(), AllocError>
         requires back { switch.now.back ≤ length self.old.chain.items }
         requires room { length self.old.chain.items + length switch.now.blocks.items < 2 ^ 64 }
-        ensures kept { (hash : List ℕ) → IsNoted self.old.past hash → IsNoted self.new.past hash }
-        ensures noted { OnOk result (
-            AllByRecursion (IsBlockNoted self.old.past)
-            (take (length self.old.chain.items - depth self.old.db) self.old.chain.items) →
-            AllByRecursion (IsBlockNoted self.new.past)
+        ensures kept { KeepsNotes self.old.past self.new.past
+            (take (length self.old.chain.items - depth self.old.db) self.old.chain.items) }
+        ensures noted { OnOk result (AreNotedAtSwitch self.old.past self.new.past
+            (take (length self.old.chain.items - depth self.old.db) self.old.chain.items)
             (take (length self.old.chain.items - switch.now.back + length switch.now.blocks.items - k)
             (without_last switch.now.back self.old.chain.items ++ switch.now.blocks.items))) }
         ensures frame { self.new ≡ record self.old { past = self.new.past } }
@@ -217,9 +223,18 @@ impl<S: SigScheme> ChainDb<S> {
         let stays = self.chain.len() - switch.back;
         let past = (stays + switch.blocks.len()).saturating_sub(k as usize);
         let (to, more) = (past.min(stays), past.saturating_sub(stays));
-        let from = self.immutable().min(to);
-        note_all(&mut self.past, &self.chain[from..to])?;
-        note_all(&mut self.past, &switch.blocks[..more])
+        let immutable = self.immutable();
+        let from = immutable.min(to);
+        note_all(
+            &mut self.past,
+            &self.chain[..immutable],
+            &self.chain[from..to],
+        )?;
+        note_all(
+            &mut self.past,
+            &self.chain[..immutable],
+            &switch.blocks[..more],
+        )
     }
 
     /// Takes the block into the store, where nothing is said against it, and marks the blocks of these hashes. Where
@@ -326,5 +341,19 @@ impl<S: SigScheme> ChainDb<S> {
         let state = self.db.state();
         self.mempool
             .submit_checked(state.params(), state.slot() + 1, tx)
+    }
+
+    /// Why these bytes would be refused if they were submitted, with what that is about. None where they would be for
+    /// no reason.
+    pub fn explain(&self, bytes: &[u8]) -> Result<Option<Detail>, AllocError>
+        ensures told { IfOk result (λ told. (genesis : Genesis) (opened : List Block) (s : State) →
+            IsWhole (network_on genesis S.verifies opened) self.now →
+            HasState (network_on genesis S.verifies opened) self.now s → self.now.mempool.waiting.txs ≡ s.mempool →
+            ExplainsSubmission (network_on genesis S.verifies opened) s bytes.now (option_map detail_of told)) }
+        ensures memory { OnErr result (BeginsLikeTransaction bytes.now) }
+    {
+        let state = self.db.state();
+        self.mempool
+            .explain(state.params(), state.slot() + 1, bytes)
     }
 }

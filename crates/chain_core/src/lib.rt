@@ -3,8 +3,10 @@
 #![tactic(auto)]
 
 mod arrival;
+mod asking;
 mod chain_db;
 mod event;
+mod finding;
 mod follower;
 mod forging;
 mod judging;
@@ -13,12 +15,17 @@ mod past;
 mod place;
 mod refusal;
 mod reopening;
+mod standing;
+mod why;
 
 pub use arrival::ArriveReply;
 pub use event::{RawEvent, Reply};
+pub use finding::Place;
 pub use follower::{Instruction, NextFault};
 pub use followers::{FollowerId, OpenFollowerFault, UnknownFollower};
 pub use forging::{ForgeFault, Forged};
 pub use node_core::Core;
 pub use refusal::Refusal;
 pub use reopening::{ReopenFault, Reopening};
+pub use standing::TxPlace;
+pub use why::Why;

@@ -38,9 +38,9 @@ use witness_pool::{CheckedTx, SigScheme};
 /// The core keeps the selected chain, the live blocks, the states of the chain's last k blocks, the mempool, and for
 /// each follower how many blocks it was told and how many of these the chain still has.
 pub struct Core<S: SigScheme> {
-    alloc: Global,
-    genesis: Genesis,
-    chain_db: ChainDb<S>,
+    pub(crate) alloc: Global,
+    pub(crate) genesis: Genesis,
+    pub(crate) chain_db: ChainDb<S>,
     followers: Followers,
 }
 
@@ -126,7 +126,7 @@ impl<S: SigScheme> Core<S> {
     /// does this one block at a time.
     ///
     /// ```text
-    /// let blocks: Vec<Vec<u8>> = ..; // what was kept of `core.block(1)` to `core.block(core.immutable())`
+    /// let blocks: Vec<Vec<u8>> = ..; // the texts of `core.block(1)` to `core.block(core.immutable())`, kept
     /// let core = Core::<TestScheme>::reopen(alloc, genesis, &blocks)?;
     /// ```
     pub fn reopen(
@@ -502,16 +502,16 @@ impl<S: SigScheme> Core<S> {
     }
 
     /// The block of this number of the selected chain, from 1 to [`Core::height`], and else None: the one that the core
-    /// keeps, which `try_clone` shares. In constant time; copies nothing, and takes no memory.
-    pub fn checked_block(&self, number: u64) -> Option<&CheckedBlock<S>>
+    /// keeps, which `try_clone` shares. Its text, `bytes`, has at most 1,048,576 bytes. In constant time; copies
+    /// nothing, and takes no memory.
+    pub fn block(&self, number: u64) -> Option<&CheckedBlock<S>>
         ensures { option_map (λ b. b.now) result ≡ block_numbered self.now.chain number }
     {
         block_at(&self.chain_db.chain, number)
     }
 
-    /// The text of the block of this number of the selected chain, from 1 to [`Core::height`], and else None. It has
-    /// at most 1,048,576 bytes. In constant time; copies nothing, and takes no memory.
-    pub fn block(&self, number: u64) -> Option<&[u8]>
+    /// The text of the block of this number of the selected chain.
+    fn text_at(&self, number: u64) -> Option<&[u8]>
         ensures { MatchOption result (block_numbered self.now.chain number ≡ None) (λ bytes. (b : Plain)
             × (block_numbered self.now.chain number ≡ Some b) × IsRead b bytes.now) }
     {
@@ -533,7 +533,7 @@ impl<S: SigScheme> Core<S> {
     {
         let mut texts = Vec::new(self.alloc);
         for number in from..self.immutable() {
-            let Some(block) = self.block(number + 1) else {
+            let Some(block) = self.text_at(number + 1) else {
                 unreachable!();
             };
             let copy = block.to_vec(self.alloc)?;

@@ -1,6 +1,7 @@
 //! Places on the chain.
 
-ghost use Rattle.std.specs.Prelude.{◌≡◌, ◌↔◌, IsTrue, map, option_map, take};
+ghost use Rattle.std.specs.Prelude.{◌≡◌, ◌↔◌, ◌-◌, IsTrue, map, option_map, take, drop};
+ghost use Rattle.std.specs.Slice.Iter.{iter_rest};
 ghost use Rattle.model.specs.Chain.{tip_point};
 ghost use Rattle.model.specs.Follower.{IsOn, IsFirstOn};
 ghost use Rattle.ident.specs.PointView.{point_of};
@@ -8,6 +9,7 @@ ghost use Rattle.chain_core.specs.Numbers.{block_numbered};
 
 use block::CheckedBlock;
 use ident::Point;
+use std::slice::Iter;
 use witness_pool::SigScheme;
 
 /// Where these blocks end: the point of the last one, or the genesis point.
@@ -28,6 +30,14 @@ pub fn block_at<S: SigScheme>(chain: &[CheckedBlock<S>], number: u64) -> Option<
         return None;
     }
     chain.get(number as usize - 1)
+}
+
+/// The blocks from this number on, of which the first one of the chain has number 1.
+pub fn blocks_from<S: SigScheme>(chain: &[CheckedBlock<S>], from: u64) -> Iter<'_, CheckedBlock<S>>
+    ensures { iter_rest result ≡ drop (from - 1) chain.now }
+{
+    let skipped = from.saturating_sub(1).min(chain.len() as u64) as usize;
+    chain[skipped..].iter()
 }
 
 /// Where the first so many blocks of the chain end, or all where there are fewer.

@@ -97,7 +97,7 @@ fn next_block<S: SigScheme>(
 ///
 /// ```text
 /// let mut reopening = Reopening::<TestScheme>::new(alloc, genesis)?;
-/// for text in texts { // what was kept of `core.block(1)` to `core.block(core.immutable())`
+/// for text in texts { // the texts of `core.block(1)` to `core.block(core.immutable())`, kept
 ///     reopening = reopening.push(text)?;
 /// }
 /// let core = reopening.finish()?;

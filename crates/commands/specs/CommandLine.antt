@@ -1,6 +1,6 @@
 -- The command line of the program, as its parser reads it.
 use Rattle.std.specs.Prelude.{true, [], ◌∷◌, Some, codes}
-use Rattle.clap.specs.declared.builder.action.ArgAction.TheVariants.{Set}
+use Rattle.clap.specs.declared.builder.action.ArgAction.TheVariants.{Set, SetTrue}
 use Rattle.clap.specs.declared.builder.value_parser.ValueParser.TheVariants.{Unsigned}
 use Rattle.clap.specs.Words.{Text, Rule, Shape, App, new_rule, new_app, with_rule, with_subcommand}
 use Rattle.simulation.specs.Clients.{clients_limit}
@@ -18,11 +18,18 @@ abbrev pub clients_rule : Rule
 clients_rule =
     record (option_rule (codes "clients")) { parser = Some (Unsigned 1 clients_limit); defaults = codes "1" ∷ [] }
 
--- the command `run` with its three options
-abbrev pub run_app : App
-run_app =
+-- the flag that asks for more to be told
+abbrev pub explain_rule : Rule
+explain_rule = record (new_rule (codes "explain")) { long = Some (codes "explain"); action = Some SetTrue }
+
+-- the command `run` with its three options that are files, and with the flag
+abbrev pub files_app : App
+files_app =
     with_rule (with_rule (with_rule (new_app (codes "run")) (required_rule (codes "genesis")))
     (required_rule (codes "script"))) (option_rule (codes "log"))
+
+abbrev pub run_app : App
+run_app = with_rule files_app explain_rule
 
 -- the command `sim` with its three
 abbrev pub sim_app : App

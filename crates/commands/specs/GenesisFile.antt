@@ -1,5 +1,5 @@
 -- What the bytes of a genesis file say.
-use Rattle.std.specs.Prelude.{◌≡◌, ◌⊎◌, ◌≤◌, List, ℕ, length, Result, Ok, Err}
+use Rattle.std.specs.Prelude.{◌≡◌, ◌⊎◌, ◌≤◌, List, ℕ, length, None, IfSome, Result, Ok, Err}
 use Rattle.std.specs.Str.{IsUtf8}
 use Rattle.model.specs.Genesis.{Genesis}
 use Rattle.genesis.specs.declared.genesis_fault.GenesisFault.{GenesisFault}
@@ -7,6 +7,7 @@ use Rattle.genesis.specs.declared.genesis_fault.GenesisFault.TheVariants as faul
 use Rattle.genesis.specs.Meaning.{IsAnswer}
 use Rattle.commands.specs.declared.genesis_file.NoGenesis.{NoGenesis}
 use Rattle.commands.specs.declared.genesis_file.NoGenesis.TheVariants.{Unread, Fault}
+use Rattle.hints.specs.HintView.{Tells}
 
 -- how many bytes a genesis file may have
 abbrev pub genesis_size_limit : ℕ
@@ -24,9 +25,16 @@ pub record IsGenesisOfFile (genesis : Genesis) (bytes : List ℕ) : Type 0 where
 -- no fault of the bytes
 abbrev pub IsReadFault : NoGenesis → Type 0
 IsReadFault Unread = Unit {0}
-IsReadFault (Fault fault) = fault ≡ faults.OutOfMemory
+IsReadFault (Fault fault hint) = (fault ≡ faults.OutOfMemory) × (hint ≡ None)
 
--- why the file's bytes say no genesis: they weren't read, for whatever reason, or have this fault
+-- nothing is told beside the fault
+abbrev pub IsUnhinted : NoGenesis → Type 0
+IsUnhinted Unread = Unit {0}
+IsUnhinted (Fault fault hint) = hint ≡ None
+
+-- why the file's bytes say no genesis: they weren't read, for whatever reason, or have this fault, and what is told
+-- beside it is so
 abbrev pub IsNoGenesis : NoGenesis → List ℕ → Type 0
 IsNoGenesis Unread bytes = Unit {0}
-IsNoGenesis (Fault fault) bytes = IsFileAnswer bytes (Err fault) ⊎ (fault ≡ faults.OutOfMemory)
+IsNoGenesis (Fault fault hint) bytes =
+    (IsFileAnswer bytes (Err fault) ⊎ (fault ≡ faults.OutOfMemory)) × IfSome hint (Tells bytes)

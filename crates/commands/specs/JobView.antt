@@ -1,15 +1,21 @@
 -- Which job a command line names.
-use Rattle.std.specs.Prelude.{◌≡◌, ◌⊎◌, ℕ, List, Option, Some, option_map, codes}
+use Rattle.std.specs.Prelude.{◌≡◌, ◌⊎◌, ℕ, Bool, false, List, Option, Some, None, option_map, codes, bytes_eq}
 use Rattle.std.specs.Str.Parse.{IsNumeral, digits_value, without_leading_plus}
 use Rattle.clap.specs.Words.{Text, Row, first_of, one_of}
 use Rattle.commands.specs.declared.jobs.Job.{Job}
 use Rattle.commands.specs.declared.jobs.Job.TheVariants.{Run, Sim, Replay}
 
+-- a flag is given
+abbrev pub is_given : Option Text → Bool
+is_given None = false
+is_given (Some text) = bytes_eq text (codes "true")
+
 -- the values of the options of `run`
-pub record IsRun (rows : List Row) (genesis script : Text) (log : Option Text) : Type 0 where
+pub record IsRun (rows : List Row) (genesis script : Text) (log : Option Text) (explain : Bool) : Type 0 where
   pub genesis_is : first_of (codes "genesis") rows ≡ Some genesis
   pub script_is : first_of (codes "script") rows ≡ Some script
   pub log_is : first_of (codes "log") rows ≡ log
+  pub explain_is : is_given (first_of (codes "explain") rows) ≡ explain
 
 -- the text is a decimal number, before which a plus may stand
 abbrev pub IsNumberOf : Text → ℕ → Type 0
@@ -27,17 +33,18 @@ pub record IsReplay (rows : List Row) (genesis log : Text) : Type 0 where
   pub log_is : first_of (codes "log") rows ≡ Some log
 
 abbrev pub IsRunJob : List Row → Job → Type 0
-IsRunJob rows (Run genesis script log) = IsRun rows genesis.now script.now (option_map (λ path. path.now) log)
+IsRunJob rows (Run genesis script log explain) =
+    IsRun rows genesis.now script.now (option_map (λ path. path.now) log) explain
 IsRunJob rows (Sim genesis script clients) = ⊥
 IsRunJob rows (Replay genesis log) = ⊥
 
 abbrev pub IsSimJob : List Row → Job → Type 0
-IsSimJob rows (Run genesis script log) = ⊥
+IsSimJob rows (Run genesis script log explain) = ⊥
 IsSimJob rows (Sim genesis script clients) = IsSim rows genesis.now script.now clients.many
 IsSimJob rows (Replay genesis log) = ⊥
 
 abbrev pub IsReplayJob : List Row → Job → Type 0
-IsReplayJob rows (Run genesis script log) = ⊥
+IsReplayJob rows (Run genesis script log explain) = ⊥
 IsReplayJob rows (Sim genesis script clients) = ⊥
 IsReplayJob rows (Replay genesis log) = IsReplay rows genesis.now log.now
 

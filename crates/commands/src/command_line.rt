@@ -1,11 +1,11 @@
 //! The command line.
 
 ghost use Rattle.std.specs.Prelude.{◌≡◌, map, IfOk, IfSome, false, string_bytes};
-ghost use Rattle.clap.specs.Words.{app_of, rule_of, rows_of, found_of, subcommand_of, subcommand_rows_of};
+ghost use Rattle.clap.specs.Words.{app_of, rule_of, rows_of, found_of, first_of, subcommand_of, subcommand_rows_of};
 ghost use Rattle.clap.specs.declared.builder.command.Command.TheViews.{out-Command};
-ghost use Rattle.commands.specs.CommandLine.{option_rule, required_rule, clients_rule, run_app, sim_app, replay_app};
-ghost use Rattle.commands.specs.CommandLine.{bare_app, script_app, node_app};
-ghost use Rattle.commands.specs.JobView.{IsJobOf, IsRunJob, IsSimJob, IsReplayJob};
+ghost use Rattle.commands.specs.CommandLine.{option_rule, required_rule, clients_rule, explain_rule, files_app};
+ghost use Rattle.commands.specs.CommandLine.{run_app, sim_app, replay_app, bare_app, script_app, node_app};
+ghost use Rattle.commands.specs.JobView.{is_given, IsJobOf, IsRunJob, IsSimJob, IsReplayJob};
 
 use crate::jobs::Job;
 use clap::builder::ValueParser;
@@ -48,9 +48,20 @@ fn clients_option<'a>(alloc: Global) -> Arg<'a>
         .default_value("1")
 }
 
-/// The command `run`.
-fn run_command<'a>(alloc: Global) -> Result<Command<'a>, AllocError>
-    ensures app { IfOk result (λ c. app_of c ≡ run_app) }
+/// The flag that asks for more to be told.
+fn explain_flag<'a>(alloc: Global) -> Arg<'a>
+    ensures rule { rule_of result ≡ explain_rule }
+    ensures local { result.global ≡ false }
+{
+    Arg::new(alloc, "explain")
+        .long("explain")
+        .action(ArgAction::SetTrue)
+        .help("Say what a fault of the script or the genesis is about, and where")
+}
+
+/// The command `run` with the options that are files.
+fn files_command<'a>(alloc: Global) -> Result<Command<'a>, AllocError>
+    ensures app { IfOk result (λ c. app_of c ≡ files_app) }
     ensures local { IfOk result (λ c. (out-Command c).has_globals ≡ false) }
 {
     Command::new(alloc, "run")
@@ -62,6 +73,14 @@ fn run_command<'a>(alloc: Global) -> Result<Command<'a>, AllocError>
             "log",
             "The blocks that are kept, from this run on or before",
         ))
+}
+
+/// The command `run`.
+fn run_command<'a>(alloc: Global) -> Result<Command<'a>, AllocError>
+    ensures app { IfOk result (λ c. app_of c ≡ run_app) }
+    ensures local { IfOk result (λ c. (out-Command c).has_globals ≡ false) }
+{
+    files_command(alloc)?.arg(explain_flag(alloc))
 }
 
 /// The command `sim`.
@@ -114,6 +133,16 @@ fn node_command<'a>(alloc: Global) -> Result<Command<'a>, AllocError>
     script_command(alloc)?.subcommand(replay)
 }
 
+/// Whether a flag is given.
+fn is_given(found: &ArgMatches<'_>, id: &str) -> bool
+    ensures { result ≡ is_given (first_of id.now (rows_of (found_of found.now))) }
+{
+    match found.get_str(id) {
+        Some(text) => text == "true",
+        None => false,
+    }
+}
+
 /// The run that these options name, if they name one.
 fn run_job<'a>(found: &ArgMatches<'a>) -> Option<Job<'a>>
     ensures { IfSome result (IsRunJob (rows_of (found_of found.now))) }
@@ -121,10 +150,12 @@ fn run_job<'a>(found: &ArgMatches<'a>) -> Option<Job<'a>>
     let genesis = found.get_str("genesis")?;
     let script = found.get_str("script")?;
     let log = found.get_str("log");
+    let explain = is_given(found, "explain");
     Some(Job::Run {
         genesis,
         script,
         log,
+        explain,
     })
 }
 

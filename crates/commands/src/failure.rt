@@ -2,8 +2,11 @@
 
 use chain_core::ReopenFault;
 use genesis::GenesisFault;
+use hints::{GenesisHint, ScriptHint};
 use immlog::{AppendFault, OpenLogFault};
 use scenario::ScenarioFault;
+use std::alloc::Global;
+use std::io::{Result, Write};
 use thiserror::Error as Fault;
 
 /// Why a job is not done, in the words that are told of it.
@@ -12,9 +15,13 @@ pub enum Failure<'a> {
     /// The file of this path can't be read.
     #[error("cannot read {0}")]
     CannotRead(&'a str),
-    /// What the genesis file says is no genesis: the fault, with its number.
+    /// What the genesis file says is no genesis: the fault, with its number, and what it is about.
     #[error("genesis: {number} {fault}")]
-    Genesis { number: u8, fault: GenesisFault },
+    Genesis {
+        number: u8,
+        fault: GenesisFault,
+        hint: Option<GenesisHint>,
+    },
     /// At this place of the log stands an open gate without its record.
     #[error("log: damaged at {0}")]
     Damaged(usize),
@@ -27,6 +34,52 @@ pub enum Failure<'a> {
     /// The run of the script failed, or memory ran out.
     #[error(transparent)]
     Scenario(ScenarioFault),
+    /// The same, with what the fault of a line is about.
+    #[error("{fault}")]
+    Line {
+        fault: ScenarioFault,
+        hint: ScriptHint,
+    },
+}
+
+impl<'a> Failure<'a> {
+    /// The same with what the fault of a line is about, where so much of the script was kept and there is memory for
+    /// it.
+    pub fn explained(self, alloc: Global, script: Option<&[u8]>) -> Failure<'a> {
+        match (self, script) {
+            (
+                Failure::Scenario(
+                    ScenarioFault::Line {
+                        number,
+                        fault: line,
+                    },
+                ),
+                Some(script),
+            ) => {
+                let fault = ScenarioFault::Line {
+                    number,
+                    fault: line,
+                };
+                match ScriptHint::of_line(alloc, script, number, line) {
+                    Ok(Some(hint)) => Failure::Line { fault, hint },
+                    _ => Failure::Scenario(fault),
+                }
+            }
+            (failure, _) => failure,
+        }
+    }
+
+    /// Writes a line on what the fault is about, where that is known.
+    pub fn tell_hint<W: Write>(&self, out: &mut W) -> Result<()> {
+        match self {
+            Failure::Genesis {
+                hint: Some(hint),
+                ..
+            } => write!(out, "# {hint}\n"),
+            Failure::Line { hint, .. } => write!(out, "# {hint}\n"),
+            _ => Ok(()),
+        }
+    }
 }
 
 impl<'a> From<OpenLogFault> for Failure<'a> {

@@ -5,11 +5,13 @@ use simulation::Clients;
 /// What the program is to do.
 #[derive(Debug, Drop)]
 pub enum Job<'a> {
-    /// Run the script of this file under the genesis of this one, on the log of a file where one is named.
+    /// Run the script of this file under the genesis of this one, on the log of a file if one is named. If it is to be
+    /// explained, a second line is told of a fault of either file.
     Run {
         genesis: &'a str,
         script: &'a str,
         log: Option<&'a str>,
+        explain: bool,
     },
     /// Have the peers of this file's script send blocks under the genesis of this one, each in a thread of its own, and
     /// so many clients follow the chain.

@@ -8,6 +8,7 @@ mod genesis_file;
 mod jobs;
 mod log_runs;
 mod program;
+mod recorded;
 
 pub use command_line::job;
 pub use descriptors::hold_descriptors;

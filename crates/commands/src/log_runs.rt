@@ -12,6 +12,7 @@ ghost use Rattle.scenario.specs.Handed.{HasRun};
 use crate::descriptors::LAST_STANDARD;
 use crate::failure::Failure;
 use crate::program::genesis_of_file;
+use crate::recorded::Recorded;
 use chain_core::Core;
 use file_disk::FileDisk;
 use flushing::{Restart, flush};
@@ -215,13 +216,15 @@ fn run_on_log<'a, D: Disk, R: Read, W: Write>(
     ended(ran, flushed)
 }
 
-/// Runs the script of a file on a core that was opened on the log's blocks.
+/// Runs the script of a file on a core that was opened on the log's blocks. What a fault is about is told where it is
+/// to be explained.
 fn run_script<'a, D: Disk, R: Files + AllocGlobal, W: Write>(
     rt: &R,
     genesis: &Genesis,
     core: Box<Core<TestScheme>>,
     log: &mut Log<D>,
     path: &'a str,
+    explain: bool,
     out: &mut W,
 ) -> Result<(), Failure<'a>>
     requires genesis { core.value.genesis ≡ genesis.now }
@@ -233,11 +236,17 @@ fn run_script<'a, D: Disk, R: Files + AllocGlobal, W: Write>(
     };
     // One byte more than a script may have makes its line a bad one, so a line without end takes no more memory.
     let script = file.take(scenario::MAX_SCRIPT_SIZE + 1);
-    let Ok(mut reader) = BufReader::new(rt.alloc(), script) else {
+    let mut script = Recorded::new(rt.alloc(), script, explain);
+    let Ok(mut reader) = BufReader::new(rt.alloc(), &mut script) else {
         return Err(Failure::Scenario(ScenarioFault::OutOfMemory));
     };
     let core = Box::into_inner(core);
-    run_on_log(rt.alloc(), genesis, core, log, &mut reader, out)
+    let ran = run_on_log(rt.alloc(), genesis, core, log, &mut reader, out);
+    drop(reader);
+    match ran {
+        Ok(()) => Ok(()),
+        Err(failure) => Err(failure.explained(rt.alloc(), script.kept())),
+    }
 }
 
 /// Runs the script of a file under the genesis of another, on the log of a third, which is made where it is missing.
@@ -248,13 +257,14 @@ pub fn run_logged<'a, R: Files<File = File> + AllocGlobal + Threads + Sync, W: W
     genesis: &'a str,
     script: &'a str,
     log: &'a str,
+    explain: bool,
     out: &mut W,
 ) -> Result<(), Failure<'a>> {
-    let genesis = genesis_of_file(rt, genesis)?;
+    let genesis = genesis_of_file(rt, genesis, explain)?;
     let mut restart = restart_of(rt.alloc(), &genesis)?;
     let mut log = log_of_file(rt, log, true, &mut restart)?;
     let core = core_of(rt.alloc(), restart)?;
-    run_script(rt, &genesis, core, &mut log, script, out)
+    run_script(rt, &genesis, core, &mut log, script, explain, out)
 }
 
 /// Opens the log of a file under the genesis of another, and prints how high its chain is. Has the log until then.
@@ -264,7 +274,7 @@ pub fn replay<'a, R: Files<File = File> + AllocGlobal + Threads + Sync, W: Write
     log: &'a str,
     out: &mut W,
 ) -> Result<(), Failure<'a>> {
-    let genesis = genesis_of_file(rt, genesis)?;
+    let genesis = genesis_of_file(rt, genesis, false)?;
     let mut restart = restart_of(rt.alloc(), &genesis)?;
     let _log = log_of_file(rt, log, false, &mut restart)?;
     let core = core_of(rt.alloc(), restart)?;

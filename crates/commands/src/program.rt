@@ -10,6 +10,7 @@ use crate::failure::Failure;
 use crate::genesis_file::{MAX_GENESIS_SIZE, NoGenesis, read_genesis};
 use crate::jobs::Job;
 use crate::log_runs::{replay, run_logged};
+use crate::recorded::Recorded;
 use clap::Error;
 use clap::error::ErrorKind;
 use genesis::Genesis;
@@ -27,24 +28,29 @@ use witness_pool::OpenGate;
 fn genesis_failure<'a>(path: &'a str, why: NoGenesis) -> Failure<'a> {
     match why {
         NoGenesis::Unread => Failure::CannotRead(path),
-        NoGenesis::Fault(fault) => match fault.number() {
-            Some(number) => Failure::Genesis { number, fault },
+        NoGenesis::Fault { fault, hint } => match fault.number() {
+            Some(number) => Failure::Genesis {
+                number,
+                fault,
+                hint,
+            },
             None => Failure::Scenario(ScenarioFault::OutOfMemory),
         },
     }
 }
 
-/// The genesis that a file says.
+/// The genesis that a file says. What a fault is about is told where it is to be explained.
 pub fn genesis_of_file<'a, R: Files + AllocGlobal>(
     rt: &R,
     path: &'a str,
+    explain: bool,
 ) -> Result<Genesis, Failure<'a>> {
     let Ok(file) = File::open(rt, path) else {
         return Err(Failure::CannotRead(path));
     };
     // One byte more than a genesis file may have makes it too large, so a file without end takes no more memory.
     let mut bytes = file.take(MAX_GENESIS_SIZE + 1);
-    match read_genesis(rt.alloc(), &mut bytes) {
+    match read_genesis(rt.alloc(), &mut bytes, explain) {
         Ok(genesis) => Ok(genesis),
         Err(why) => Err(genesis_failure(path, why)),
     }
@@ -68,21 +74,23 @@ fn run_reader<R: Read, W: Write>(
     scenario::run(alloc, genesis, &mut reader, out)
 }
 
-/// Runs the script of a file on a network of this genesis.
+/// Runs the script of a file on a network of this genesis. What a fault is about is told where it is to be explained.
 fn run_file<'a, R: Files + AllocGlobal, W: Write>(
     rt: &R,
     genesis: Genesis,
     path: &'a str,
+    explain: bool,
     out: &mut W,
 ) -> Result<(), Failure<'a>> {
     let Ok(file) = File::open(rt, path) else {
         return Err(Failure::CannotRead(path));
     };
     // One byte more than a script may have makes its line a bad one, so a line without end takes no more memory.
-    let mut script = file.take(scenario::MAX_SCRIPT_SIZE + 1);
+    let script = file.take(scenario::MAX_SCRIPT_SIZE + 1);
+    let mut script = Recorded::new(rt.alloc(), script, explain);
     match run_reader(rt.alloc(), genesis, &mut script, out) {
         Ok(()) => Ok(()),
-        Err(fault) => Err(Failure::Scenario(fault)),
+        Err(fault) => Err(Failure::Scenario(fault).explained(rt.alloc(), script.kept())),
     }
 }
 
@@ -92,10 +100,11 @@ fn run_files<'a, R: Files + AllocGlobal, W: Write>(
     rt: &R,
     genesis: &'a str,
     script: &'a str,
+    explain: bool,
     out: &mut W,
 ) -> Result<(), Failure<'a>> {
-    let genesis = genesis_of_file(rt, genesis)?;
-    run_file(rt, genesis, script, out)
+    let genesis = genesis_of_file(rt, genesis, explain)?;
+    run_file(rt, genesis, script, explain, out)
 }
 
 /// Runs the simulation that the script of a file says, with so many clients, on a network of this genesis.
@@ -128,7 +137,7 @@ fn sim_files<'a, R: Files + AllocGlobal + Threads + Wait + Sync, W: Write>(
     clients: Clients,
     out: &mut W,
 ) -> Result<(), Failure<'a>> {
-    let genesis = genesis_of_file(rt, genesis)?;
+    let genesis = genesis_of_file(rt, genesis, false)?;
     sim_file(rt, genesis, script, clients, out)
 }
 
@@ -156,7 +165,8 @@ fn refuse<O: Write, E: Write>(error: &Error, out: &mut O, err: &mut E) -> u8
     }
 }
 
-/// Does a job, and answers the status: 0 where it was done, and else 1 with one line on standard error.
+/// Does a job, and answers the status: 0 where it was done, and else 1 with one line on standard error, or two where a
+/// fault is to be explained.
 fn do_job<R: Files<File = File> + AllocGlobal + Threads + Wait + Sync, O: Write, E: Write>(
     rt: &R,
     job: &Job<'_>,
@@ -171,12 +181,14 @@ fn do_job<R: Files<File = File> + AllocGlobal + Threads + Wait + Sync, O: Write,
             genesis,
             script,
             log: None,
-        } => tell(run_files(rt, *genesis, *script, out), err),
+            explain,
+        } => tell(run_files(rt, *genesis, *script, *explain, out), err),
         Job::Run {
             genesis,
             script,
             log: Some(log),
-        } => tell(run_logged(rt, *genesis, *script, *log, out), err),
+            explain,
+        } => tell(run_logged(rt, *genesis, *script, *log, *explain, out), err),
         Job::Sim {
             genesis,
             script,
@@ -195,13 +207,14 @@ fn tell<E: Write>(end: Result<(), Failure<'_>>, err: &mut E) -> u8
         Ok(()) => 0,
         Err(failure) => {
             let _ = write!(err, "{failure}\n");
+            let _ = failure.tell_hint(err);
             1
         }
     }
 }
 
 /// Does what the words of the command line ask for. Answers 0 where that was done, 2 for a refused command line
-/// and else 1 with one line on standard error.
+/// and else 1 with one line on standard error, or two where a fault is to be explained.
 pub fn start<R: Files<File = File> + AllocGlobal + Threads + Wait + Sync, O: Write, E: Write>(
     rt: &R,
     words: &[String],

@@ -5,11 +5,14 @@ ghost use Rattle.model.specs.Signature.{Verifies};
 ghost use Rattle.model.specs.History.{State, Event, Reply, Entry, IsLegal};
 ghost use Rattle.model.specs.Ledger.{network_of};
 ghost use Rattle.model.specs.Log.{OpensToBeginning};
+ghost use Rattle.model.specs.Journal.{Journal};
 ghost use Rattle.chain_core.specs.Held.{Held, Stands, network_held};
 ghost use Rattle.chain_core.specs.Immutable.{texts_of, immutable_texts};
 ghost use Rattle.chain_core.specs.Reopening.{IsChainOf, WereImmutable};
 ghost use Rattle.chain_core.specs.Steps.{Steps, KeepsStart};
+ghost use Rattle.shared.specs.Starts.{Start, network_from};
 ghost use Rattle.flushing.specs.Courses.{Act, IsCourse};
+ghost use Rattle.flushing.specs.Sharing.{BeginAfter};
 ghost use Rattle.flushing.specs.Texts.{Begins};
 
 /// What [`crate::flush`] asks for stays: the blocks that are never rolled back only grow.
@@ -42,8 +45,12 @@ pub fn immutable_blocks_grow()
 pub fn flushed_blocks_open_again()
     // Of a core that was opened on blocks that were read, or on none, and that stands for what a legal history left,
     // the first of its blocks that are never rolled back are such.
-    ensures { (verifies : Verifies) (core : Held) (history : List Entry) (state : State) (log : List (List ℕ))
+    ensures core { (verifies : Verifies) (core : Held) (history : List Entry) (state : State) (log : List (List ℕ))
         → IsChainOf (network_of core.genesis verifies) (texts_of core.opened) core.opened
         → IsLegal (network_held core verifies) history state → Stands core state
         → Begins log (immutable_texts verifies core) → WereImmutable (network_of core.genesis verifies) log }
+    // The same of what [`crate::flush_shared`] puts on of a core that threads share, after whatever journal.
+    ensures shared { (verifies : Verifies) (start : Start) (journal : Journal) (log : List (List ℕ))
+        → IsChainOf (network_of start.genesis verifies) (texts_of start.opened) start.opened
+        → BeginAfter (network_from start verifies) journal log → WereImmutable (network_of start.genesis verifies) log }
 {}

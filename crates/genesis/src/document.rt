@@ -15,7 +15,7 @@ use toml::value::Array;
 use toml::{Table, Value};
 
 /// The keys of a genesis.
-const GENESIS_KEYS: [&str; 12] = [
+pub const GENESIS_KEYS: [&str; 12] = [
     "network",
     "k",
     "min_fee_a",
@@ -31,7 +31,7 @@ const GENESIS_KEYS: [&str; 12] = [
 ];
 
 /// The keys of an output.
-const ENTRY_KEYS: [&str; 3] = ["address", "key", "coin"];
+pub const ENTRY_KEYS: [&str; 3] = ["address", "key", "coin"];
 
 /// The two numbers of a second era, as they are written.
 #[derive(Clone, Copy)]
@@ -43,7 +43,7 @@ pub struct EraNumbers {
 impl EraNumbers {
     /// The numbers of a document, if both stand there, and none of them if neither does.
     #[tactic(auto, unfolding(crate::specs::Document::era_in))]
-    fn of_table(table: &Table) -> Option<Option<EraNumbers>>
+    pub fn of_table(table: &Table) -> Option<Option<EraNumbers>>
         ensures { option_map (option_map era_numbers_view) result ≡ era_in (table_view table.now) }
     {
         match (value_at(table, "era2_slot"), value_at(table, "per_asset")) {
@@ -75,7 +75,7 @@ pub struct Numbers {
 impl Numbers {
     /// The numbers of a document, if each of the nine stands there.
     #[tactic(auto, unfolding(crate::specs::Document::numbers_in))]
-    fn of_table(table: &Table) -> Option<Numbers>
+    pub fn of_table(table: &Table) -> Option<Numbers>
         ensures { option_map numbers_view result ≡ numbers_in (table_view table.now) }
     {
         Some(Numbers {
@@ -105,7 +105,7 @@ pub enum Lock<'a> {
 impl<'a> Lock<'a> {
     /// What unlocks the output of this table: just one of an address and a key, which is text.
     #[tactic(auto, unfolding(crate::specs::Document::lock_in))]
-    fn of_table(table: &'a Table) -> Option<Lock<'a>>
+    pub fn of_table(table: &'a Table) -> Option<Lock<'a>>
         ensures { option_map lock_view result ≡ lock_in (table_view table.now) }
     {
         match (value_at(table, "address"), value_at(table, "key")) {
@@ -126,7 +126,7 @@ pub struct Entry<'a> {
 impl<'a> Entry<'a> {
     /// The output of this table, which has no other keys.
     #[tactic(auto, unfolding(crate::specs::Document::entry_in))]
-    fn of_table(table: &'a Table) -> Option<Entry<'a>>
+    pub fn of_table(table: &'a Table) -> Option<Entry<'a>>
         ensures { option_map entry_view result ≡ entry_in (table_view table.now) }
     {
         if !has_only(table, &ENTRY_KEYS) {
@@ -139,7 +139,7 @@ impl<'a> Entry<'a> {
     }
 
     /// The output, which is a table.
-    fn of_value(value: &'a Value) -> Option<Entry<'a>>
+    pub fn of_value(value: &'a Value) -> Option<Entry<'a>>
         ensures { option_map entry_view result ≡ entry_of (view value.now) }
     {
         Entry::of_table(value.as_table()?)

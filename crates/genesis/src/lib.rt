@@ -12,6 +12,7 @@ mod genesis_fault;
 mod grants;
 mod placing;
 mod settings;
+pub mod stages;
 mod table;
 
 pub use genesis::Genesis;

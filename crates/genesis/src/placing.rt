@@ -48,7 +48,7 @@ fn address_of_key(network: u8, text: &str) -> Option<Address>
 
 impl Placed {
     /// The output with its address on this network, where it has one.
-    fn of_entry(network: u8, entry: &Entry<'_>) -> Option<Placed>
+    pub fn of_entry(network: u8, entry: &Entry<'_>) -> Option<Placed>
         requires { network < network_limit }
         ensures { option_map placed_view result ≡ placed_of network (entry_view entry.now) }
     {

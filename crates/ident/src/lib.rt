@@ -8,10 +8,12 @@
 
 mod digest;
 mod fault;
+mod hex_text;
 mod id;
 mod point;
 
 pub use fault::IdentFault;
+pub use hex_text::Hex;
 pub use id::{
     BlockHash, BlockKind, BodyHash, BodyKind, Id, KeyHash, KeyKind, ScriptHash, ScriptKind, TxId,
     TxKind,

@@ -11,3 +11,4 @@ pub mod Looking
 pub mod Turns
 pub mod Torn
 pub mod Again
+pub mod OneByOne

@@ -9,3 +9,4 @@ pub mod Left
 pub mod Walks
 pub mod Numbered
 pub mod Fetched
+pub mod LogBlocks

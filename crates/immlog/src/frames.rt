@@ -52,8 +52,8 @@ pub fn first_frames<'a>(alloc: Global, bytes: &'a [u8]) -> Result<Vec<Frame<'a>>
     Ok(frames)
 }
 
-/// The digest of the block of each record. Threads share the blocks, up to two for each processor; where there is one
-/// block, none is started.
+/// The digest of the block of each record. Threads share the blocks, up to two for each processor and at most 64; where
+/// there is one block, none is started.
 pub fn digests_of<R: Threads + Sync>(
     rt: &R,
     alloc: Global,

@@ -6,7 +6,8 @@
 //! log.append(&blocks)?;                  // once it answers Ok, each crash leaves them all
 //! println!(rt; "{}", log.durable())?;
 //! let block = log.block(1)?;             // the first one, read again
-//! let disk = log.into_disk();
+//! let mut blocks = log.into_blocks();     // all of them, one after the other
+//! let disk = blocks.into_log().into_disk();
 //! ```
 #![tactic(auto)]
 
@@ -17,6 +18,7 @@ mod fetching;
 mod frames;
 mod index;
 mod log;
+mod log_blocks;
 mod look;
 mod put;
 mod records;
@@ -27,5 +29,6 @@ pub use blocks::{Blocks, note_bytes};
 pub use disk::{Disk, DiskFailed};
 pub use faults::{AppendFault, CreateFault, OpenLogFault, ReadFault};
 pub use log::Log;
+pub use log_blocks::LogBlocks;
 pub use look::{Look, LookFault, fill, look_at};
 pub use sink::{Nobody, Sink};

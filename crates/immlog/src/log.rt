@@ -5,6 +5,7 @@ ghost use Rattle.std.specs.Prelude.{None, Some, IsErrOf, IsOk, IfOk, IfErr, IfSo
 ghost use Rattle.std.specs.List.{AllByRecursion};
 ghost use Rattle.model.specs.Disk.{Leaves, LeavesSince, one_more};
 ghost use Rattle.model.specs.Log.{IsLogBlock, Opens, IsDamaged, OpensToBeginning, IsLogOf};
+ghost use Rattle.immlog.specs.LogBlocks.{blocks_left};
 ghost use Rattle.immlog.specs.Numbered.{IsLike, numbered};
 ghost use Rattle.immlog.specs.Views.{lists_of};
 ghost use Rattle.immlog.specs.OpenLog.{GoesOn};
@@ -14,6 +15,7 @@ use crate::disk::Disk;
 use crate::faults::{AppendFault, CreateFault, OpenLogFault, ReadFault};
 use crate::fetching::{FetchFault, fetch_block};
 use crate::index::Index;
+use crate::log_blocks::LogBlocks;
 use crate::put::{make_room, put_all, wipe};
 use crate::recover::{Found, recover};
 use crate::sink::Sink;
@@ -77,10 +79,10 @@ impl<D: Disk> Log<D> {
     /// open gate has no record behind it, or where memory ran out; which blocks the sink was given is then not said.
     ///
     /// Reads the disk 4,194,304 bytes at a time, and computes the digests of the blocks that stand whole in them on
-    /// threads that it starts for that: up to two for each processor, and 64. A record that ends past those bytes is
-    /// read again with the next ones, and so is what stands behind 16,384 records. Takes memory for those bytes, and
-    /// less than two megabytes for what it finds in them, until it returns, and 40 bytes for each block; no block is
-    /// copied or kept.
+    /// threads that it starts for that: up to two for each processor, and at most 64. A record that ends past those
+    /// bytes is read again with the next ones, and so is what stands behind 16,384 records, or from the last gate on.
+    /// Takes memory for those bytes, and less than two megabytes for what it finds in them, beside the stacks of the
+    /// threads, until it returns, and 40 bytes for each block; no block is copied or kept.
     ///
     /// ```text
     /// let mut sink = Nobody::new(); // who makes nothing of the blocks
@@ -260,6 +262,14 @@ impl<D: Disk> Log<D> {
                 Err(ReadFault::DiskFault)
             }
         }
+    }
+
+    /// The blocks one after the other, each read again; [`LogBlocks::into_log`] gives the log back. Reads nothing yet.
+    pub fn into_blocks(self) -> LogBlocks<D>
+        ensures left { blocks_left result ≡ self.blocks }
+        ensures log { result.log ≡ self }
+    {
+        LogBlocks::new(self)
     }
 
     /// The disk as it stands, also of a broken log. Touches nothing.

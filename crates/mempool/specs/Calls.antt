@@ -1,9 +1,11 @@
 -- What the calls of the mempool promise.
 use Rattle.std.specs.Prelude.{◌≡◌, ℕ, ◌<◌, List, ◌++◌, [], ◌∷◌, is_some, if◌then◌else◌}
+use Rattle.std.specs.Prelude.{Option, Some, None}
 use Rattle.model.specs.Transaction.{Transaction, SpellsTransaction}
 use Rattle.model.specs.Signature.{Verifies}
 use Rattle.model.specs.Utxo.{Utxo, utxo_after}
-use Rattle.model.specs.Rules.{Params, reason_number, reason_against}
+use Rattle.model.specs.Rules.{Params, Reason, reason_number, reason_against}
+use Rattle.model.specs.Explaining.{Detail, IsDetail}
 use Rattle.model.specs.Mempool.{utxo_after_all, passed, SubmitReply, Known, Refused, Added, Answers, IsInMempool}
 use Rattle.model.specs.Mempool.{IsTransactionWith}
 use Rattle.tx.specs.Bare.{IsBare, BeginsLikeTransaction}
@@ -63,3 +65,13 @@ IsWantFor verifies params slot mempool bytes = (reply : SubmitReply) → IsEarly
 -- parts
 abbrev pub IsWantAtSubmission : List ℕ → Type 0
 IsWantAtSubmission bytes = BeginsLikeTransaction bytes × ((t : Transaction) → SpellsTransaction t bytes → IsBare t → ⊥)
+
+-- why these bytes would be refused, with what that is about; without a detail, they would be refused for no reason
+abbrev pub ExplainsBytes : Verifies → Params → ℕ → Mempool → List ℕ → Option Detail → Type 0
+ExplainsBytes verifies params slot mempool bytes (Some detail) =
+    IsTransactionWith bytes (λ t. (IsInMempool mempool.waiting.txs t → ⊥)
+    × IsDetail verifies params mempool.waiting.unspent slot t detail)
+ExplainsBytes verifies params slot mempool bytes None =
+    (reason : Reason)
+    → Answers verifies params slot mempool.waiting.unspent mempool.capacity mempool.waiting.txs bytes (Refused reason)
+    → ⊥

@@ -3,6 +3,7 @@
 ghost use Rattle.std.specs.Prelude.{◌≡◌, ◌↔◌, ℕ, List, [], length, map, sum, IsTrue, IfOk, OnOk, OnErr};
 ghost use Rattle.std.specs.Prelude.{MatchOption};
 ghost use Rattle.std.specs.List.{AllByRecursion};
+ghost use Rattle.std.specs.Option.{option_map};
 ghost use Rattle.std.specs.Arc.{arc_value};
 ghost use Rattle.model.specs.Cbor.{text_of};
 ghost use Rattle.model.specs.Transaction.{Transaction, SpellsTransaction, item_of_transaction, size_of};
@@ -10,8 +11,10 @@ ghost use Rattle.model.specs.Block.{item_of_transactions};
 ghost use Rattle.model.specs.Mempool.{IsInMempool, picked};
 ghost use Rattle.model.specs.Rules as model;
 ghost use Rattle.mempool.specs.Calls.{IsWantAtSubmission};
+ghost use Rattle.tx.specs.Bare.{BeginsLikeTransaction};
 ghost use Rattle.utxo_rules.specs.View.{params_of};
-ghost use Rattle.mempool.specs.Calls.{resynced_on, IsSubmission, IsSubmissionOf, IsNew, IsWantFor};
+ghost use Rattle.utxo_rules.specs.DetailView.{detail_of};
+ghost use Rattle.mempool.specs.Calls.{resynced_on, IsSubmission, IsSubmissionOf, IsNew, IsWantFor, ExplainsBytes};
 ghost use Rattle.mempool.specs.Picking.{IsSpelled};
 ghost use Rattle.mempool.specs.View.{reply_of};
 
@@ -24,7 +27,7 @@ use std::alloc::{AllocError, Global};
 use std::marker::Model;
 use std::sync::Arc;
 use tx::Tx;
-use utxo_rules::{CheckFault, Params, Utxo};
+use utxo_rules::{CheckFault, Detail, Params, Utxo};
 use witness_pool::{CheckedTx, SigScheme, plain};
 
 /// Transactions that wait to come into a block, in the order in which they came. In contracts it is their list, the
@@ -236,5 +239,31 @@ impl<S: SigScheme> Mempool<S> {
             return Ok(reply);
         }
         self.late_answer(plain(self.alloc, tx)?)
+    }
+
+    /// Why these bytes would be refused at this slot, that after the tip's, if they were submitted: the reason against
+    /// the transaction with what it is about. None where they would be refused for no reason: they are no transaction,
+    /// it waits already, or there is nothing against it. Changes nothing. Linear in the bytes, with a look-up of the
+    /// identifier and what [`utxo_rules::explain`] takes. Err where memory runs out.
+    pub fn explain(
+        &self,
+        params: &Params,
+        slot: u64,
+        bytes: &[u8],
+    ) -> Result<Option<Detail>, AllocError>
+        ensures told { IfOk result (λ told.
+            ExplainsBytes S.verifies (params_of params.now) slot self.now bytes.now (option_map detail_of told)) }
+        // Memory is asked for only where the bytes begin as a transaction does.
+        ensures memory { OnErr result (BeginsLikeTransaction bytes.now) }
+    {
+        let tx = match Tx::decode(self.alloc, bytes) {
+            Ok(tx) => tx,
+            Err(CborFault::Malformed) => return Ok(None),
+            Err(CborFault::OutOfMemory) => return Err(AllocError),
+        };
+        if self.waiting.has(tx.id()) {
+            return Ok(None);
+        }
+        self.waiting.explain(params, slot, &plain(self.alloc, tx)?)
     }
 }

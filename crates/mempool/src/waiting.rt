@@ -2,13 +2,16 @@
 
 ghost use Rattle.std.specs.Prelude.{◌≡◌, ◌↔◌, ℕ, [], length, map, sum, Contains, IsTrue, IfOk, OnOk, OnErr, IfErr};
 ghost use Rattle.std.specs.Prelude.{Some, None};
+ghost use Rattle.std.specs.Option.{option_map};
 ghost use Rattle.std.specs.Arc.{arc_value};
 ghost use Rattle.model.specs.Transaction.{transaction_id_of, size_of};
 ghost use Rattle.model.specs.Mempool.{IsInMempool, picked};
 ghost use Rattle.model.specs.Rules as model;
 ghost use Rattle.model.specs.Rules.{reason_against};
 ghost use Rattle.utxo_rules.specs.View.{params_of, reason_of};
+ghost use Rattle.model.specs.Explaining.{Explains};
 ghost use Rattle.utxo_rules.specs.Check.{IsCheckFault, PassesEarly};
+ghost use Rattle.utxo_rules.specs.DetailView.{detail_of};
 ghost use Rattle.mempool.specs.Calls.{with_tx, kept_with, resynced_on};
 
 use crate::picking::Picked;
@@ -19,7 +22,9 @@ use std::alloc::{AllocError, Global};
 use std::marker::Model;
 use std::sync::Arc;
 use tx::Tx;
-use utxo_rules::{CheckFault, Params, Reason, Utxo, apply, check, check_early, check_late};
+use utxo_rules::{
+    CheckFault, Detail, Params, Reason, Utxo, apply, check, check_early, check_late, explain,
+};
 use witness_pool::{CheckedTx, SigScheme};
 
 /// Transactions that wait, each at its identifier, in the order in which they came, and the outputs on which the next
@@ -135,6 +140,19 @@ impl<S: SigScheme> Waiting<S> {
             IsCheckFault S.verifies params self.now.unspent slot tx.now fault) }
     {
         check_late(self.alloc, &self.unspent, tx)
+    }
+
+    /// The reason against a transaction at a slot, on what those that wait leave unspent, with what it is about.
+    pub fn explain(
+        &self,
+        params: &Params,
+        slot: u64,
+        tx: &CheckedTx<S>,
+    ) -> Result<Option<Detail>, AllocError>
+        ensures { IfOk result (λ told.
+            Explains S.verifies (params_of params.now) self.now.unspent slot tx.now (option_map detail_of told)) }
+    {
+        explain(self.alloc, params, slot, &self.unspent, tx)
     }
 
     /// Has a transaction wait after the others. Err where memory runs out: nothing changes.

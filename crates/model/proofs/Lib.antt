@@ -44,3 +44,4 @@ pub mod EraLaws
 pub mod RisingKeys
 pub mod AssetsApart
 pub mod Results
+pub mod WaysBack

@@ -8,6 +8,7 @@ pub mod Signature
 pub mod Utxo
 pub mod Balance
 pub mod Rules
+pub mod Explaining
 pub mod Genesis
 pub mod Block
 pub mod Ledger
@@ -17,6 +18,7 @@ pub mod Mempool
 pub mod Follower
 pub mod History
 pub mod Forging
+pub mod Asked
 pub mod Journal
 pub mod Codes
 pub mod JournalCodes

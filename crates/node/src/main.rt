@@ -2,6 +2,8 @@
 #![tactic(auto)]
 
 #[cfg(test)]
+mod explain_tests;
+#[cfg(test)]
 mod log_tests;
 #[cfg(test)]
 mod sim_tests;

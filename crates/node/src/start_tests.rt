@@ -88,6 +88,24 @@ const REFUSED: &[&[&str]] = &[
         "--clients",
         "9",
     ],
+    &[
+        "node",
+        "sim",
+        "--genesis",
+        "g",
+        "--script",
+        "s",
+        "--explain",
+    ],
+    &[
+        "node",
+        "replay",
+        "--genesis",
+        "g",
+        "--log",
+        "l",
+        "--explain",
+    ],
     &["node", "replay", "--log", "l"],
     &["node", "replay", "--genesis", "g", "--script", "s"],
     &["node", "run", "--genesis", "g"],
@@ -140,7 +158,7 @@ pub fn own_folder(rt: &(impl Abort + Files + AllocGlobal)) -> String {
 }
 
 /// The lines of a genesis behind its network and k.
-const OTHER_NUMBERS: &str = "min_fee_a = 1
+pub const OTHER_NUMBERS: &str = "min_fee_a = 1
 min_fee_b = 100
 min_utxo = 10
 max_tx_size = 4096
@@ -150,7 +168,7 @@ max_mempool = 100
 ";
 
 /// Its outputs: 1,200 lovelace to the key of 32 bytes 01.
-const OUTPUT: &str = "[[output]]
+pub const OUTPUT: &str = "[[output]]
 key = \"0101010101010101010101010101010101010101010101010101010101010101\"
 coin = 1200
 ";

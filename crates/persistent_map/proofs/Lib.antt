@@ -1,5 +1,5 @@
+pub mod After
 pub mod Counts
 pub mod Depths
 pub mod ForCallers
-pub mod Pending
 pub mod Split

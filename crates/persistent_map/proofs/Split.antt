@@ -19,15 +19,15 @@ both : (a b : Bool) → T a → T b → T (a && b)
 both true b p q = q
 both false b p q = p
 
-first : (a b : Bool) → T (a && b) → T a
+pub first : (a b : Bool) → T (a && b) → T a
 first true b p = tt
 first false b p = p
 
-second : (a b : Bool) → T (a && b) → T b
+pub second : (a b : Bool) → T (a && b) → T b
 second true b p = p
 second false b p = absurd p
 
-less : (o : Ordering) → T (is_lt o) → o ≡ Less
+pub less : (o : Ordering) → T (is_lt o) → o ≡ Less
 less Less p = refl
 less Equal p = absurd p
 less Greater p = absurd p
@@ -51,7 +51,7 @@ module _ {K V : Type 0} (R : K → K → Ordering) where
   below_left x [] e r h = tt
   below_left x (d ∷ l) e r h = both _ _ (first _ _ h) (below_left x l e r (second _ _ h))
 
-  below_middle : (x : K) (l : List (K × V)) (e : K × V) (r : List (K × V)) → T (below_all R x (l ++ e ∷ r)) → R x e.0 ≡ Less
+  pub below_middle : (x : K) (l : List (K × V)) (e : K × V) (r : List (K × V)) → T (below_all R x (l ++ e ∷ r)) → R x e.0 ≡ Less
   below_middle x [] e r h = less _ (first _ _ h)
   below_middle x (d ∷ l) e r h = below_middle x l e r (second _ _ h)
 
@@ -107,7 +107,7 @@ module _ {K : Type 0} {R : K → K → Ordering} (o : IsTotalOrder R) where
   above_greater q k d p g = turned q d (o.trans d k q p (o.antisymm k q ∙ ap ordering_reverse g))
 
 module _ {K V : Type 0} {R : K → K → Ordering} (o : IsTotalOrder R) where
-  below_less : (x y : K) (es : List (K × V)) → R x y ≡ Less → T (below_all R y es) → T (below_all R x es)
+  pub below_less : (x y : K) (es : List (K × V)) → R x y ≡ Less → T (below_all R y es) → T (below_all R x es)
   below_less x y [] p h = tt
   below_less x y (e ∷ es) p h = both _ _ (is_less _ (o.trans x y e.0 p (less _ (first _ _ h)))) (below_less x y es p (second _ _ h))
 

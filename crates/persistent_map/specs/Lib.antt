@@ -1,3 +1,3 @@
 pub mod Entries
 pub mod Order
-pub mod Pending
+pub mod After

@@ -1,60 +1,55 @@
 //! The entries of a map in order.
 
-ghost use Rattle.std.specs.Prelude.{◌≡◌, [], ◌∷◌, IfOk, OnErr, MatchOption};
+ghost use Rattle.std.specs.Prelude.{◌≡◌};
+ghost use Rattle.persistent_map.specs.Order.{Rise};
 
-use crate::node::Node;
 use crate::tree::Tree;
-use std::alloc::{AllocError, Global};
 use std::marker::Model;
 
-/// The entries of a map that are still to come, in the order of their keys. It keeps the nodes on the way to the next
-/// one, so its memory grows with the logarithm of the map's length.
+/// The entries of a map that are still to come, in the order of their keys. It finds each by the key of the one before
+/// it, in time in proportion to the logarithm of the map's length, and takes no memory.
 #[derive(Drop)]
-pub struct Iter<'a, K, V> {
-    /// What comes next, before all that is on the stack.
+pub struct Iter<'a, K: Copy + Ord, V> {
     tree: &'a Tree<K, V>,
-    /// The nodes of which the own entry and the right are still to come, the last one first.
-    stack: Vec<&'a Node<K, V>>,
+    /// The key of the entry that came last.
+    last: Option<K>,
 }
 
-impl<'a, K, V> Model for Iter<'a, K, V> {
-    ghost use Rattle.std.specs.Prelude.{List, ◌++◌};
+impl<'a, K: Copy + Ord, V> Model for Iter<'a, K, V> {
+    ghost use Rattle.std.specs.Prelude.{List};
+    ghost use Rattle.persistent_map.specs.After.{after};
+    ghost use Rattle.persistent_map.specs.Order.{Rise};
 
     ghost Value = { List (K × V) };
 
-    ghost use Rattle.persistent_map.specs.Pending.{pending};
+    ghost view = { λ i. after K.cmp i.last i.tree.now };
 
-    ghost view = { λ i. i.tree.now ++ pending i.stack.items };
+    ghost invariant = { λ i. Rise K.cmp i.tree.now };
 }
 
-impl<'a, K, V> Iter<'a, K, V> {
-    pub(crate) fn new(alloc: Global, tree: &'a Tree<K, V>) -> Iter<'a, K, V>
+impl<'a, K: Copy + Ord, V> Iter<'a, K, V> {
+    pub(crate) fn new(tree: &'a Tree<K, V>) -> Iter<'a, K, V>
+        requires { Rise K.cmp tree.now }
         ensures { result ≡ tree.now }
     {
-        Iter {
-            tree,
-            stack: Vec::new(alloc),
-        }
+        Iter { tree, last: None }
     }
+}
 
-    /// The next entry, or None where no more is to come. A walk through a whole map takes time in proportion to its
-    /// length. Err where there is no memory for the way to the entry: the same entries are still to come.
-    pub fn next(&mut self) -> Result<Option<(&'a K, &'a V)>, AllocError>
-        ensures ok { IfOk result (λ next.
-            MatchOption next (self.old ≡ []) (λ e. self.old ≡ (e.0.now, e.1.now) ∷ self.new)) }
-        ensures end { IfOk result (λ next. MatchOption next (self.new ≡ []) (λ _. Unit {0})) }
-        ensures err { OnErr result (self.new ≡ self.old) }
-    {
-        while let Some(node) = self.tree.node() {
-            self.stack.push(node)?;
-            self.tree = &node.left;
-        }
-        match self.stack.pop() {
-            None => Ok(None),
-            Some(node) => {
-                self.tree = &node.right;
-                Ok(Some((&node.key, &node.value)))
-            }
-        }
+impl<'a, K: Copy + Ord, V> Iterator for Iter<'a, K, V> {
+    ghost use Rattle.std.specs.Iterator.{YieldsFirstBy, item_count};
+    ghost use Rattle.std.specs.Map.Iter.{deref_pair};
+
+    type Item = (&'a K, &'a V);
+
+    ghost next_gives = { YieldsFirstBy deref_pair (λ entries. entries) };
+
+    ghost remaining = { item_count (λ entries. entries) };
+
+    /// The next entry, or None where no more is to come.
+    fn next(&mut self) -> Option<(&'a K, &'a V)> {
+        let node = self.tree.first_after(&self.last)?;
+        self.last = Some(node.key);
+        Some((&node.key, &node.value))
     }
 }

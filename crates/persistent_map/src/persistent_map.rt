@@ -88,12 +88,13 @@ impl<K: Copy + Ord, V> PersistentMap<K, V> {
         })
     }
 
-    /// The entries in the order of their keys.
+    /// The entries in the order of their keys. Takes no memory; each step takes time in proportion to the logarithm of
+    /// the length.
     pub fn iter(&self) -> Iter<'_, K, V>
         ensures entries { result ≡ self.now }
         ensures rise { Rise K.cmp self.now }
     {
-        Iter::new(self.alloc, &self.tree)
+        Iter::new(&self.tree)
     }
 
     /// The value of this key. Takes time in proportion to the logarithm of the length, and no memory.

@@ -5,6 +5,7 @@ ghost use Rattle.std.specs.Option.{option_copied, option_map, option_map_or};
 ghost use Rattle.std.specs.FinMap.{find};
 ghost use Rattle.std.specs.Arc.{arc_value};
 ghost use Rattle.persistent_map.specs.Entries.{entries_of_node};
+ghost use Rattle.persistent_map.specs.After.{is_after, after, first_of, entry_of};
 ghost use Rattle.persistent_map.specs.Order.{Rise, WasFound, IsPut, IsWithout, IsThere};
 
 use crate::node::Node;
@@ -211,6 +212,35 @@ impl<K: Copy + Ord, V> Tree<K, V> {
             }
         }
         None
+    }
+
+    /// The node of the first entry whose key comes after the last one, where there is such an entry. Each key does
+    /// where there is no last one.
+    pub(crate) fn first_after(&self, last: &Option<K>) -> Option<&Node<K, V>>
+        ensures { Rise K.cmp self.now →
+            option_map (λ node. entry_of node.now) result ≡ first_of (after K.cmp last.now self.now) }
+    {
+        let mut tree = self;
+        let mut found = None;
+        while let Some(node) = tree.node() {
+            if is_after(last, &node.key) {
+                found = Some(node);
+                tree = &node.left;
+            } else {
+                tree = &node.right;
+            }
+        }
+        found
+    }
+}
+
+/// Whether the key comes after the last one. Each does where there is no last one.
+fn is_after<K: Ord>(last: &Option<K>, key: &K) -> bool
+    ensures { result ≡ is_after K.cmp last.now key.now }
+{
+    match last {
+        None => true,
+        Some(last) => last.cmp(key).is_lt(),
     }
 }
 

@@ -3,7 +3,7 @@ use Rattle.std.proofs.Common.{◌≡◌, ℕ, ◌+◌, List, [], ◌∷◌, ◌+
 use Rattle.model.specs.Ledger.{Network}
 use Rattle.model.specs.History.{State, opening, Event, Reply, Entry, Step, IsRun}
 use Rattle.model.proofs.ToldChains.{theorem_of_legal}
-use Rattle.script.specs.Meaning.{Meaning, Defines, Arrives, SubmitsTx, ForgesBlock, OpensFollower, TellsFollower, ForwardsFollower, ClosesFollower, PrintsTip, PrintsMempool, PrintsUtxo}
+use Rattle.script.specs.Meaning.{Meaning, Defines, Arrives, SubmitsTx, ForgesBlock, OpensFollower, TellsFollower, ForwardsFollower, ClosesFollower, PrintsTip, PrintsMempool, PrintsUtxo, PrintsWhy, PrintsWhere, PrintsBalance}
 use Rattle.scenario.specs.Run.{Scene, first_scene, Acts, Prints, AreObeyed, entry}
 
 -- a run, and another from where it ended
@@ -31,6 +31,9 @@ acts_run network s (ClosesFollower name id) out entries t (reply, closed, printe
 acts_run network s PrintsTip out entries t (printed, none, same) = still network s.state t.state entries none (ap (λ (x : Scene). x.state) same)
 acts_run network s PrintsMempool out entries t (printed, none, same) = still network s.state t.state entries none (ap (λ (x : Scene). x.state) same)
 acts_run network s PrintsUtxo out entries t (ledger, folded, printed, none, same) = still network s.state t.state entries none (ap (λ (x : Scene). x.state) same)
+acts_run network s (PrintsWhy name hash) out entries t (why, is_why, printed, none, same) = still network s.state t.state entries none (ap (λ (x : Scene). x.state) same)
+acts_run network s (PrintsWhere name id) out entries t (place, is_place, printed, none, same) = still network s.state t.state entries none (ap (λ (x : Scene). x.state) same)
+acts_run network s (PrintsBalance owner address) out entries t (ledger, folded, printed, none, same) = still network s.state t.state entries none (ap (λ (x : Scene). x.state) same)
 
 pub prints_run : (network : Network) (number before : ℕ) (s : Scene) (lines : List (List ℕ)) (out : List ℕ) (history : List Entry) (t : Scene) → Prints network number before s lines out history t → IsRun network s.state history t.state
 prints_run network number before s [] out history t (printed, none, same) = still network s.state t.state history none (ap (λ (x : Scene). x.state) same)

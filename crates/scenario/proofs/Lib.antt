@@ -11,3 +11,6 @@ pub mod SendRuns
 pub mod ForCallers
 pub mod SubmissionLines
 pub mod ShortLines
+pub mod AssetLines
+pub mod AnswerLines
+pub mod BalanceSums

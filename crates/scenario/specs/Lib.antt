@@ -1,6 +1,9 @@
 pub mod Pieces
 pub mod Print
 pub mod ForgeView
+pub mod Answers
+pub mod Balances
+pub mod Gathered
 pub mod Run
 pub mod SessionView
 pub mod Handed

@@ -15,6 +15,7 @@ use Rattle.model.specs.Forging.{ForgeFault, ForgeApplies, IsNotForged, IsForged}
 use Rattle.model.specs.History.{State, opening, Event, Arrive, Submit, Open, Next, Forward, Close, Step, HasDue}
 use Rattle.model.specs.History.{Reply, Opened, OutOfMemory}
 use Rattle.model.specs.History.{Entry, IsRun, IsLegal, ChainTheorem}
+use Rattle.model.specs.Asked.{Why, IsWhyOf, TxPlace, IsTxPlaceOf}
 use Rattle.script.specs.declared.fault.LineFault.{LineFault}
 use Rattle.script.specs.declared.fault.LineFault.TheVariants.{BadLine}
 use Rattle.script.specs.declared.stop.Stop.{Stop}
@@ -25,11 +26,13 @@ use Rattle.script.specs.Text.{lines_of}
 use Rattle.script.specs.Names.{Named, Binding, OpenTx, AllNames, no_names}
 use Rattle.script.specs.Meaning.{Meaning, Defines, Arrives, SubmitsTx, ForgesBlock, OpensFollower, TellsFollower}
 use Rattle.script.specs.Meaning.{ForwardsFollower, ClosesFollower, PrintsTip, PrintsMempool, PrintsUtxo, bound_block}
-use Rattle.script.specs.Meaning.{AreNamesAfter, HasNoFault, Means, formed}
+use Rattle.script.specs.Meaning.{PrintsWhy, PrintsWhere, PrintsBalance, AreNamesAfter, HasNoFault, Means, formed}
 use Rattle.scenario.specs.Pieces.{IsPiece}
 use Rattle.scenario.specs.Print.{arrival_text, submission_text, ForgeAnswer, ForgedBlock, NoBlock, NoMemory}
 use Rattle.scenario.specs.Print.{forge_answer_text, forging_text, mempool_text, open_text, tip_text, utxo_text}
 use Rattle.scenario.specs.Print.{IsNextText, forwarding_text, closing_text}
+use Rattle.scenario.specs.Answers.{why_text, where_text}
+use Rattle.scenario.specs.Balances.{outputs_of_address, IsBalanceText}
 
 -- the node's state with the names that are bound
 pub record Scene : Type 0 where
@@ -139,6 +142,13 @@ Acts network s PrintsMempool out entries t = (out ≡ mempool_text s.names.of_tx
     × (t ≡ s)
 Acts network s PrintsUtxo out entries t = (ledger : Ledger) × (ledger_of network s.state.chain ≡ Some ledger)
     × (out ≡ utxo_text ledger) × (entries ≡ []) × (t ≡ s)
+Acts network s (PrintsWhy name hash) out entries t = (why : Why) × IsWhyOf network s.state hash why
+    × (out ≡ why_text s.names.of_bytes name why) × (entries ≡ []) × (t ≡ s)
+Acts network s (PrintsWhere name id) out entries t = (place : TxPlace) × IsTxPlaceOf network s.state id place
+    × (out ≡ where_text s.names.of_bytes s.state.chain name place) × (entries ≡ []) × (t ≡ s)
+Acts network s (PrintsBalance owner address) out entries t = (ledger : Ledger)
+    × (ledger_of network s.state.chain ≡ Some ledger)
+    × IsBalanceText (outputs_of_address address ledger.utxo) owner out × (entries ≡ []) × (t ≡ s)
 
 -- a line of this number after so many bytes has no fault, and prints so
 pub record Obeys (network : Network) (number before : ℕ) (s : Scene) (line out : List ℕ) (entries : List Entry)

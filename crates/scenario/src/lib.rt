@@ -1,6 +1,8 @@
-//! Scripts run on a node: each event and each question of a script prints one line.
+//! Scripts run on a node: each event and each question of a script prints one line, and a balance more.
 #![tactic(auto)]
 
+mod answers;
+mod balance;
 mod fault;
 mod output;
 mod print;

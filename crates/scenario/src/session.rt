@@ -12,22 +12,28 @@ ghost use Rattle.chain_core.specs.Views.{arrive_reply_of, submit_reply_of};
 ghost use Rattle.script.specs.Names.{AllNames, Bound, bound_to, no_names};
 ghost use Rattle.script.specs.Meaning.{Arrives, ForgesBlock, OpensFollower, PrintsMempool, PrintsTip, PrintsUtxo};
 ghost use Rattle.script.specs.Meaning.{SubmitsTx, TellsFollower, ForwardsFollower, ClosesFollower};
+ghost use Rattle.script.specs.Meaning.{PrintsWhy, PrintsWhere, PrintsBalance};
+ghost use Rattle.script.specs.PartView.{owner_of};
+ghost use Rattle.tx.specs.View.{address_of};
 ghost use Rattle.script.specs.Meaning.{formed, is_late_line, Means, parse_within};
 ghost use Rattle.script.specs.RequestView.{AreNamed, HasFollowerRoom};
 ghost use Rattle.script.specs.Text.{script_size_limit};
 ghost use Rattle.scenario.specs.Run.{Scene, opening_scene, script_network};
 ghost use Rattle.scenario.specs.SessionView.{core_network, Forges, Holds, IsDone, IsObeyed};
 
+use crate::answers::{print_where, print_why};
+use crate::balance::balance_lines;
 use crate::print::{
     print_arrival, print_closing, print_forging, print_forwarding, print_mempool, print_next,
     print_open, print_submission, print_tip, print_utxo,
 };
 use chain_core::{ArriveReply, Core, FollowerId, ForgeFault};
 use genesis::Genesis;
-use ident::Point;
+use ident::{BlockHash, Point, TxId};
 use mempool::SubmitReply;
-use script::{Form, LinePlace, Name, Names, Request, Stop};
+use script::{Form, LinePlace, Name, Names, Owner, Request, Stop};
 use std::alloc::{AllocError, Global};
+use tx::Address;
 use witness_pool::TestScheme;
 
 /// What a line prints is at most its own name longer than this, whose numbers are the greatest ones. A name that a
@@ -328,6 +334,45 @@ impl Session {
         }
     }
 
+    /// The question why the block of this hash isn't selected.
+    fn why(&self, name: Name<'_>, hash: BlockHash) -> Result<Vec<u8>, Stop>
+        ensures { (s : Scene) → Holds self.now s
+            → IsDone (core_network self.now.core) s (PrintsWhy name.entry.text.now hash.bytes) result self.now }
+    {
+        let Ok(why) = self.core.why(hash) else {
+            return Err(Stop::OutOfMemory);
+        };
+        let mut line = Vec::new(self.alloc);
+        match print_why(&mut line, &self.names, name.text, &why) {
+            Ok(()) => Ok(line),
+            Err(AllocError) => Err(Stop::OutOfMemory),
+        }
+    }
+
+    /// The question where the transaction of this identifier stands.
+    fn place(&self, name: Name<'_>, id: TxId) -> Result<Vec<u8>, Stop>
+        ensures { (s : Scene) → Holds self.now s
+            → IsDone (core_network self.now.core) s (PrintsWhere name.entry.text.now id.bytes) result self.now }
+    {
+        let place = self.core.transaction(id);
+        let mut line = Vec::new(self.alloc);
+        match print_where(&mut line, &self.names, name.text, &self.core, place) {
+            Ok(()) => Ok(line),
+            Err(AllocError) => Err(Stop::OutOfMemory),
+        }
+    }
+
+    /// The question how much an owner has, whose address this is.
+    fn balance(&self, owner: Owner<'_>, address: &Address) -> Result<Vec<u8>, Stop>
+        ensures { (s : Scene) → Holds self.now s → IsDone (core_network self.now.core) s
+            (PrintsBalance (owner_of owner.entry) (address_of address.now)) result self.now }
+    {
+        match balance_lines(self.alloc, self.core.utxo(), owner, address) {
+            Ok(lines) => Ok(lines),
+            Err(AllocError) => Err(Stop::OutOfMemory),
+        }
+    }
+
     /// The line in which a transaction was begun that hasn't ended, if there is one.
     pub fn open_line(&self) -> Option<u64>
         ensures { (s : Scene) → Holds self.now s → result ≡ option_map (λ made. made.line) s.names.making }
@@ -355,6 +400,9 @@ impl Session {
             Ok(Request::Tip) => self.tip(),
             Ok(Request::Mempool) => self.mempool(),
             Ok(Request::Utxo) => self.utxo(),
+            Ok(Request::Why { name, hash }) => self.why(name, hash),
+            Ok(Request::Where { name, id }) => self.place(name, id),
+            Ok(Request::Balance { owner, address }) => self.balance(owner, &address),
             Err(stop) => Err(stop),
         }
     }

@@ -2,7 +2,7 @@
 use Rattle.std.proofs.Common.{◌≡◌, ℕ, List, Option, Some, None, Result, Ok, Err, sym, ◌∙◌}
 use Rattle.model.specs.Script.{Script}
 use Rattle.script.specs.declared.fault.LineFault.{LineFault}
-use Rattle.script.specs.Line.{Line, Nothing, DefineKey, DefineScript, BeginTx, AddPart, EndTx, DefineBlock, DefineRaw, Arrive, SubmitTx, ForgeBlock, OpenFollower, AskNext, AskForward, CloseFollower, AskTip, AskMempool, AskUtxo}
+use Rattle.script.specs.Line.{Line, Nothing, DefineKey, DefineScript, BeginTx, AddPart, EndTx, DefineBlock, DefineRaw, Arrive, SubmitTx, ForgeBlock, OpenFollower, AskNext, AskForward, CloseFollower, AskTip, AskMempool, AskUtxo, AskWhy, AskWhere, AskBalance}
 use Rattle.script.specs.Names.{AllNames, OpenTx, bound_to}
 use Rattle.script.specs.Meaning.{Meaning, Means, MeansLine, MeansScript, parse_within}
 
@@ -34,6 +34,9 @@ never_line number names None (Some (CloseFollower name)) m fault is also = no_bo
 never_line number names None (Some AskTip) m fault is also = no_both _ m fault is also
 never_line number names None (Some AskMempool) m fault is also = no_both _ m fault is also
 never_line number names None (Some AskUtxo) m fault is also = no_both _ m fault is also
+never_line number names None (Some (AskWhy name)) m fault is also = no_both _ m fault is also
+never_line number names None (Some (AskWhere name)) m fault is also = no_both _ m fault is also
+never_line number names None (Some (AskBalance owner)) m fault is also = no_both _ m fault is also
 
 -- a line that has a meaning has no fault
 pub never_both : (number before : ℕ) (names : AllNames) (line : List ℕ) (m : Meaning) (fault : LineFault) → Means number before names line (Ok m) → Means number before names line (Err fault) → ⊥

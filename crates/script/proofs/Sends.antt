@@ -13,7 +13,7 @@ use Rattle.script.specs.declared.request.Request.TheVariants as request
 use Rattle.script.specs.declared.names.Names.{Names}
 use Rattle.script.specs.declared.open_tx.OpenTx as code
 use Rattle.script.specs.declared.sending.SendRequest.{SendRequest}
-use Rattle.script.specs.Line.{Line, NamedPlace, Nothing, DefineKey, DefineScript, BeginTx, AddPart, EndTx, DefineBlock, DefineRaw, Arrive, SubmitTx, ForgeBlock, OpenFollower, AskNext, AskForward, CloseFollower, AskTip, AskMempool, AskUtxo, parse_line}
+use Rattle.script.specs.Line.{Line, NamedPlace, Nothing, DefineKey, DefineScript, BeginTx, AddPart, EndTx, DefineBlock, DefineRaw, Arrive, SubmitTx, ForgeBlock, OpenFollower, AskNext, AskForward, CloseFollower, AskTip, AskMempool, AskUtxo, AskWhy, AskWhere, AskBalance, parse_line}
 use Rattle.script.specs.Names.{AllNames, Bound, OpenTx, Named, bound_to}
 use Rattle.script.specs.Text.{script_size_limit}
 use Rattle.script.specs.WordsView.{has_no_words}
@@ -101,6 +101,9 @@ defines number names making (CloseFollower name) m so is = cc
 defines number names making AskTip m so is = cc
 defines number names making AskMempool m so is = cc
 defines number names making AskUtxo m so is = cc
+defines number names making (AskWhy name) m so is = cc
+defines number names making (AskWhere name) m so is = cc
+defines number names making (AskBalance owner) m so is = cc
 
 -- ---- a definition that is made
 
@@ -119,6 +122,9 @@ is_defined names c (request.Close name id) m d is also = let no = is.0 in cc
 is_defined names c request.Tip m d is also = let no = is.0 in cc
 is_defined names c request.Mempool m d is also = let no = is.0 in cc
 is_defined names c request.Utxo m d is also = let no = is.0 in cc
+is_defined names c (request.Why name hash) m d is also = let no = is.0 in cc
+is_defined names c (request.Where name id) m d is also = let no = is.0 in cc
+is_defined names c (request.Balance owner address) m d is also = let no = is.0 in cc
 
 -- a line that defines something is one of a simulation
 pub is_line : (line : Line) → is_definition line ≡ true → said_either None (Some line) ≡ Some (Defining line)

@@ -43,7 +43,8 @@ pub data Part : Type 0 where
 -- a name, on a parent, in a slot, with transactions, bytes of a name, an arrival, a submission, a block of a name to
 -- forge in a slot, a follower to open, the question what a follower is told next, a follower to set to the first of
 -- some places that is on the selected chain, a follower to close, the question where that chain ends, what waits in the
--- mempool, or what is unspent on the chain
+-- mempool, or what is unspent on the chain, why the block of a name isn't selected, where the transaction of a name
+-- stands, or how much an owner has
 pub data Line : Type 0 where
   Nothing : Line
   DefineKey : (name bytes : List ℕ) → Line
@@ -63,6 +64,9 @@ pub data Line : Type 0 where
   AskTip : Line
   AskMempool : Line
   AskUtxo : Line
+  AskWhy : (name : List ℕ) → Line
+  AskWhere : (name : List ℕ) → Line
+  AskBalance : Owner → Line
 
 -- how the bytes of an `arrive` line arrive, by its first word
 abbrev pub form_of : List ℕ → Option Form
@@ -182,6 +186,14 @@ abbrev pub arrive_line : Option Form → List ℕ → Option Line
 arrive_line None name = None
 arrive_line (Some form) name = where_name name (Some (Arrive form name))
 
+-- a question about the block, the transaction or the key of a name, or bytes of a name arrive
+abbrev pub asking_line : (word name : List ℕ) → Option Line
+asking_line word name =
+    if bytes_eq word (codes "why") then where_name name (Some (AskWhy name))
+    else if bytes_eq word (codes "where") then where_name name (Some (AskWhere name))
+    else if bytes_eq word (codes "balance") then where_name name (Some (AskBalance (OwnedByKey name)))
+    else arrive_line (form_of word) name
+
 -- a part that is a number
 abbrev pub number_part : (ℕ → Part) → List ℕ → Option Line
 number_part part word = option_map (λ n. AddPart (part n)) (parse_number word)
@@ -200,7 +212,7 @@ named_line word name =
     else if bytes_eq word (codes "sign") then where_name name (Some (AddPart (SignBy name true)))
     else if bytes_eq word (codes "badsign") then where_name name (Some (AddPart (SignBy name false)))
     else if bytes_eq word (codes "with") then where_name name (Some (AddPart (Supply name)))
-    else arrive_line (form_of word) name
+    else asking_line word name
 
 -- a name with bytes
 abbrev pub bytes_line : (List ℕ → List ℕ → Line) → (name digits : List ℕ) → Option Line
@@ -216,6 +228,11 @@ spend_line from index =
 abbrev pub forge_line : (name slot : List ℕ) → Option Line
 forge_line name slot = where_name name (option_map (ForgeBlock name) (parse_number slot))
 
+-- the question how much a script has; that of a key has two words
+abbrev pub balance_line : (kind name : List ℕ) → Option Line
+balance_line kind name =
+    if bytes_eq kind (codes "script") then where_name name (Some (AskBalance (OwnedByScript name))) else None
+
 -- a line of three words
 abbrev pub pair_line : (word first second : List ℕ) → Option Line
 pair_line word first second =
@@ -224,6 +241,7 @@ pair_line word first second =
     else if bytes_eq word (codes "script") then bytes_line DefineScript first second
     else if bytes_eq word (codes "in") then spend_line first second
     else if bytes_eq word (codes "forge") then forge_line first second
+    else if bytes_eq word (codes "balance") then balance_line first second
     else None
 
 -- a block of these parts, where each of them is there

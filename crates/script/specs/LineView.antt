@@ -2,7 +2,7 @@
 use Rattle.script.specs.declared.line.Line.{Line}
 use Rattle.script.specs.declared.line.Line.TheVariants as line
 use Rattle.script.specs.Line as spec
-use Rattle.script.specs.PartView.{part_of}
+use Rattle.script.specs.PartView.{owner_of, part_of}
 use Rattle.script.specs.PlaceView.{place_of}
 use Rattle.script.specs.WordsView.{words_left}
 
@@ -26,3 +26,6 @@ line_of (line.Close name) = spec.CloseFollower name.text.now
 line_of line.Tip = spec.AskTip
 line_of line.Mempool = spec.AskMempool
 line_of line.Utxo = spec.AskUtxo
+line_of (line.Why name) = spec.AskWhy name.text.now
+line_of (line.Where name) = spec.AskWhere name.text.now
+line_of (line.Balance owner) = spec.AskBalance (owner_of owner)

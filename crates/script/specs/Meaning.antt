@@ -25,7 +25,8 @@ use Rattle.script.specs.Line.{SpendGrant, Spend, Pay}
 use Rattle.script.specs.Line.{SetFee, SetStart, SetEnd, MintAsset, SignBy, Supply, Line, Nothing, DefineKey}
 use Rattle.script.specs.Line.{DefineScript, BeginTx}
 use Rattle.script.specs.Line.{AddPart, EndTx, DefineBlock, DefineRaw, Arrive, SubmitTx, ForgeBlock, OpenFollower}
-use Rattle.script.specs.Line.{AskNext, AskForward, CloseFollower, AskTip, AskMempool, AskUtxo}
+use Rattle.script.specs.Line.{AskNext, AskForward, CloseFollower, AskTip, AskMempool, AskUtxo, AskWhy, AskWhere}
+use Rattle.script.specs.Line.{AskBalance}
 use Rattle.script.specs.Line.{parse_line, is_quantity}
 use Rattle.script.specs.Names.{Named, Bound, Binding, OpenTx, AllNames, bound_to}
 
@@ -41,7 +42,8 @@ pub data Definition : Type 0 where
 
 -- what a line does: it defines something, bytes arrive, a transaction is submitted, a block of a name is forged in a
 -- slot, a follower is opened, the follower of a number is told what comes next, is set to the first of some points that
--- is on the selected chain, or is closed, the tip is printed, what waits in the mempool, or what is unspent
+-- is on the selected chain, or is closed, the tip is printed, what waits in the mempool, what is unspent, why the block
+-- of a hash isn't selected, where the transaction of an identifier stands, or how much is unspent at an owner's address
 pub data Meaning : Type 0 where
   Defines : Definition → Meaning
   Arrives : Form → (name bytes : List ℕ) → Meaning
@@ -54,6 +56,9 @@ pub data Meaning : Type 0 where
   PrintsTip : Meaning
   PrintsMempool : Meaning
   PrintsUtxo : Meaning
+  PrintsWhy : (name hash : List ℕ) → Meaning
+  PrintsWhere : (name id : List ℕ) → Meaning
+  PrintsBalance : Owner → Address → Meaning
 
 -- the bytes that arrive: all, all but the last, or all and a zero
 abbrev pub formed : Form → List ℕ → List ℕ
@@ -269,6 +274,12 @@ meaning_outside number names (CloseFollower name) =
 meaning_outside number names AskTip = Ok PrintsTip
 meaning_outside number names AskMempool = Ok PrintsMempool
 meaning_outside number names AskUtxo = Ok PrintsUtxo
+meaning_outside number names (AskWhy name) =
+    where_known (block_point names.of_bytes name) (λ point. Ok (PrintsWhy name point.hash))
+meaning_outside number names (AskWhere name) =
+    where_known (bound_to name names.of_txs) (λ tx. Ok (PrintsWhere name (transaction_id_of tx)))
+meaning_outside number names (AskBalance owner) =
+    where_known (address_on names owner) (λ address. Ok (PrintsBalance owner address))
 -- a part or an end of no transaction
 meaning_outside number names line = Err BadLine
 

@@ -2,6 +2,7 @@
 use Rattle.std.specs.Prelude.{◌≡◌, ℕ, Bool, IsTrue, List, map, Option, Some, None, Result, Ok, Err}
 use Rattle.ident.specs.PointView.{point_of}
 use Rattle.model.specs.Transaction.{Transaction}
+use Rattle.tx.specs.View.{address_of}
 use Rattle.draft.specs.View.{IsDraftOf}
 use Rattle.script.specs.declared.fault.LineFault.{LineFault}
 use Rattle.script.specs.declared.fault.LineFault.TheVariants.{NotBuilt}
@@ -19,7 +20,8 @@ use Rattle.script.specs.KnownView.{AreKnown}
 use Rattle.script.specs.Line.{Line}
 use Rattle.script.specs.Meaning.{Meaning, Defines, Definition, Arrives, SubmitsTx, ForgesBlock, OpensFollower}
 use Rattle.script.specs.Meaning.{TellsFollower, ForwardsFollower, ClosesFollower, PrintsTip, PrintsMempool, PrintsUtxo}
-use Rattle.script.specs.Meaning.{AreNamesAfter, MeansLine, is_late}
+use Rattle.script.specs.Meaning.{PrintsWhy, PrintsWhere, PrintsBalance, AreNamesAfter, MeansLine, is_late}
+use Rattle.script.specs.PartView.{owner_of}
 
 -- the code holds this transaction in the making
 pub record IsMaking (code : code.OpenTx) (making : OpenTx) : Type 0 where
@@ -72,6 +74,12 @@ IsRequest names code (request.Close name id) meaning = (meaning ≡ ClosesFollow
 IsRequest names code request.Tip meaning = (meaning ≡ PrintsTip) × AreNamed code names
 IsRequest names code request.Mempool meaning = (meaning ≡ PrintsMempool) × AreNamed code names
 IsRequest names code request.Utxo meaning = (meaning ≡ PrintsUtxo) × AreNamed code names
+IsRequest names code (request.Why name hash) meaning =
+    (meaning ≡ PrintsWhy name.text.now hash.bytes) × AreNamed code names
+IsRequest names code (request.Where name id) meaning =
+    (meaning ≡ PrintsWhere name.text.now id.bytes) × AreNamed code names
+IsRequest names code (request.Balance owner address) meaning =
+    (meaning ≡ PrintsBalance (owner_of owner) (address_of address)) × AreNamed code names
 
 -- a line that has a meaning asks for this
 pub record Asked (names : AllNames) (means : Result Meaning LineFault → Type 0) (asks : Request) (new : Names)

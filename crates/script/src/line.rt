@@ -5,7 +5,8 @@ ghost use Rattle.draft.specs.SignerView.{is_good};
 ghost use Rattle.script.specs.Line.{parse_line, said_by, said_with, form_of, word_of, where_name, parse_place};
 ghost use Rattle.script.specs.Line.{word_line, arrive_line, named_line, spend_line, pair_line, mint_line, long_line};
 ghost use Rattle.script.specs.Line.{OpenFollower, AskNext, CloseFollower, SubmitTx, BeginTx, AddPart, SignBy, Supply};
-ghost use Rattle.script.specs.Line.{forge_line, forward_line};
+ghost use Rattle.script.specs.Line.{AskWhy, AskWhere, AskBalance, OwnedByKey};
+ghost use Rattle.script.specs.Line.{asking_line, balance_line, forge_line, forward_line};
 ghost use Rattle.script.specs.Line.{block_of_parts, pay_of_parts, parse_owner, parse_assets};
 ghost use Rattle.script.specs.Text.{parse_number};
 ghost use Rattle.script.specs.WordsView.{words_left};
@@ -132,6 +133,18 @@ pub enum Line<'a> {
     Mempool,
     /// What is unspent on the selected chain?
     Utxo,
+    /// Why isn't the block of a name selected?
+    Why {
+        name: Name<'a>,
+    },
+    /// Where does the transaction of a name stand?
+    Where {
+        name: Name<'a>,
+    },
+    /// How much does an owner have?
+    Balance {
+        owner: Owner<'a>,
+    },
 }
 
 /// The line of one word: a question, or the end of a transaction.
@@ -217,6 +230,46 @@ fn sign_line<'a>(key: &'a [u8], signing: Signing) -> Option<Line<'a>>
     Some(Line::Part(Part::Sign { key, signing }))
 }
 
+/// The question why a block isn't selected.
+fn why_line<'a>(name: &'a [u8]) -> Option<Line<'a>>
+    ensures { option_map line_of result ≡ where_name name.entry.now (Some (AskWhy name.entry.now)) }
+{
+    let name = Name::of_word(name)?;
+    Some(Line::Why { name })
+}
+
+/// The question where a transaction stands.
+fn where_line<'a>(name: &'a [u8]) -> Option<Line<'a>>
+    ensures { option_map line_of result ≡ where_name name.entry.now (Some (AskWhere name.entry.now)) }
+{
+    let name = Name::of_word(name)?;
+    Some(Line::Where { name })
+}
+
+/// The question how much a key has.
+fn key_balance_line<'a>(key: &'a [u8]) -> Option<Line<'a>>
+    ensures { option_map line_of result ≡ where_name key.entry.now (Some (AskBalance (OwnedByKey key.entry.now))) }
+{
+    let key = Name::of_word(key)?;
+    let owner = Owner::Key(key);
+    Some(Line::Balance { owner })
+}
+
+/// The line of two words that asks about the block, the transaction or the key of a name, or in which bytes arrive.
+fn asking_line<'a>(word: &[u8], name: &'a [u8]) -> Option<Line<'a>>
+    ensures { option_map line_of result ≡ asking_line word.now name.entry.now }
+{
+    if word == b"why".as_slice() {
+        why_line(name)
+    } else if word == b"where".as_slice() {
+        where_line(name)
+    } else if word == b"balance".as_slice() {
+        key_balance_line(name)
+    } else {
+        arrive_line(word, name)
+    }
+}
+
 /// The line of two words whose second one is a name or a number.
 fn named_line<'a>(word: &[u8], name: &'a [u8]) -> Option<Line<'a>>
     ensures { option_map line_of result ≡ named_line word.now name.entry.now }
@@ -244,7 +297,7 @@ fn named_line<'a>(word: &[u8], name: &'a [u8]) -> Option<Line<'a>>
     } else if word == b"with".as_slice() {
         with_line(name)
     } else {
-        arrive_line(word, name)
+        asking_line(word, name)
     }
 }
 
@@ -270,6 +323,18 @@ fn forge_line<'a>(name: &'a [u8], slot: &[u8]) -> Option<Line<'a>>
     Some(Line::Forge { name, slot })
 }
 
+/// The question how much a script has.
+fn balance_line<'a>(kind: &[u8], name: &'a [u8]) -> Option<Line<'a>>
+    ensures { option_map line_of result ≡ balance_line kind.now name.entry.now }
+{
+    if kind != b"script".as_slice() {
+        return None;
+    }
+    let script = Name::of_word(name)?;
+    let owner = Owner::Script(script);
+    Some(Line::Balance { owner })
+}
+
 /// The line of three words.
 fn pair_line<'a>(word: &[u8], first: &'a [u8], second: &'a [u8]) -> Option<Line<'a>>
     ensures { option_map line_of result ≡ pair_line word.now first.entry.now second.entry.now }
@@ -279,6 +344,9 @@ fn pair_line<'a>(word: &[u8], first: &'a [u8], second: &'a [u8]) -> Option<Line<
     }
     if word == b"forge".as_slice() {
         return forge_line(first, second);
+    }
+    if word == b"balance".as_slice() {
+        return balance_line(first, second);
     }
     // `raw`, `key` and `script` have a name and digits.
     let name = Name::of_word(first)?;

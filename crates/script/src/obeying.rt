@@ -4,9 +4,11 @@ ghost use Rattle.std.specs.Prelude.{◌≡◌, None, Some, false};
 ghost use Rattle.script.specs.LineView.{line_of};
 ghost use Rattle.script.specs.Meaning.{ForgesBlock, OpensFollower, SubmitsTx, TellsFollower, ForwardsFollower};
 ghost use Rattle.script.specs.Meaning.{ClosesFollower, arrival_meaning, is_late, meaning_inside, points_at};
-ghost use Rattle.script.specs.Meaning.{where_free, where_known};
+ghost use Rattle.script.specs.Meaning.{address_on, block_point, where_free, where_known};
+ghost use Rattle.script.specs.Meaning.{PrintsWhy, PrintsWhere, PrintsBalance};
+ghost use Rattle.model.specs.Transaction.{transaction_id_of};
 ghost use Rattle.script.specs.Names.{AllNames, OpenTx, bound_to};
-ghost use Rattle.script.specs.PartView.{part_of};
+ghost use Rattle.script.specs.PartView.{owner_of, part_of};
 ghost use Rattle.script.specs.Line.{AddPart, said_places};
 ghost use Rattle.script.specs.RequestView.{AreNamed, AsksFor, AsksLine};
 ghost use Rattle.script.specs.WordsView.{words_left};
@@ -15,8 +17,8 @@ use crate::fault::LineFault;
 use crate::line::{Form, Line};
 use crate::name::Name;
 use crate::names::Names;
-use crate::part::Part;
-use crate::place_words::PlaceWords;
+use crate::part::{Owner, Part};
+use crate::place_words::{NamedPlace, PlaceWords};
 use crate::request::Request;
 use crate::stop::Stop;
 
@@ -111,6 +113,45 @@ impl Names {
         }
     }
 
+    /// The question why a block isn't selected.
+    fn ask_why<'a>(&self, name: Name<'a>) -> Result<Request<'a>, Stop>
+        ensures { (names : AllNames) → AreNamed self.now names → AsksFor names
+            (where_known (block_point names.of_bytes name.entry.text.now)
+            (λ point. Ok (PrintsWhy name.entry.text.now point.hash))) false result self.now }
+    {
+        match self.bytes.point_at(NamedPlace::Block(name)) {
+            Some(point) => Ok(Request::Why {
+                name,
+                hash: point.hash,
+            }),
+            None => Err(Stop::Fault(LineFault::UnknownName)),
+        }
+    }
+
+    /// The question where a transaction stands.
+    fn ask_where<'a>(&self, name: Name<'a>) -> Result<Request<'a>, Stop>
+        ensures { (names : AllNames) → AreNamed self.now names → AsksFor names
+            (where_known (bound_to name.entry.text.now names.of_txs)
+            (λ tx. Ok (PrintsWhere name.entry.text.now (transaction_id_of tx)))) false result self.now }
+    {
+        match self.known.txs.get(name.text) {
+            Some(tx) => Ok(Request::Where { name, id: tx.id() }),
+            None => Err(Stop::Fault(LineFault::UnknownName)),
+        }
+    }
+
+    /// The question how much an owner has.
+    fn ask_balance<'a>(&self, owner: Owner<'a>) -> Result<Request<'a>, Stop>
+        ensures { (names : AllNames) → AreNamed self.now names → AsksFor names
+            (where_known (address_on names (owner_of owner.entry))
+            (λ address. Ok (PrintsBalance (owner_of owner.entry) address))) false result self.now }
+    {
+        match self.known.address_on(owner) {
+            Some(address) => Ok(Request::Balance { owner, address }),
+            None => Err(Stop::Fault(LineFault::UnknownName)),
+        }
+    }
+
     /// A part is added to the transaction in the making.
     fn add_part<'a>(&mut self, part: Part<'_>) -> Result<Request<'a>, Stop>
         ensures { (names : AllNames) → AreNamed self.old names → (made : OpenTx) → names.making ≡ Some made
@@ -171,6 +212,9 @@ impl Names {
             Line::Tip => Ok(Request::Tip),
             Line::Mempool => Ok(Request::Mempool),
             Line::Utxo => Ok(Request::Utxo),
+            Line::Why { name } => self.ask_why(name),
+            Line::Where { name } => self.ask_where(name),
+            Line::Balance { owner } => self.ask_balance(owner),
             Line::Part(_) | Line::End => Err(Stop::Fault(LineFault::BadLine)),
         }
     }

@@ -13,7 +13,7 @@ use draft::Signing;
 use std::alloc::{AllocError, Global};
 
 /// What unlocks an output.
-#[derive(Clone, Copy)]
+#[derive(Clone, Copy, Debug)]
 pub enum Owner<'a> {
     /// The key of a name.
     Key(Name<'a>),

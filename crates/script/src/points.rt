@@ -18,7 +18,7 @@ use ident::Point;
 
 impl BoundNames {
     /// The point of a place that is known.
-    fn point_at(&self, place: NamedPlace<'_>) -> Option<Point>
+    pub fn point_at(&self, place: NamedPlace<'_>) -> Option<Point>
         ensures { (names : List Binding) → AreBound self.now names
             → option_map point_of result ≡ point_at names (place_of place.entry) }
     {

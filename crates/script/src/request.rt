@@ -2,7 +2,9 @@
 
 use crate::line::Form;
 use crate::name::Name;
-use ident::Point;
+use crate::part::Owner;
+use ident::{BlockHash, Point, TxId};
+use tx::Address;
 
 /// What a line asks of the node, once its definition is made. Its names are parts of the line.
 #[derive(Debug, Drop)]
@@ -50,4 +52,19 @@ pub enum Request<'a> {
     Mempool,
     /// What is unspent on the selected chain?
     Utxo,
+    /// Why isn't the block of this name and hash selected?
+    Why {
+        name: Name<'a>,
+        hash: BlockHash,
+    },
+    /// Where does the transaction of this name and identifier stand?
+    Where {
+        name: Name<'a>,
+        id: TxId,
+    },
+    /// How much is unspent at the address of this owner?
+    Balance {
+        owner: Owner<'a>,
+        address: Address,
+    },
 }

@@ -177,7 +177,8 @@ impl<S: SigScheme + Send, G: Gate, B: Room, M: Mailroom> Adder<S, G, B, M> {
     /// call begins with it. Waits for the lock, and for a thread that is in the middle of a step.
     ///
     /// An arrival costs what reading it costs, shared by the workers, and what it costs the core, which alone is done
-    /// under the lock. It is read once, also where memory ran out for it under the lock, and its bytes are never copied.
+    /// under the lock. Where memory runs out for it under the lock it isn't read again; where it runs out before, it is.
+    /// Its bytes are never copied.
     pub fn run<R: Threads + Wait + Sync>(
         &mut self,
         rt: &R,

@@ -51,7 +51,8 @@ use witness_pool::{CheckedTx, SigScheme};
 /// What a contract says of a call it says of the caller: the journal that it has then seen is legal, begins with all
 /// that it had seen before, and ends with this call and its reply. A call that is refused stands in the journal too,
 /// but where memory runs out: then it is in no journal, and nothing changes. The journal is for contracts alone and
-/// takes no memory: a call asks for what the core asks for, and what was said is not kept.
+/// takes no memory: a call asks for what the core asks for, and [`Shared::mempool`] for its list beside that; what was
+/// said is not kept.
 pub struct Shared<S: SigScheme, B: Room> {
     pub(crate) heights: Heights<S>,
     pub(crate) desk: Mutex<Desk<S, B>>,
@@ -238,7 +239,7 @@ impl<S: SigScheme, B: Room> Shared<S, B> {
         ensures err { OnErr result (caller.new ≡ caller.old) }
     {
         let mut desk = self.desk.lock(rt);
-        let found = share_block(desk.core().checked_block(number))?;
+        let found = share_block(desk.core().block(number))?;
         desk.tell(&self.heights, &mut caller.seat);
         Ok(found)
     }

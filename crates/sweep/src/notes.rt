@@ -11,14 +11,11 @@ const MOST_FOLLOWERS: u64 = 8;
 
 /// Puts the unspent outputs: where each stands, and how much lovelace it holds.
 fn put_outputs(note: &mut String, utxo: &Utxo) -> Result<(), AllocError> {
-    let mut left = utxo.iter();
-    for _ in 0..utxo.len() {
-        if let Some((input, output)) = left.next()? {
-            let id = input.transaction;
-            let index = input.index;
-            let coin = output.value.coin();
-            write!(note, "unspent {id} {index}, of {coin}\n")?;
-        }
+    for (input, output) in utxo.iter() {
+        let id = input.transaction;
+        let index = input.index;
+        let coin = output.value.coin();
+        write!(note, "unspent {id} {index}, of {coin}\n")?;
     }
     Ok(())
 }

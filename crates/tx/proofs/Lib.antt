@@ -1,5 +1,6 @@
 pub mod Rising
 pub mod AddressTexts
+pub mod AddressDigits
 pub mod PartTexts
 pub mod BodyTexts
 pub mod WitnessTexts

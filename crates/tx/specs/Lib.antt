@@ -13,3 +13,4 @@ pub mod Repeats
 pub mod Parts
 pub mod Making
 pub mod Bare
+pub mod AddressText

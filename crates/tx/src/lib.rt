@@ -2,6 +2,8 @@
 #![tactic(auto)]
 
 mod address;
+mod address_fault;
+mod address_text;
 mod body;
 mod body_writer;
 mod copying;
@@ -20,10 +22,11 @@ mod witness_writer;
 mod witnesses;
 
 pub use address::{ADDRESS_SIZE, Address, Credential};
+pub use address_fault::AddressFault;
 pub use copying::clone_outputs;
 pub use input::Input;
 pub use key_witness::KeyWitness;
-pub use laws::one_tx_of_parts;
+pub use laws::{address_read_again, one_tx_of_parts};
 pub use lists::MAX_OUTPUTS;
 pub use nesting::{MAX_SCRIPT_NESTING, MAX_TX_NESTING};
 pub use output::Output;

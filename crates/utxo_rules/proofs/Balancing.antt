@@ -16,7 +16,7 @@ pub sum_here : (asset : Asset) (outputs : List CodeOutput) (i : ℕ) (x : CodeOu
 sum_here asset outputs i x lt is = ap (λ (xs : List CodeOutput). sum_of asset (map output_of xs)) (drop_here outputs i x lt is)
 
 -- a value of the fee alone
-fee_amount : (asset : Asset) (fee : ℕ) → amount_of asset (record { coin = fee; assets = [] }) ≡ amount_of_fee asset fee
+pub fee_amount : (asset : Asset) (fee : ℕ) → amount_of asset (record { coin = fee; assets = [] }) ≡ amount_of_fee asset fee
 fee_amount Ada fee = refl
 fee_amount (Named policy name) fee = refl
 

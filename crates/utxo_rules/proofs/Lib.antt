@@ -9,3 +9,8 @@ pub mod Pairs
 pub mod Ends
 pub mod Restoring
 pub mod Changing
+pub mod Finding
+pub mod Sizes
+pub mod Unbalanced
+pub mod Explained
+pub mod OneDetail

@@ -2,5 +2,8 @@ pub mod View
 pub mod Spent
 pub mod Diffs
 pub mod Inside
+pub mod Entries
 pub mod Check
 pub mod Texts
+pub mod DetailView
+pub mod Unbalanced

@@ -13,7 +13,7 @@ use tx::{Output, Tx};
 use value::{Totals, Value};
 
 /// Takes the values of the outputs from the sums.
-fn take_outputs(totals: &mut Totals, outputs: &[Output]) -> Result<(), AllocError>
+pub fn take_outputs(totals: &mut Totals, outputs: &[Output]) -> Result<(), AllocError>
     requires { totals.old.values + length outputs.now ≤ 2 ^ 62 }
     ensures sums { OnOk result ((asset : Asset) →
         total_of totals.new asset ≡ total_of totals.old asset -ℤ sum_of asset (map output_of outputs.now)) }

@@ -95,7 +95,7 @@ pub fn are_on_network(network: u8, outputs: &[Output]) -> bool
 }
 
 /// Whether no output stands at this index of the transaction.
-fn is_free(utxo: &Utxo, id: TxId, index: u16) -> bool
+pub fn is_free(utxo: &Utxo, id: TxId, index: u16) -> bool
     ensures { result ≡ not (is_some (output_at utxo.now (place id.bytes index))) }
 {
     let input = Input {

@@ -1,16 +1,17 @@
-//! The unspent outputs one after the other.
+//! The unspent outputs one after the other, all of them or those of one address.
 
-ghost use Rattle.std.specs.Prelude.{◌≡◌, [], ◌∷◌, IfOk, OnErr, MatchOption};
-ghost use Rattle.tx.specs.View.{input_of, output_of};
+ghost use Rattle.std.specs.Prelude.{◌≡◌};
+ghost use Rattle.std.specs.Iterator.{YieldsFirstBy, item_count};
+ghost use Rattle.utxo_rules.specs.Entries.{pair_of};
 
 use crate::entry::{Place, Unspent};
 use persistent_map::Iter;
-use std::alloc::AllocError;
 use std::marker::Model;
-use tx::{Input, Output};
+use tx::{ADDRESS_SIZE, Input, Output};
 
 /// The unspent outputs that are still to come, each with the input that would spend it, in the order of the inputs: by
-/// the bytes of the transaction's identifier, then by the index. Its memory grows with the logarithm of their number.
+/// the bytes of the transaction's identifier, then by the index. Takes no memory; each step takes time in proportion to
+/// the logarithm of the number of all.
 #[derive(Drop)]
 pub struct Entries<'a> {
     pub(crate) rest: Iter<'a, Place, Unspent>,
@@ -29,18 +30,57 @@ impl<'a> Model for Entries<'a> {
     ghost view = { λ e. e.rest };
 }
 
-impl<'a> Entries<'a> {
-    /// The next output with the input that would spend it, or None where no more is to come. A walk through all of
-    /// them takes time in proportion to their number. Err where memory runs out: the same outputs are still to come.
-    pub fn next(&mut self) -> Result<Option<(Input, &'a Output)>, AllocError>
-        ensures ok { IfOk result (λ next.
-            MatchOption next (self.old ≡ []) (λ e. self.old ≡ (input_of e.0, output_of e.1.now) ∷ self.new)) }
-        ensures end { IfOk result (λ next. MatchOption next (self.new ≡ []) (λ _. Unit {0})) }
-        ensures err { OnErr result (self.new ≡ self.old) }
-    {
-        match self.rest.next()? {
-            None => Ok(None),
-            Some((place, unspent)) => Ok(Some((place.input(), unspent.output()))),
+impl<'a> Iterator for Entries<'a> {
+    type Item = (Input, &'a Output);
+
+    ghost next_gives = { YieldsFirstBy pair_of (λ entries. entries) };
+
+    ghost remaining = { item_count (λ entries. entries) };
+
+    /// The next output with the input that would spend it, or None where no more is to come.
+    fn next(&mut self) -> Option<(Input, &'a Output)> {
+        let (place, unspent) = self.rest.next()?;
+        Some((place.input(), unspent.output()))
+    }
+}
+
+/// The unspent outputs of one address that are still to come, in the same order. They are looked for among all unspent
+/// outputs, one after the other, with no memory.
+#[derive(Drop)]
+pub struct EntriesOf<'a> {
+    pub(crate) entries: Entries<'a>,
+    /// The bytes of the address.
+    pub(crate) bytes: [u8; ADDRESS_SIZE],
+}
+
+impl<'a> Model for EntriesOf<'a> {
+    ghost use Rattle.std.specs.Prelude.{List};
+    ghost use Rattle.std.specs.Coded.{coded_list, coded×};
+    ghost use Rattle.model.specs.Transaction.{Input, Output};
+    ghost use Rattle.model.specs.Codes.{coded_input, coded_output};
+    ghost use Rattle.utxo_rules.specs.Entries.{pairs_with};
+
+    ghost Value = { List (Input × Output) };
+
+    ghost coded = { coded_list (coded× coded_input coded_output) };
+
+    ghost view = { λ e. pairs_with e.bytes e.entries };
+}
+
+impl<'a> Iterator for EntriesOf<'a> {
+    type Item = (Input, &'a Output);
+
+    ghost next_gives = { YieldsFirstBy pair_of (λ entries. entries) };
+
+    ghost remaining = { item_count (λ entries. entries) };
+
+    /// The next output of the address with the input that would spend it, or None where no more is to come.
+    fn next(&mut self) -> Option<(Input, &'a Output)> {
+        while let Some((input, output)) = self.entries.next() {
+            if output.address.to_bytes() == self.bytes {
+                return Some((input, output));
+            }
         }
+        None
     }
 }

@@ -5,6 +5,7 @@ ghost use Rattle.std.specs.List.Sorted.{IsSorted};
 ghost use Rattle.std.specs.Ordering.{nat_cmp};
 ghost use Rattle.std.specs.Cmp.Lexicographic.{slice_cmp};
 ghost use Rattle.model.specs.Rules.{is_among, are_among};
+ghost use Rattle.utxo_rules.specs.DetailView.{FindsFirst};
 
 /// The bytes of hashes, sorted to be looked up.
 #[derive(Drop)]
@@ -40,5 +41,17 @@ impl Hashes {
             }
         }
         true
+    }
+
+    /// The first of these hashes that isn't one of them.
+    pub fn first_missing(&self, hashes: &[[u8; 32]]) -> Option<[u8; 32]>
+        ensures { FindsFirst (is_among self.now.sorted.items) hashes.now result }
+    {
+        for hash in hashes {
+            if !self.contains(hash) {
+                return Some(*hash);
+            }
+        }
+        None
     }
 }

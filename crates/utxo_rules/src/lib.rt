@@ -2,6 +2,7 @@
 //!
 //! ```text
 //! check(alloc, &params, &utxo, slot, &tx)?; // the first reason against it, if there is one
+//! explain(alloc, &params, slot, &utxo, &tx)?; // the same with what it is about, to be shown to who made it
 //! let (after, diff) = applied_diff(utxo, tx.tx())?;
 //! let before = undone(after, &diff)?; // the same outputs as before
 //! ```
@@ -14,14 +15,20 @@ mod applying;
 mod balance;
 mod check_fault;
 mod conditions;
+mod detail;
 mod diff;
 mod entries;
 mod entry;
 mod era;
+mod explaining;
+mod first_witnesses;
+mod firsts;
 mod hashes;
+mod imbalance;
 mod params;
 mod reason;
 mod rules;
+mod showing;
 mod spent;
 mod undoing;
 mod utxo;
@@ -29,9 +36,11 @@ mod witnesses;
 
 pub use applying::{applied, applied_diff, apply, apply_diff};
 pub use check_fault::CheckFault;
+pub use detail::{AssetId, Detail};
 pub use diff::Diff;
-pub use entries::Entries;
+pub use entries::{Entries, EntriesOf};
 pub use era::{Era, SecondEra};
+pub use explaining::explain;
 pub use params::Params;
 pub use reason::Reason;
 pub use rules::{check, check_early, check_late};

@@ -5,16 +5,17 @@ ghost use Rattle.std.specs.Option.{option_copied, option_map};
 ghost use Rattle.std.specs.FinMap as finite;
 ghost use Rattle.std.specs.Arc.{arc_value};
 ghost use Rattle.model.specs.Utxo.{outputs_of, coin_of};
-ghost use Rattle.tx.specs.View.{input_of, output_of};
+ghost use Rattle.tx.specs.View.{input_of, output_of, address_of};
+ghost use Rattle.utxo_rules.specs.Entries.{pairs_of};
 ghost use Rattle.utxo_rules.specs.Inside.{coin_at};
 
-use crate::entries::Entries;
+use crate::entries::{Entries, EntriesOf};
 use crate::entry::{Pair, Place, Unspent};
 use persistent_map::PersistentMap;
 use std::alloc::{AllocError, Global};
 use std::marker::Model;
 use std::sync::Arc;
-use tx::{Input, Output};
+use tx::{Address, Input, Output};
 
 /// The unspent outputs (Shelley, the UTxO): each stands at the input that would spend it. A copy takes no memory and
 /// shares what the two have in common, so that a program can keep thousands of versions.
@@ -78,12 +79,24 @@ impl Utxo {
     }
 
     /// All unspent outputs, each with the input that would spend it, in the order of the inputs. Takes no memory; each
-    /// step may.
+    /// step takes time in proportion to the logarithm of the length.
     pub fn iter(&self) -> Entries<'_>
         ensures { result ≡ finite.entries self.now }
     {
         Entries {
             rest: self.map.iter(),
+        }
+    }
+
+    /// The unspent outputs of this address, each with the input that would spend it, in the order of the inputs. Takes
+    /// no memory. No index is kept of addresses: this walks through all unspent outputs, whether they are of the
+    /// address or not, so that who asks often keeps an index.
+    pub fn of(&self, address: &Address) -> EntriesOf<'_>
+        ensures { result ≡ pairs_of (address_of address.now) (finite.entries self.now) }
+    {
+        EntriesOf {
+            entries: self.iter(),
+            bytes: address.to_bytes(),
         }
     }
 

@@ -12,7 +12,7 @@ use timelock::Script;
 use value::Mint;
 
 /// The bytes of the hashes of keys, in their order.
-fn bytes_of_keys(alloc: Global, keys: &[KeyHash]) -> Result<Vec<[u8; 32]>, AllocError>
+pub fn bytes_of_keys(alloc: Global, keys: &[KeyHash]) -> Result<Vec<[u8; 32]>, AllocError>
     ensures { IfOk result (λ hashes. hashes.items ≡ map key_bytes keys.now) }
 {
     let mut hashes = Vec::with_capacity(alloc, keys.len())?;
@@ -23,7 +23,7 @@ fn bytes_of_keys(alloc: Global, keys: &[KeyHash]) -> Result<Vec<[u8; 32]>, Alloc
 }
 
 /// The hashes of scripts, in their order.
-fn hashes_of_scripts(alloc: Global, scripts: &[Script]) -> Result<Vec<[u8; 32]>, AllocError>
+pub fn hashes_of_scripts(alloc: Global, scripts: &[Script]) -> Result<Vec<[u8; 32]>, AllocError>
     ensures { IfOk result (λ hashes. hashes.items ≡ map script_hash_of scripts.now) }
 {
     let mut hashes = Vec::with_capacity(alloc, scripts.len())?;

@@ -24,4 +24,5 @@ pub mod Sound
 pub mod Making
 pub mod OneMaking
 pub mod Nesting
+pub mod Texts
 pub mod ForCallers

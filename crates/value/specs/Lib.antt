@@ -14,3 +14,4 @@ pub mod Touched
 pub mod Listed
 pub mod Totals
 pub mod Same
+pub mod Texts

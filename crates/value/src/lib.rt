@@ -12,6 +12,7 @@ mod laws;
 mod mint;
 mod quantity;
 mod reader;
+mod showing;
 mod side;
 mod totals;
 mod value;

@@ -4,9 +4,13 @@
 #![tactic(auto)]
 
 #[cfg(test)]
+mod asking_tests;
+#[cfg(test)]
 mod chain_tests;
 #[cfg(test)]
 mod chainsel_tests;
+#[cfg(test)]
+mod explaining_tests;
 #[cfg(test)]
 mod fault_tests;
 #[cfg(test)]

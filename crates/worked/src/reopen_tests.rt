@@ -44,8 +44,8 @@ fn put(rt: &(impl Abort + AllocGlobal), texts: &mut Vec<Vec<u8>>, made: &Made) {
 fn immutable_texts(rt: &(impl Abort + AllocGlobal), core: &Core<TestScheme>) -> Box<Vec<Vec<u8>>> {
     let mut texts = boxed(rt, Vec::new(rt.alloc()));
     for number in 1..core.immutable().saturating_add(1) {
-        let text = core.block(number).expect(rt, "a block");
-        let copy = text.to_vec(rt.alloc()).expect(rt, MEMORY);
+        let block = core.block(number).expect(rt, "a block");
+        let copy = block.bytes().to_vec(rt.alloc()).expect(rt, MEMORY);
         texts.push(copy).expect(rt, MEMORY);
     }
     texts

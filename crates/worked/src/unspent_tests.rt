@@ -1,7 +1,7 @@
 //! Outputs that are put in and spent, while an older version keeps them, and that are told in their order.
 
 use super::fixture::{MEMORY, boxed, same};
-use ident::{KeyHash, TxId};
+use ident::{KeyHash, ScriptHash, TxId};
 use std::process::Abort;
 use tx::{Address, Credential, Input, Output};
 use utxo_rules::{Entries, Utxo};
@@ -74,8 +74,7 @@ fn put_in_and_spent(rt: HostRuntime) {
 
 /// The next output that is met stands at this index, of as much lovelace.
 fn meets(rt: &impl Abort, entries: &mut Entries<'_>, index: u16) {
-    let entry = entries.next().expect(rt, MEMORY);
-    let (place, output) = entry.expect(rt, "an output");
+    let (place, output) = entries.next().expect(rt, "an output");
     assert!(rt; place == input(index));
     same(rt, "coin", output.value.coin(), u64::from(index));
 }
@@ -91,6 +90,49 @@ fn outputs_in_order(rt: HostRuntime) {
     for index in [1, 2, 256u16] {
         meets(&rt, &mut entries, index);
     }
-    let last = entries.next().expect(&rt, MEMORY);
-    assert!(rt; last.is_none());
+    assert!(rt; entries.next().is_none());
+    assert!(rt; entries.next().is_none());
+}
+
+/// The address of the script of 32 bytes 02, on network 0.
+fn script_address(rt: &impl Abort) -> Address {
+    let script = Credential::Script(ScriptHash::from_bytes([2; 32]));
+    Address::new(0, script).expect(rt, "a network")
+}
+
+/// The output of so much lovelace to that script.
+fn to_script(rt: &(impl Abort + AllocGlobal), coin: u64) -> Output {
+    Output {
+        address: script_address(rt),
+        value: Value::of_coin(rt.alloc(), coin),
+    }
+}
+
+/// The outputs of this address stand at these indexes, each of as much lovelace.
+fn are_of(rt: &impl Abort, utxo: &Utxo, address: &Address, indexes: &[u16]) {
+    let mut entries = utxo.of(address);
+    for index in indexes {
+        let (place, output) = entries.next().expect(rt, "an output");
+        assert!(rt; place == input(*index));
+        same(rt, "coin", output.value.coin(), u64::from(*index));
+    }
+    assert!(rt; entries.next().is_none());
+}
+
+// Outputs of a key and of a script in turns, and none of the script on another network.
+#[test]
+fn outputs_of_an_address(rt: HostRuntime) {
+    let mut utxo = no_outputs(&rt);
+    for index in [4, 1, 3u16] {
+        put_unspent(&rt, &mut utxo, &input(index), u64::from(index));
+    }
+    for index in [5, 2u16] {
+        let output = to_script(&rt, u64::from(index));
+        utxo.insert(&input(index), output).expect(&rt, MEMORY);
+    }
+    let script = script_address(&rt);
+    let elsewhere = Address::new(1, script.payment()).expect(&rt, "a network");
+    are_of(&rt, &utxo, &script, &[2, 5]);
+    are_of(&rt, &utxo, &elsewhere, &[]);
+    are_of(&rt, &utxo, &output(&rt, 0).address, &[1, 3, 4]);
 }

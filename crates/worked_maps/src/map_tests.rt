@@ -167,13 +167,13 @@ fn comes_next(
     key: u64,
     amount: u64,
 ) {
-    let entry = entries.next().expect(rt, MEMORY);
+    let entry = entries.next();
     assert!(rt; entry == Some((&key, &amount)), "the entry of {key}");
 }
 
 /// No entry comes next.
 fn is_at_end(rt: &(impl Abort + AllocGlobal), entries: &mut Iter<'_, u64, u64>) {
-    let entry = entries.next().expect(rt, MEMORY);
+    let entry = entries.next();
     assert!(rt; entry.is_none());
 }
 

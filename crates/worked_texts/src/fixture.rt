@@ -67,3 +67,12 @@ pub fn check(rt: &impl Abort, case: &str, is_so: bool) {
 pub fn is_spelled(rt: &(impl Abort + AllocGlobal), texts: &[&str], bytes: &[u8]) {
     check(rt, "a text", hex(rt, texts).as_slice() == bytes);
 }
+
+/// Pieces of text, one after the other, are this text.
+pub fn is_text(rt: &(impl Abort + AllocGlobal), pieces: &[&str], text: &str) {
+    let mut whole = String::new(rt.alloc());
+    for piece in pieces {
+        whole.push_str(*piece).expect(rt, MEMORY);
+    }
+    check(rt, text, whole.as_str() == text);
+}

@@ -1,7 +1,7 @@
 //! Digests of FIPS 180-4 and other known ones, and hexadecimal text in and out.
 
 use super::fixture::{MEMORY, check, is_spelled};
-use ident::{BlockHash, BodyHash, IdentFault, KeyHash, Point, ScriptHash, TxId};
+use ident::{BlockHash, BodyHash, Hex, IdentFault, KeyHash, Point, ScriptHash, TxId};
 
 /// The digests of nothing and of abc, which is written in both cases too.
 const EMPTY: &str = "e3b0c44298fc1c149afbf4c8996fb92427ae41e4649b934ca495991b7852b855";
@@ -95,4 +95,34 @@ fn order(rt: HostRuntime) {
     check(&rt, "number of the genesis", genesis.number == 0);
     check(&rt, "hash of the genesis", genesis.hash == hash);
     check(&rt, "a block", genesis < (Point { number: 1, hash }));
+}
+
+/// Genesis, and the block of the greatest number whose header's text is abc.
+const GENESIS: &str = "0 0000000000000000000000000000000000000000000000000000000000000000";
+
+const GREATEST: &str =
+    "18446744073709551615 ba7816bf8f01cfea414140de5dae2223b00361a396177a9cb410ff61f20015ad";
+
+#[test]
+fn points(rt: HostRuntime) {
+    let genesis = Point::genesis().to_string(rt.alloc());
+    check(
+        &rt,
+        "genesis",
+        genesis.expect(&rt, MEMORY).as_str() == GENESIS,
+    );
+    let point = Point {
+        number: u64::MAX,
+        hash: BlockHash::of_header(b"abc"),
+    };
+    let shown = point.to_string(rt.alloc()).expect(&rt, MEMORY);
+    check(&rt, "a block", shown.as_str() == GREATEST);
+}
+
+#[test]
+fn bytes_as_digits(rt: HostRuntime) {
+    let shown = Hex(b"\x00\x0a\xf9").to_string(rt.alloc());
+    check(&rt, "three", shown.expect(&rt, MEMORY).as_str() == "000af9");
+    let shown = Hex(b"").to_string(rt.alloc()).expect(&rt, MEMORY);
+    check(&rt, "none", shown.is_empty());
 }

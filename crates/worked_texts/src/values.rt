@@ -1,6 +1,6 @@
 //! Values and mints that are made of assets in any order, assets that are refused, and what a value holds.
 
-use super::fixture::{MEMORY, ONES, TWOS, boxed, check, hex, is_spelled};
+use super::fixture::{MEMORY, ONES, TWOS, boxed, check, hex, is_spelled, is_text};
 use ident::ScriptHash;
 use std::process::Abort;
 use value::{AssetFault, AssetQuantity, Mint, Policy, Value};
@@ -232,4 +232,44 @@ fn coin_alone_and_nothing_minted(rt: HostRuntime) {
     let made = boxed(&rt, mint_of(&rt, &[]).expect(&rt, "a mint"));
     let nothing = boxed(&rt, Mint::nothing(rt.alloc()));
     check(&rt, "nothing", *made == *nothing);
+}
+
+/// So many lovelace and assets, and the pieces of the text for people.
+type Shown = (u64, &'static [Held], &'static [&'static str]);
+
+/// Coin alone, the assets of two policies, and the greatest coin and quantity.
+const SHOWN: &[Shown] = &[
+    (1000, &[], &["1000 lovelace"]),
+    (
+        5,
+        OTHER_ORDER,
+        &[
+            "5 lovelace + 1 ",
+            ONES,
+            " + 24 ",
+            ONES,
+            ".ff + 2 ",
+            ONES,
+            ".0000 + 9223372036854775808 ",
+            TWOS,
+        ],
+    ),
+    (
+        u64::MAX,
+        &[(2, b"coin", u64::MAX)],
+        &[
+            "18446744073709551615 lovelace + 18446744073709551615 ",
+            TWOS,
+            ".636f696e",
+        ],
+    ),
+];
+
+#[test]
+fn values_for_people(rt: HostRuntime) {
+    for (coin, assets, pieces) in SHOWN {
+        let value = boxed(&rt, value_of(&rt, *coin, *assets).expect(&rt, "a value"));
+        let shown = value.to_string(rt.alloc()).expect(&rt, MEMORY);
+        is_text(&rt, *pieces, &shown);
+    }
 }

@@ -98,6 +98,21 @@ fn blocks_are_read_again(rt: HostRuntime) -> Result<(), Fail> {
     Ok(())
 }
 
+// All blocks come in their order, and the log is there again then.
+#[test]
+fn blocks_one_after_the_other(rt: HostRuntime) -> Result<(), Fail> {
+    let alloc = rt.alloc();
+    let log = log_of_two(alloc, FakeFile::new(alloc, u64::MAX)).expect(&rt, "a log");
+    let mut blocks = log.into_blocks();
+    for wanted in [b"one", b"two"] {
+        let found = blocks.next().transpose()?;
+        assert!(rt; found.as_deref() == Some(wanted.as_slice()));
+    }
+    assert!(rt; blocks.next().is_none());
+    assert_eq!(rt; blocks.into_log().durable(), 2);
+    Ok(())
+}
+
 // A file's disk tells what the file gave when it was opened, until it is changed; then it is opened anew to be read.
 #[test]
 fn reads_end_with_the_first_change(rt: HostRuntime) -> Result<(), Fail> {

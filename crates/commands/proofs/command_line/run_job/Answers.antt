@@ -10,4 +10,5 @@ returns c =
       genesis_is = sym (first_value-rows found (codes "genesis")) ∙ sym c.in_ok-genesis.ensures;
       script_is = sym (first_value-rows found (codes "script")) ∙ sym c.in_ok-script.ensures;
       log_is = sym (first_value-rows found (codes "log")) ∙ sym c.get_str-log.ensures;
+      explain_is = sym c.is_given-explain.ensures;
     }

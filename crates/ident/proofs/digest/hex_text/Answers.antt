@@ -1,7 +1,7 @@
 use Rattle.std.proofs.Common.{◌≡◌, arith}
 use Rattle.hex.specs.Hex.{encode_lower}
 use Rattle.std.proofs.lemmas.Grind.{common_steps}
-use Rattle.ident.proofs.Hex.{read_as_text}
+use Rattle.ident.proofs.HexTexts.{read_as_text}
 use Rattle.ident.proofs.digest.hex_text.Goals as goal
 
 pub unwrap-requires-2 : goal.unwrap-requires-2

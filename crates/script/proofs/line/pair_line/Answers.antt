@@ -16,11 +16,13 @@ returns-in_err-name c =
     let unnamed = not_named (is_name c.args.first.now) c.args.first.now c.in_err-name.ensures in
     let not_in : bytes_eq c.args.word.now (codes "in") ≡ false = cc in
     let not_forge : bytes_eq c.args.word.now (codes "forge") ≡ false = cc in
-    rw (c.from_residual.ensures, not_in, not_forge, unnamed) (none_said (bytes_eq c.args.word.now (codes "raw")) (bytes_eq c.args.word.now (codes "key")) (bytes_eq c.args.word.now (codes "script")))
+    let not_balance : bytes_eq c.args.word.now (codes "balance") ≡ false = cc in
+    rw (c.from_residual.ensures, not_in, not_forge, not_balance, unnamed) (none_said (bytes_eq c.args.word.now (codes "raw")) (bytes_eq c.args.word.now (codes "key")) (bytes_eq c.args.word.now (codes "script")))
 
 pub returns-in_err-digits : goal.returns-in_err-digits
 returns-in_err-digits c =
     let named = is_named (is_name c.args.first.now) c.args.first.now c.in_ok-name.name.text.now c.in_ok-name.ensures in
     let not_in : bytes_eq c.args.word.now (codes "in") ≡ false = cc in
     let not_forge : bytes_eq c.args.word.now (codes "forge") ≡ false = cc in
-    rw (c.from_residual-in_err-digits.ensures, not_in, not_forge, named.0, ← c.in_err-digits.ensures) (none_said (bytes_eq c.args.word.now (codes "raw")) (bytes_eq c.args.word.now (codes "key")) (bytes_eq c.args.word.now (codes "script")))
+    let not_balance : bytes_eq c.args.word.now (codes "balance") ≡ false = cc in
+    rw (c.from_residual-in_err-digits.ensures, not_in, not_forge, not_balance, named.0, ← c.in_err-digits.ensures) (none_said (bytes_eq c.args.word.now (codes "raw")) (bytes_eq c.args.word.now (codes "key")) (bytes_eq c.args.word.now (codes "script")))

@@ -1,4 +1,4 @@
-use Rattle.std.proofs.Common.{◌≡◌, ℕ, List, ◌∷◌, ◌++◌, take, refl, ap, subst, ◌∙◌, sym}
+use Rattle.std.proofs.Common.{◌≡◌, ◌≤◌, ℕ, List, ◌∷◌, ◌++◌, length, take, refl, ap, subst, ◌∙◌, sym}
 use Rattle.std.specs.Prelude.{IfSome}
 use Rattle.std.specs.List.{AllByRecursion}
 use Rattle.model.specs.Block.{Block}
@@ -7,7 +7,8 @@ use Rattle.ident.specs.Kinds.{BlockHash}
 use Rattle.blockstore.specs.Stored.{Store, blocks_of}
 use Rattle.chainsel.specs.Ready.{IsReady}
 use Rattle.chainsel.specs.Sides.{IsSide}
-use Rattle.chainsel.proofs.ForCallers.{at_hand, if_some}
+use Rattle.model.proofs.Selections.{selection_not_shorter}
+use Rattle.chainsel.proofs.ForCallers.{at_hand, if_some, selection_at_hand}
 use Rattle.ledgerdb.specs.Values.{Database}
 use Rattle.chainsel.specs.Choices.{IsSelected, IsChoice, IsSwitch, IsFoundDead}
 use Rattle.chain_core.specs.declared.chain_db.ChainDb.{ChainDb}
@@ -51,8 +52,10 @@ returns-clause-ok g c =
     subst (λ (a : ChainDb g.row.S.Denot). c.insert-in-Switch.new.self ≡ record a { store = c.insert-in-Switch.new.self.store }) c.make_ready.ensures.frame c.insert-in-Switch.ensures.frame in
     let taken = subst (λ (x : Store). IsTakenIn x new c.in_ok-choice.field-0.invalid.items c.insert-in-Switch.new.self.store) (ap (λ (a : ChainDb g.row.S.Denot). a.store) c.make_ready.ensures.frame)
     (subst (λ (hs : List BlockHash). IsTakenIn c.make_ready.new.self.store new hs c.insert-in-Switch.new.self.store) c.deref-in-Switch.ensures.value c.in_ok-insert-in-Switch.ensures.ok) in
-    let noted = switch_noted network old c.requires.whole c.in-Switch.switch c.make_ready.new.self.past c.switch_to.new.self.past c.k.result is.within c.k.ensures.k
-    (ap (λ (a : ChainDb g.row.S.Denot). a.past) c.switch_to.ensures.frame ∙ ap (λ (a : ChainDb g.row.S.Denot). a.past) frame) c.make_ready.ensures.kept c.in_ok-resynced-in-Switch.ensures.noted in
+    let next = without_last c.in-Switch.switch.back old.chain.items ++ c.in-Switch.switch.blocks.items in
+    let not_shorter : length old.chain.items ≤ length next = selection_not_shorter network (at_hand old.chain.items old.store new) old.chain.items next (selection_at_hand network old.chain.items old.store old.db new c.requires.ready next is.selected) in
+    let noted = switch_noted network old c.requires.whole c.in-Switch.switch c.make_ready.new.self.past c.k.result is.within c.k.ensures.k not_shorter c.make_ready.ensures.kept c.switch_to.new.self.past
+    (ap (λ (a : ChainDb g.row.S.Denot). a.past) c.switch_to.ensures.frame ∙ ap (λ (a : ChainDb g.row.S.Denot). a.past) frame) c.in_ok-resynced-in-Switch.ensures.noted in
     added_at_switch network old new c.requires.whole c.requires.ready c.in_ok-choice.field-0.invalid.items found c.in-Switch.switch c.insert-in-Switch.new.self c.switch_to.new.self c.switch_to.result is taken
     (ap (λ (a : ChainDb g.row.S.Denot). a.chain.items) frame ∙ c.make_ready.ensures.chain) (ap (λ (a : ChainDb g.row.S.Denot). a.db) frame) c.switch_to.ensures.chain c.switch_to.ensures.db c.switch_to.ensures.store
     c.in_ok-resynced-in-Switch.resynced (c.in_ok-resynced-in-Switch.ensures.resynced c.args.genesis.now opened old.chain.items c.in-Switch.switch.blocks.items c.requires.whole.settled.database (subst (λ (n : ℕ). IsPreparedOf network (without_last n old.chain.items) c.in-Switch.switch.blocks.items c.in-Switch.switch.prepared) (sym is.back) is.prepared))

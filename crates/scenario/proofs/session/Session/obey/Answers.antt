@@ -1,4 +1,6 @@
-use Rattle.script.specs.Meaning.{Arrives, SubmitsTx, ForgesBlock, PrintsTip, PrintsMempool, PrintsUtxo, Means, is_late_line, parse_within}
+use Rattle.script.specs.PartView.{owner_of}
+use Rattle.tx.specs.View.{address_of}
+use Rattle.script.specs.Meaning.{Arrives, SubmitsTx, ForgesBlock, PrintsTip, PrintsMempool, PrintsUtxo, PrintsWhy, PrintsWhere, PrintsBalance, Means, is_late_line, parse_within}
 use Rattle.script.proofs.ForCallers.{never_both}
 use Rattle.scenario.specs.SessionView.{core_network}
 use Rattle.scenario.proofs.AskedLines.{defined, done_so}
@@ -55,3 +57,24 @@ returns-in-Ok-Forge-clause-obeyed c = λ s holds.
     done_so (core_network c.args.self.now.core) s (Means c.args.at.number c.args.at.before s.names c.args.line.now) (is_late_line (parse_within c.args.at.before c.args.line.now)) asked.meaning
     (ForgesBlock c.in-Ok-Forge.name.text.now c.in-Ok-Forge.slot) c.forge.result c.forge.new.self asked.is_meant request.0
     (λ fault. never_both c.args.at.number c.args.at.before s.names c.args.line.now asked.meaning fault asked.is_meant) (c.forge.ensures.obeyed s (record { stands = holds.stands; names = request.2 }) request.1)
+
+pub returns-in-Ok-Why-clause-obeyed : goal.returns-in-Ok-Why-clause-obeyed
+returns-in-Ok-Why-clause-obeyed c = λ s holds.
+    let asked = c.in-Ok-Why.ensures.asks s.names holds.names in
+    let request = rw c.in-Ok-Why.field-0-is at asked.is_request in
+    done_so (core_network c.args.self.now.core) s (Means c.args.at.number c.args.at.before s.names c.args.line.now) (is_late_line (parse_within c.args.at.before c.args.line.now)) asked.meaning (PrintsWhy c.in-Ok-Why.name.text.now c.in-Ok-Why.hash.bytes) c.why.result _ asked.is_meant request.0
+    (λ fault. never_both c.args.at.number c.args.at.before s.names c.args.line.now asked.meaning fault asked.is_meant) (c.why.ensures s (record { stands = holds.stands; names = request.1 }))
+
+pub returns-in-Ok-Where-clause-obeyed : goal.returns-in-Ok-Where-clause-obeyed
+returns-in-Ok-Where-clause-obeyed c = λ s holds.
+    let asked = c.in-Ok-Where.ensures.asks s.names holds.names in
+    let request = rw c.in-Ok-Where.field-0-is at asked.is_request in
+    done_so (core_network c.args.self.now.core) s (Means c.args.at.number c.args.at.before s.names c.args.line.now) (is_late_line (parse_within c.args.at.before c.args.line.now)) asked.meaning (PrintsWhere c.in-Ok-Where.name.text.now c.in-Ok-Where.id.bytes) c.place.result _ asked.is_meant request.0
+    (λ fault. never_both c.args.at.number c.args.at.before s.names c.args.line.now asked.meaning fault asked.is_meant) (c.place.ensures s (record { stands = holds.stands; names = request.1 }))
+
+pub returns-in-Ok-Balance-clause-obeyed : goal.returns-in-Ok-Balance-clause-obeyed
+returns-in-Ok-Balance-clause-obeyed c = λ s holds.
+    let asked = c.in-Ok-Balance.ensures.asks s.names holds.names in
+    let request = rw c.in-Ok-Balance.field-0-is at asked.is_request in
+    done_so (core_network c.args.self.now.core) s (Means c.args.at.number c.args.at.before s.names c.args.line.now) (is_late_line (parse_within c.args.at.before c.args.line.now)) asked.meaning (PrintsBalance (owner_of c.in-Ok-Balance.owner) (address_of c.in-Ok-Balance.address)) c.balance.result _ asked.is_meant request.0
+    (λ fault. never_both c.args.at.number c.args.at.before s.names c.args.line.now asked.meaning fault asked.is_meant) (c.balance.ensures s (record { stands = holds.stands; names = request.1 }))

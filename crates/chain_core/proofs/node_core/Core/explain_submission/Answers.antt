@@ -1,0 +1,27 @@
+use Rattle.std.proofs.Common.{◌≡◌, List, take, subst}
+use Rattle.std.specs.Prelude.{IfOk}
+use Rattle.std.specs.Option.{option_map}
+use Rattle.std.proofs.lemmas.Result.{IfOk-weaker}
+use Rattle.model.specs.Block.{Block}
+use Rattle.model.specs.Genesis.{Genesis}
+use Rattle.model.specs.Ledger.{network_on}
+use Rattle.model.specs.History.{State}
+use Rattle.model.specs.Asked.{ExplainsSubmission}
+use Rattle.utxo_rules.specs.DetailView.{detail_of}
+use Rattle.chain_core.specs.ChainDbs.{IsWhole, HasState}
+use Rattle.chain_core.specs.Held.{Held, Stands, network_held}
+use Rattle.chain_core.specs.Inside.{held}
+use Rattle.chain_core.proofs.Arrivals.{state_of}
+use Rattle.chain_core.proofs.node_core.Core.explain_submission.Goals as goal
+
+pub returns-clause-told : goal.returns-clause-told
+returns-clause-told g c =
+    let v = g.S.SigScheme.verifies in
+    let a = c.self.inside in
+    let opened = take a.chain_db.opened a.chain_db.chain.items in
+    subst (λ (h : Held). IfOk c.explain.result (λ told. (s : State) → Stands h s → ExplainsSubmission (network_held h v) s c.args.bytes.now (option_map detail_of told))) c.self.view_is
+    (IfOk-weaker c.explain.result (λ told. (genesis : Genesis) (opened : List Block) (s : State) → IsWhole (network_on genesis v opened) a.chain_db → HasState (network_on genesis v opened) a.chain_db s → a.chain_db.mempool.waiting.txs ≡ s.mempool
+    → ExplainsSubmission (network_on genesis v opened) s c.args.bytes.now (option_map detail_of told))
+    (λ told. (s : State) → Stands (held a) s → ExplainsSubmission (network_held (held a) v) s c.args.bytes.now (option_map detail_of told))
+    (λ told is s stands. is a.genesis opened s c.self.invariant.whole (state_of (network_held (held a) v) a.chain_db a.followers s stands) stands.mempool)
+    c.explain.ensures.told)

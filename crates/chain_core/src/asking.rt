@@ -1,0 +1,114 @@
+//! What a core is asked about blocks and transactions.
+
+ghost use Rattle.std.specs.Prelude.{◌≡◌, ◌⊎◌, ◌-◌, ℕ, drop, Contains, MatchOption, IfOk, OnErr};
+ghost use Rattle.std.specs.Option.{option_map};
+ghost use Rattle.std.specs.Slice.Iter.{iter_rest};
+ghost use Rattle.model.specs.Block.{block_hash_of};
+ghost use Rattle.model.specs.History.{State, live_of};
+ghost use Rattle.model.specs.Asked.{NoneHas, IsPlaceOf, IsTxPlaceOf, IsWhyOf, Beside, ExplainsSubmission};
+ghost use Rattle.tx.specs.Bare.{BeginsLikeTransaction};
+ghost use Rattle.utxo_rules.specs.DetailView.{detail_of};
+ghost use Rattle.chain_core.specs.Asking.{place_of, tx_place_of};
+ghost use Rattle.chain_core.specs.Ways.{why_of};
+ghost use Rattle.chain_core.specs.Held.{network_held, Stands};
+
+use crate::finding::{Place, block_with, place_in};
+use crate::node_core::Core;
+use crate::place::blocks_from;
+use crate::standing::{TxPlace, tx_place_in};
+use crate::why::{Why, why_in};
+use block::CheckedBlock;
+use ident::{BlockHash, TxId};
+use std::alloc::AllocError;
+use std::slice::Iter;
+use utxo_rules::Detail;
+use witness_pool::SigScheme;
+
+impl<S: SigScheme> Core<S> {
+    /// Where the block with this hash is: on the selected chain, beside it, or nowhere. A look-up or two, whose time
+    /// grows with the logarithm of how many blocks there are; takes no memory.
+    ///
+    /// ```text
+    /// match core.place(hash) {
+    ///     Place::Chain(number) => core.block(number),
+    ///     Place::Beside(_) | Place::Unknown => None,
+    /// }
+    /// ```
+    pub fn place(&self, hash: BlockHash) -> Place
+        // It is so in every state of the definitions that the core stands for.
+        ensures { (s : State) → Stands self.now s →
+            IsPlaceOf (network_held self.now S.verifies) s hash.bytes (place_of result) }
+    {
+        place_in(&self.chain_db, hash)
+    }
+
+    /// The block with this hash: that of the selected chain, or else the live one, and None where there is neither. It
+    /// is the one that the core keeps, which `try_clone` shares. Takes as long as [`Core::place`], and no memory.
+    pub fn block_by_hash(&self, hash: BlockHash) -> Option<&CheckedBlock<S>>
+        ensures { (s : State) → Stands self.now s → MatchOption result
+            (NoneHas s.chain hash.bytes × NoneHas (live_of (network_held self.now S.verifies) s) hash.bytes)
+            (λ b. (Contains s.chain b.now ⊎ Contains (live_of (network_held self.now S.verifies) s) b.now)
+            × (block_hash_of b.now ≡ hash.bytes)) }
+    {
+        block_with(&self.chain_db, hash)
+    }
+
+    /// The blocks of the selected chain from this number on, one after the other: all of them from 0 or 1 on, and none
+    /// past its end. In constant time; copies nothing, and takes no memory.
+    ///
+    /// ```text
+    /// for block in core.blocks(core.immutable() + 1) {
+    ///     .. // those that may still be rolled back
+    /// }
+    /// ```
+    pub fn blocks(&self, from: u64) -> Iter<'_, CheckedBlock<S>>
+        ensures { iter_rest result ≡ drop (from - 1) self.now.chain }
+    {
+        blocks_from(&self.chain_db.chain, from)
+    }
+
+    /// Where the transaction with this identifier stands: at its position in the mempool, or else in the last of the
+    /// last k blocks of the selected chain that has it. Walks the mempool, and then compares the identifiers in these
+    /// blocks one by one, from the last block on; takes no memory.
+    pub fn transaction(&self, id: TxId) -> TxPlace
+        ensures { (s : State) → Stands self.now s →
+            IsTxPlaceOf (network_held self.now S.verifies) s id.bytes (tx_place_of result) }
+    {
+        tx_place_in(&self.chain_db, self.genesis.k(), id)
+    }
+
+    /// Why the block with this hash isn't selected: the first reason that applies. Nothing else can be: where it goes
+    /// back to the chain and all of its way is let through, the chain with it isn't longer. Changes nothing, and keeps
+    /// nothing. A few look-ups for each block of the way back, memory for the list of these, and where they go back to
+    /// the chain the time to judge them and to roll the others back. Err where memory runs out.
+    pub fn why(&self, hash: BlockHash) -> Result<Why, AllocError>
+        ensures why { IfOk result (λ why. (s : State) → Stands self.now s →
+            IsWhyOf (network_held self.now S.verifies) s hash.bytes (why_of why)) }
+        // Memory is asked for only where the block is live and not on the chain.
+        ensures memory { OnErr result ((s : State) → Stands self.now s →
+            (number : ℕ) × IsPlaceOf (network_held self.now S.verifies) s hash.bytes (Beside number)) }
+    {
+        why_in(self.alloc, &self.chain_db, hash)
+    }
+
+    /// Why these bytes would be refused if they were submitted: the reason against the transaction, with what it is
+    /// about. None where [`Core::submit`] would refuse them for no reason: they are no transaction, it waits already,
+    /// or there is nothing against it. Changes nothing. Linear in the bytes, with a look-up of the identifier and what
+    /// [`utxo_rules::explain`] takes. Err where memory runs out.
+    ///
+    /// ```text
+    /// if let SubmitReply::Refused(reason) = core.submit(&bytes)? {
+    ///     if let Some(detail) = core.explain_submission(&bytes)? {
+    ///         println!(rt; "{reason}: {detail}")?;
+    ///     }
+    /// }
+    /// ```
+    pub fn explain_submission(&self, bytes: &[u8]) -> Result<Option<Detail>, AllocError>
+        ensures told { IfOk result (λ told. (s : State) → Stands self.now s →
+            ExplainsSubmission (network_held self.now S.verifies) s bytes.now (option_map detail_of told)) }
+        // Memory is asked for only where the bytes begin as a transaction does.
+        ensures memory { OnErr result (BeginsLikeTransaction bytes.now) }
+    {
+        self.chain_db.explain(bytes)
+    }
+}

@@ -1,0 +1,86 @@
+//! Where a block is, by its hash.
+
+ghost use Rattle.std.specs.Prelude.{◌≡◌, ◌↔◌, ◌⊎◌, Contains, IsTrue, MatchOption};
+ghost use Rattle.model.specs.Block.{block_hash_of};
+ghost use Rattle.model.specs.Ledger.{Network};
+ghost use Rattle.model.specs.History.{State, live_of};
+ghost use Rattle.model.specs.Asked.{NoneHas, IsPlaceOf};
+ghost use Rattle.chain_core.specs.Asking.{place_of};
+ghost use Rattle.chain_core.specs.ChainDbs.{IsWhole, HasState};
+
+use crate::chain_db::ChainDb;
+use crate::past::noted;
+use crate::place::block_at;
+use block::CheckedBlock;
+use ident::BlockHash;
+use witness_pool::SigScheme;
+
+/// Where a block is.
+#[derive(Clone, Copy, Debug, PartialEq, Eq)]
+pub enum Place {
+    /// On the selected chain, as the block of this number; the first one has number 1.
+    Chain(u64),
+    /// Beside it: a live block with this number, which may still come into a selected chain.
+    Beside(u64),
+    /// Neither.
+    Unknown,
+}
+
+/// Whether the block has this hash.
+fn has_hash<S: SigScheme>(block: &CheckedBlock<S>, hash: BlockHash) -> bool
+    ensures { IsTrue result ↔ (block_hash_of block.now ≡ hash.bytes) }
+{
+    block.hash() == hash
+}
+
+/// The block of the selected chain with this hash. A look-up among the blocks that are never rolled back, and where it
+/// is none of these one among the live blocks, as the others of the chain are.
+pub fn chain_block<S: SigScheme>(chain_db: &ChainDb<S>, hash: BlockHash) -> Option<&CheckedBlock<S>>
+    ensures { MatchOption result
+        ((network : Network) → IsWhole network chain_db.now → NoneHas chain_db.now.chain.items hash.bytes)
+        (λ b. Contains chain_db.now.chain.items b.now × (block_hash_of b.now ≡ hash.bytes)) }
+{
+    if let Some(block) = noted(&chain_db.past, &chain_db.chain, hash) {
+        return Some(block);
+    }
+    let Some(stored) = chain_db.store.get(hash) else {
+        return None;
+    };
+    let Some(block) = block_at(&chain_db.chain, stored.block().number()) else {
+        return None;
+    };
+    if has_hash(block, hash) {
+        Some(block)
+    } else {
+        None
+    }
+}
+
+/// The block of the selected chain with this hash, or else the live one.
+pub fn block_with<S: SigScheme>(chain_db: &ChainDb<S>, hash: BlockHash) -> Option<&CheckedBlock<S>>
+    ensures { (network : Network) (s : State) → IsWhole network chain_db.now → HasState network chain_db.now s
+        → MatchOption result (NoneHas s.chain hash.bytes × NoneHas (live_of network s) hash.bytes)
+        (λ b. (Contains s.chain b.now ⊎ Contains (live_of network s) b.now) × (block_hash_of b.now ≡ hash.bytes)) }
+{
+    if let Some(block) = chain_block(chain_db, hash) {
+        return Some(block);
+    }
+    match chain_db.store.get(hash) {
+        Some(stored) => Some(stored.block()),
+        None => None,
+    }
+}
+
+/// Where the block with this hash is.
+pub fn place_in<S: SigScheme>(chain_db: &ChainDb<S>, hash: BlockHash) -> Place
+    ensures { (network : Network) (s : State) → IsWhole network chain_db.now → HasState network chain_db.now s
+        → IsPlaceOf network s hash.bytes (place_of result) }
+{
+    if let Some(block) = chain_block(chain_db, hash) {
+        return Place::Chain(block.number());
+    }
+    match chain_db.store.get(hash) {
+        Some(stored) => Place::Beside(stored.block().number()),
+        None => Place::Unknown,
+    }
+}

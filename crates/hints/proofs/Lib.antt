@@ -1,0 +1,4 @@
+pub mod FirstFound
+pub mod SpotFaults
+pub mod UnknownKeys
+pub mod HintFaults
