@@ -1,9 +1,10 @@
 //! Scripts of more and more blocks, each of ten payments.
 
 use crate::timing::{Telling, nanos_if, now, print};
-use genesis::Genesis;
+use genesis::{Genesis, Scheme};
 use std::alloc::Global;
 use std::io;
+use witness_pool::TestScheme;
 
 /// A network without fees, and the output that is paid on and on.
 const NETWORK: &str =
@@ -61,7 +62,7 @@ fn printed(alloc: Global, script: &str) -> usize {
     };
     let mut reader = script.as_bytes();
     let mut out = Vec::new(alloc);
-    match scenario::run(alloc, genesis, &mut reader, &mut out) {
+    match scenario::run::<TestScheme, _, _>(alloc, genesis, Scheme::Test, &mut reader, &mut out) {
         Ok(_) => out.len(),
         Err(_) => 0,
     }

@@ -1,6 +1,6 @@
 //! The network that a case runs on.
 
-use genesis::Genesis;
+use genesis::GenesisDocument;
 use std::alloc::AllocError;
 use std::fs;
 use std::rt::Files;
@@ -13,15 +13,16 @@ fn folder_of(path: &str) -> &str {
     }
 }
 
-/// The genesis of this name, in the folder `genesis` beside that of a file of cases. None where there is none.
-pub fn genesis_named<R: Files + AllocGlobal>(
+/// What the genesis file of this name says, in the folder `genesis` beside that of a file of cases. None where there is
+/// none.
+pub fn document_named<R: Files + AllocGlobal>(
     rt: &R,
     file: &str,
     name: &str,
-) -> Result<Option<Genesis>, AllocError> {
+) -> Result<Option<GenesisDocument>, AllocError> {
     let path = format!(in rt.alloc(); "{}/../genesis/{name}.toml", folder_of(file))?;
     match fs::read_to_string(rt, path.as_str()) {
-        Ok(text) => Ok(Genesis::from_toml(rt.alloc(), text.as_str()).ok()),
+        Ok(text) => Ok(GenesisDocument::from_toml(rt.alloc(), text.as_str()).ok()),
         Err(_) => Ok(None),
     }
 }

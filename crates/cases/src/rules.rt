@@ -2,12 +2,12 @@
 
 use crate::report::put_line;
 use block::CheckedBlock;
-use genesis::Genesis;
+use genesis::GenesisDocument;
 use ledger::{ApplyFault, BlockFault, LedgerState, apply_block};
 use script::{LinePlace, Names, Request, Stop};
 use std::alloc::{AllocError, Global};
 use std::str;
-use witness_pool::TestScheme;
+use witness_pool::SigScheme;
 
 /// The names of a script, and the state that its blocks left. In boxes both are dropped by calls, which keeps the
 /// proofs short.
@@ -40,10 +40,10 @@ fn put_fault(came: &mut String, fault: BlockFault) -> Result<(), AllocError> {
 }
 
 /// What is told of a block on a state.
-fn told_of_block(
+fn told_of_block<S: SigScheme>(
     alloc: Global,
     state: &LedgerState,
-    block: &CheckedBlock<TestScheme>,
+    block: &CheckedBlock<S>,
 ) -> Result<Told, AllocError> {
     match apply_block(state, block) {
         Ok(next) => Ok(Told::Applied(Box::new(alloc, next)?)),
@@ -53,17 +53,22 @@ fn told_of_block(
 }
 
 /// What is told of the block of these bytes on a state.
-fn told_of(alloc: Global, state: &LedgerState, bytes: &[u8]) -> Result<Told, AllocError> {
-    match CheckedBlock::<TestScheme>::read(alloc, bytes) {
+fn told_of<S: SigScheme>(
+    alloc: Global,
+    state: &LedgerState,
+    bytes: &[u8],
+) -> Result<Told, AllocError> {
+    match CheckedBlock::<S>::read(alloc, bytes) {
         Ok(block) => told_of_block(alloc, state, &block),
         Err(_) => Ok(Told::NoBlock),
     }
 }
 
 /// A run on a network of this genesis.
-fn new_run(alloc: Global, genesis: &Genesis) -> Result<LedgerRun, AllocError> {
-    let names = Box::new(alloc, Names::new(alloc, genesis))?;
-    let state = Box::new(alloc, LedgerState::new(alloc, genesis)?)?;
+fn new_run(alloc: Global, document: &GenesisDocument) -> Result<LedgerRun, AllocError> {
+    let names = Names::new(alloc, &document.genesis, document.scheme);
+    let names = Box::new(alloc, names)?;
+    let state = Box::new(alloc, LedgerState::new(alloc, &document.genesis)?)?;
     Ok(LedgerRun {
         alloc,
         names,
@@ -73,11 +78,11 @@ fn new_run(alloc: Global, genesis: &Genesis) -> Result<LedgerRun, AllocError> {
 
 impl LedgerRun {
     /// Judges the bytes of a name as the next block.
-    fn arrive(&mut self, name: &[u8], came: &mut String) -> Result<(), AllocError> {
+    fn arrive<S: SigScheme>(&mut self, name: &[u8], came: &mut String) -> Result<(), AllocError> {
         let printed = str::from_utf8(name).unwrap_or("?");
         write!(came, "arrive {printed}: ")?;
         let bytes = self.names.bytes_of(name).unwrap_or(&[]);
-        match told_of(self.alloc, &self.state, bytes)? {
+        match told_of::<S>(self.alloc, &self.state, bytes)? {
             Told::Applied(next) => {
                 self.state = next;
                 came.push_str("applied")?;
@@ -96,10 +101,14 @@ impl LedgerRun {
     }
 
     /// Does what is asked for.
-    fn answer(&mut self, request: &Request<'_>, came: &mut String) -> Result<(), AllocError> {
+    fn answer<S: SigScheme>(
+        &mut self,
+        request: &Request<'_>,
+        came: &mut String,
+    ) -> Result<(), AllocError> {
         match request {
             Request::Nothing => Ok(()),
-            Request::Arrive { name, .. } => self.arrive(name.text, came),
+            Request::Arrive { name, .. } => self.arrive::<S>(name.text, came),
             Request::Tip => write!(came, "tip: {}\n", self.state.tip().number),
             Request::Utxo => self.utxo(came),
             _ => put_line(came, "not asked here"),
@@ -107,11 +116,16 @@ impl LedgerRun {
     }
 
     /// Does what a line asks for, and answers whether the script goes on.
-    fn obey(&mut self, at: LinePlace, line: &str, came: &mut String) -> Result<bool, AllocError> {
+    fn obey<S: SigScheme>(
+        &mut self,
+        at: LinePlace,
+        line: &str,
+        came: &mut String,
+    ) -> Result<bool, AllocError> {
         let number = at.number;
         match self.names.obey(at, line.as_bytes()) {
             Ok(request) => {
-                self.answer(&request, came)?;
+                self.answer::<S>(&request, came)?;
                 Ok(true)
             }
             Err(Stop::Fault(fault)) => {
@@ -123,13 +137,17 @@ impl LedgerRun {
     }
 
     /// Does what the lines of a script ask for, up to the first fault.
-    fn obey_all(&mut self, script: &str, came: &mut String) -> Result<(), AllocError> {
+    fn obey_all<S: SigScheme>(
+        &mut self,
+        script: &str,
+        came: &mut String,
+    ) -> Result<(), AllocError> {
         let mut at = LinePlace {
             number: 1,
             before: 0,
         };
         for line in script.lines() {
-            if !self.obey(at, line, came)? {
+            if !self.obey::<S>(at, line, came)? {
                 break;
             }
             at.number = at.number.saturating_add(1);
@@ -140,12 +158,12 @@ impl LedgerRun {
 }
 
 /// Puts the lines that a script prints on a network of this genesis behind a text.
-pub fn put_run(
+pub fn put_run<S: SigScheme>(
     alloc: Global,
-    genesis: Genesis,
+    document: &GenesisDocument,
     script: &[u8],
     came: &mut String,
 ) -> Result<(), AllocError> {
-    let mut ledger_run = new_run(alloc, &genesis)?;
-    ledger_run.obey_all(str::from_utf8(script).unwrap_or("?"), came)
+    let mut ledger_run = new_run(alloc, document)?;
+    ledger_run.obey_all::<S>(str::from_utf8(script).unwrap_or("?"), came)
 }

@@ -1,14 +1,15 @@
 //! Scripts that are run, and what they print.
 
 use crate::book::{Scripted, Titled};
-use crate::network::genesis_named;
+use crate::network::document_named;
 use crate::report::Report;
 use crate::{rules, sends};
-use genesis::Genesis;
+use genesis::{GenesisDocument, Scheme};
 use scenario::{ScenarioFault, run};
 use std::alloc::{AllocError, Global};
 use std::rt::Files;
 use std::str;
+use witness_pool::{Ed25519, SigScheme, TestScheme};
 
 /// What a script is run by.
 #[derive(Clone, Copy)]
@@ -38,32 +39,46 @@ fn put_end(
 }
 
 /// Puts the lines that a script prints behind a text, and last the fault that ends it.
-fn put_run(
+fn put_run<S: SigScheme>(
     alloc: Global,
-    genesis: Genesis,
+    document: GenesisDocument,
     script: &[u8],
     came: &mut String,
 ) -> Result<(), AllocError> {
+    let GenesisDocument { genesis, scheme } = document;
     let mut reader = script;
     let mut out = Vec::new(alloc);
-    let ended = run(alloc, genesis, &mut reader, &mut out);
+    let ended = run::<S, _, _>(alloc, genesis, scheme, &mut reader, &mut out);
     put_end(came, &out, ended)
 }
 
-/// Runs the report's script in this way on the network of this name.
+/// Runs the report's script in this way on a network of this genesis, whose signatures are judged by S.
+fn run_by<S: SigScheme>(
+    alloc: Global,
+    document: GenesisDocument,
+    way: Way,
+    report: &mut Report<'_>,
+) -> Result<(), AllocError> {
+    match way {
+        Way::Node => put_run::<S>(alloc, document, &report.script, &mut report.came),
+        Way::Ledger => rules::put_run::<S>(alloc, &document, &report.script, &mut report.came),
+        Way::Peers => sends::put_run(alloc, &document, &report.script, &mut report.came),
+    }
+}
+
+/// Runs the report's script in this way on the network of this name, by the scheme that its file names.
 pub fn run_script<R: Files + AllocGlobal>(
     rt: &R,
     network: &str,
     way: Way,
     report: &mut Report<'_>,
 ) -> Result<(), AllocError> {
-    let Some(genesis) = genesis_named(rt, report.file(), network)? else {
+    let Some(document) = document_named(rt, report.file(), network)? else {
         return report.came.push_str(NO_NETWORK);
     };
-    match way {
-        Way::Node => put_run(rt.alloc(), genesis, &report.script, &mut report.came),
-        Way::Ledger => rules::put_run(rt.alloc(), genesis, &report.script, &mut report.came),
-        Way::Peers => sends::put_run(rt.alloc(), &genesis, &report.script, &mut report.came),
+    match document.scheme {
+        Scheme::Test => run_by::<TestScheme>(rt.alloc(), document, way, report),
+        Scheme::Ed25519 => run_by::<Ed25519>(rt.alloc(), document, way, report),
     }
 }
 

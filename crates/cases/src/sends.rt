@@ -1,6 +1,6 @@
 //! Scripts in which peers send bytes.
 
-use genesis::Genesis;
+use genesis::GenesisDocument;
 use inbox::PEERS;
 use scenario::Sending;
 use std::alloc::{AllocError, Global};
@@ -22,12 +22,18 @@ fn put_all(alloc: Global, sends: &[Sending], came: &mut String) -> Result<(), Al
 /// Puts a line for each line of a script in which a peer sends bytes behind a text, or the fault that ends the script.
 pub fn put_run(
     alloc: Global,
-    genesis: &Genesis,
+    document: &GenesisDocument,
     script: &[u8],
     came: &mut String,
 ) -> Result<(), AllocError> {
     let mut reader = script;
-    match scenario::sends(alloc, genesis, &mut reader, PEERS as u64) {
+    match scenario::sends(
+        alloc,
+        &document.genesis,
+        document.scheme,
+        &mut reader,
+        PEERS as u64,
+    ) {
         Ok(sends) => put_all(alloc, &sends, came),
         Err(fault) => write!(came, "! {fault}\n"),
     }

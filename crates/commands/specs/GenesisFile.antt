@@ -2,9 +2,10 @@
 use Rattle.std.specs.Prelude.{◌≡◌, ◌⊎◌, ◌≤◌, List, ℕ, length, None, IfSome, Result, Ok, Err}
 use Rattle.std.specs.Str.{IsUtf8}
 use Rattle.model.specs.Genesis.{Genesis}
+use Rattle.genesis.specs.declared.genesis_document.GenesisDocument.{GenesisDocument}
 use Rattle.genesis.specs.declared.genesis_fault.GenesisFault.{GenesisFault}
 use Rattle.genesis.specs.declared.genesis_fault.GenesisFault.TheVariants as faults
-use Rattle.genesis.specs.Meaning.{IsAnswer}
+use Rattle.genesis.specs.Meaning.{IsAnswer, NamesScheme}
 use Rattle.commands.specs.declared.genesis_file.NoGenesis.{NoGenesis}
 use Rattle.commands.specs.declared.genesis_file.NoGenesis.TheVariants.{Unread, Fault}
 use Rattle.hints.specs.HintView.{Tells}
@@ -17,10 +18,11 @@ genesis_size_limit = 16777216
 abbrev pub IsFileAnswer : List ℕ → Result Genesis GenesisFault → Type 0
 IsFileAnswer bytes answer = (IsUtf8 bytes × IsAnswer bytes answer) ⊎ (¬ (IsUtf8 bytes) × (answer ≡ Err faults.NotToml))
 
--- the file's bytes, which are not too many, say this genesis
-pub record IsGenesisOfFile (genesis : Genesis) (bytes : List ℕ) : Type 0 where
+-- the file's bytes, which are not too many, say this genesis, and by which scheme signatures are judged
+pub record IsDocumentOfFile (document : GenesisDocument) (bytes : List ℕ) : Type 0 where
   pub size : length bytes ≤ genesis_size_limit
-  pub answer : IsFileAnswer bytes (Ok genesis)
+  pub answer : IsFileAnswer bytes (Ok document.genesis)
+  pub names : NamesScheme bytes document.scheme
 
 -- no fault of the bytes
 abbrev pub IsReadFault : NoGenesis → Type 0

@@ -1,10 +1,11 @@
 //! The genesis file.
 
-ghost use Rattle.std.specs.Prelude.{◌≡◌, IfOk, IfErr, IfSome, None, false};
-ghost use Rattle.commands.specs.GenesisFile.{IsFileAnswer, IsGenesisOfFile, IsReadFault, IsNoGenesis, IsUnhinted};
+ghost use Rattle.std.specs.Prelude.{◌≡◌, Ok, Err, IfOk, IfErr, IfSome, MatchResult, None, false};
+ghost use Rattle.genesis.specs.Meaning.{NamesScheme};
+ghost use Rattle.commands.specs.GenesisFile.{IsFileAnswer, IsDocumentOfFile, IsReadFault, IsNoGenesis, IsUnhinted};
 ghost use Rattle.hints.specs.HintView.{Tells};
 
-use genesis::{Genesis, GenesisFault};
+use genesis::{GenesisDocument, GenesisFault};
 use hints::GenesisHint;
 use std::alloc::Global;
 use std::io::{Error, ErrorKind, Read};
@@ -25,12 +26,14 @@ pub enum NoGenesis {
     },
 }
 
-/// The genesis that the bytes of a file say. Bytes that are no text are no TOML.
-fn genesis_of_bytes(alloc: Global, bytes: &[u8]) -> Result<Genesis, GenesisFault>
-    ensures { IsFileAnswer bytes.now result }
+/// What the bytes of a file say: a genesis, and the scheme of its network. Bytes that are no text are no TOML.
+fn document_of_bytes(alloc: Global, bytes: &[u8]) -> Result<GenesisDocument, GenesisFault>
+    ensures answer { MatchResult result (λ document. IsFileAnswer bytes.now (Ok document.genesis))
+        (λ fault. IsFileAnswer bytes.now (Err fault)) }
+    ensures names { IfOk result (λ document. NamesScheme bytes.now document.scheme) }
 {
     match str::from_utf8(bytes) {
-        Ok(text) => Genesis::from_toml(alloc, text),
+        Ok(text) => GenesisDocument::from_toml(alloc, text),
         Err(_) => Err(GenesisFault::NotToml),
     }
 }
@@ -63,15 +66,16 @@ fn hint_of(alloc: Global, bytes: &[u8], explain: bool) -> Option<GenesisHint>
     }
 }
 
-/// The genesis that a reader gives, which is read to its end. Err where the reader fails, gives more bytes than
-/// [`MAX_GENESIS_SIZE`] or what is no genesis, or where memory runs out. What a fault is about is told only where it is
-/// to be explained, and there is memory for it. Takes time and memory in proportion to the bytes.
+/// The genesis that a reader gives, which is read to its end, with the scheme of its network. Err where the reader
+/// fails, gives more bytes than [`MAX_GENESIS_SIZE`] or what is no genesis, or where memory runs out. What a fault is
+/// about is told only where it is to be explained, and there is memory for it. Takes time and memory in proportion to
+/// the bytes.
 pub fn read_genesis<R: Read>(
     alloc: Global,
     reader: &mut R,
     explain: bool,
-) -> Result<Genesis, NoGenesis>
-    ensures ok { IfOk result (λ genesis. IfSome (R.remaining reader.old) (IsGenesisOfFile genesis)) }
+) -> Result<GenesisDocument, NoGenesis>
+    ensures ok { IfOk result (λ document. IfSome (R.remaining reader.old) (IsDocumentOfFile document)) }
     ensures fault { IfErr result (λ why. IfSome (R.remaining reader.old) (IsNoGenesis why)) }
     ensures unasked { explain ≡ false → IfErr result IsUnhinted }
 {
@@ -82,8 +86,8 @@ pub fn read_genesis<R: Read>(
     if bytes.len() as u64 > MAX_GENESIS_SIZE {
         return Err(NoGenesis::Unread);
     }
-    match genesis_of_bytes(alloc, &bytes) {
-        Ok(genesis) => Ok(genesis),
+    match document_of_bytes(alloc, &bytes) {
+        Ok(document) => Ok(document),
         Err(fault) => {
             let hint = hint_of(alloc, &bytes, explain);
             Err(NoGenesis::Fault { fault, hint })

@@ -26,3 +26,22 @@ pub enum Job<'a> {
         log: &'a str,
     },
 }
+
+impl<'a> Job<'a> {
+    /// The path of its genesis file.
+    pub(crate) fn genesis(&self) -> &'a str {
+        match self {
+            Job::Run { genesis, .. } => *genesis,
+            Job::Sim { genesis, .. } => *genesis,
+            Job::Replay { genesis, .. } => *genesis,
+        }
+    }
+
+    /// Whether more is to be told of a fault.
+    pub(crate) fn explains(&self) -> bool {
+        match self {
+            Job::Run { explain, .. } => *explain,
+            _ => false,
+        }
+    }
+}

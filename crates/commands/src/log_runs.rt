@@ -1,22 +1,21 @@
 //! Runs on a log, and what a log has.
 
 ghost use Rattle.std.specs.Prelude.{◌≡◌, ◌++◌, [], ℕ, false, IsOk, OnOk, IfOk, IfSome, IsErrOf, length};
-ghost use Rattle.model.specs.Signature.{test_verifies};
 ghost use Rattle.model.specs.Disk.{LeavesSince};
 ghost use Rattle.model.specs.Log.{OpensToBeginning};
 ghost use Rattle.immlog.specs.Left.{IsLeft, IsLook};
 ghost use Rattle.chain_core.specs.Held.{Held};
 ghost use Rattle.chain_core.specs.Immutable.{texts_of, immutable_texts};
 ghost use Rattle.scenario.specs.Handed.{HasRun};
+ghost use Rattle.commands.specs.Schemes.{verifies_by};
 
 use crate::descriptors::LAST_STANDARD;
 use crate::failure::Failure;
-use crate::program::genesis_of_file;
 use crate::recorded::Recorded;
 use chain_core::Core;
 use file_disk::FileDisk;
 use flushing::{Restart, flush};
-use genesis::Genesis;
+use genesis::{Genesis, GenesisDocument};
 use immlog::{AppendFault, Disk, Log, Look, LookFault, Sink, look_at};
 use scenario::ScenarioFault;
 use std::alloc::Global;
@@ -26,7 +25,7 @@ use std::io::{BufReader, ErrorKind, Read, Write};
 use std::os::fd::AsRawFd;
 use std::rt::Files;
 use std::thread::Threads;
-use witness_pool::TestScheme;
+use witness_pool::SigScheme;
 
 /// The log on a disk, which is made where the disk is empty. Its blocks are given to the sink.
 fn log_on<'a, R: AllocGlobal + Threads + Sync, D: Disk + Drop, K: Sink>(
@@ -142,7 +141,7 @@ fn log_of_file<'a, R: Files<File = File> + AllocGlobal + Threads + Sync, K: Sink
 }
 
 /// What a core of this genesis is made with, while a log is opened.
-fn restart_of<'a>(alloc: Global, genesis: &Genesis) -> Result<Restart<TestScheme>, Failure<'a>>
+fn restart_of<'a, S: SigScheme>(alloc: Global, genesis: &Genesis) -> Result<Restart<S>, Failure<'a>>
     ensures genesis { IfOk result (λ restart. restart.genesis ≡ genesis.now) }
     ensures blocks { IfOk result (λ restart. restart.blocks ≡ []) }
 {
@@ -157,10 +156,10 @@ fn restart_of<'a>(alloc: Global, genesis: &Genesis) -> Result<Restart<TestScheme
 
 /// The core on the blocks of a log that was opened. In a box it is dropped by a call, which keeps the proofs of what
 /// owns it short.
-fn core_of<'a>(
+fn core_of<'a, S: SigScheme>(
     alloc: Global,
-    restart: Restart<TestScheme>,
-) -> Result<Box<Core<TestScheme>>, Failure<'a>>
+    restart: Restart<S>,
+) -> Result<Box<Core<S>>, Failure<'a>>
     ensures genesis { IfOk result (λ core. core.value.genesis ≡ restart.genesis) }
     ensures blocks { IfOk result (λ core. texts_of core.value.opened ≡ restart.blocks) }
 {
@@ -190,26 +189,35 @@ fn ended<'a>(
 
 /// Runs a script on a core that was opened on the log's blocks, and puts its immutable blocks onto the log, also after
 /// a fault of the script, which is then told.
-fn run_on_log<'a, D: Disk, R: Read, W: Write>(
+fn run_on_log<'a, S: SigScheme, D: Disk, R: Read, W: Write>(
     alloc: Global,
-    genesis: &Genesis,
-    core: Core<TestScheme>,
+    document: &GenesisDocument,
+    core: Core<S>,
     log: &mut Log<D>,
     reader: &mut BufReader<R>,
     out: &mut W,
 ) -> Result<(), Failure<'a>>
-    requires genesis { core.genesis ≡ genesis.now }
+    requires scheme { S.verifies ≡ verifies_by document.now.scheme }
+    requires genesis { core.genesis ≡ document.now.genesis }
     requires blocks { texts_of core.opened ≡ log.old.blocks }
     requires sound { log.old.broken ≡ false }
     // The log then has the immutable blocks of a core to which the definitions' steps led.
-    ensures flushed { OnOk result ((after : Held) × HasRun core after
-        × (log.new.blocks ≡ immutable_texts test_verifies after)) }
+    ensures flushed { OnOk result ((after : Held) × HasRun S.verifies core after
+        × (log.new.blocks ≡ immutable_texts S.verifies after)) }
     // Whatever it answers, a crash at any moment since it was called leaves a log that isn't damaged, of a beginning of
     // these, with all that the log had.
-    ensures crash { (after : Held) × HasRun core after × LeavesSince (D.past log.old.disk) (D.past log.new.disk)
-        (D.moment log.new.disk) (OpensToBeginning (length log.old.blocks) (immutable_texts test_verifies after)) }
+    ensures crash { (after : Held) × HasRun S.verifies core after
+        × LeavesSince (D.past log.old.disk) (D.past log.new.disk) (D.moment log.new.disk)
+        (OpensToBeginning (length log.old.blocks) (immutable_texts S.verifies after)) }
 {
-    let (core, ran) = scenario::run_from(alloc, genesis, core, reader, out);
+    let (core, ran) = scenario::run_from(
+        alloc,
+        &document.genesis,
+        document.scheme,
+        core,
+        reader,
+        out,
+    );
     // What it was opened on begins its immutable blocks: a clause of this call.
     let _immutable = core.immutable();
     let flushed = flush(log, &core);
@@ -218,16 +226,17 @@ fn run_on_log<'a, D: Disk, R: Read, W: Write>(
 
 /// Runs the script of a file on a core that was opened on the log's blocks. What a fault is about is told where it is
 /// to be explained.
-fn run_script<'a, D: Disk, R: Files + AllocGlobal, W: Write>(
+fn run_script<'a, S: SigScheme, D: Disk, R: Files + AllocGlobal, W: Write>(
     rt: &R,
-    genesis: &Genesis,
-    core: Box<Core<TestScheme>>,
+    document: &GenesisDocument,
+    core: Box<Core<S>>,
     log: &mut Log<D>,
     path: &'a str,
     explain: bool,
     out: &mut W,
 ) -> Result<(), Failure<'a>>
-    requires genesis { core.value.genesis ≡ genesis.now }
+    requires scheme { S.verifies ≡ verifies_by document.now.scheme }
+    requires genesis { core.value.genesis ≡ document.now.genesis }
     requires blocks { texts_of core.value.opened ≡ log.old.blocks }
     requires sound { log.old.broken ≡ false }
 {
@@ -241,7 +250,7 @@ fn run_script<'a, D: Disk, R: Files + AllocGlobal, W: Write>(
         return Err(Failure::Scenario(ScenarioFault::OutOfMemory));
     };
     let core = Box::into_inner(core);
-    let ran = run_on_log(rt.alloc(), genesis, core, log, &mut reader, out);
+    let ran = run_on_log(rt.alloc(), document, core, log, &mut reader, out);
     drop(reader);
     match ran {
         Ok(()) => Ok(()),
@@ -249,33 +258,35 @@ fn run_script<'a, D: Disk, R: Files + AllocGlobal, W: Write>(
     }
 }
 
-/// Runs the script of a file under the genesis of another, on the log of a third, which is made where it is missing.
-/// The genesis is read first, then the log is opened, then the script is run. After that, also after a fault of the
-/// script, the blocks that are never rolled back any more are put onto the log.
-pub fn run_logged<'a, R: Files<File = File> + AllocGlobal + Threads + Sync, W: Write>(
+/// Runs the script of a file under this genesis, on the log of another, which is made where it is missing. The log is
+/// opened first, then the script is run. After that, also after a fault of the script, the blocks that are never rolled
+/// back any more are put onto the log.
+pub fn run_logged<'a, S: SigScheme, R: Files<File = File> + AllocGlobal + Threads + Sync, W: Write>(
     rt: &R,
-    genesis: &'a str,
+    document: &GenesisDocument,
     script: &'a str,
     log: &'a str,
     explain: bool,
     out: &mut W,
-) -> Result<(), Failure<'a>> {
-    let genesis = genesis_of_file(rt, genesis, explain)?;
-    let mut restart = restart_of(rt.alloc(), &genesis)?;
+) -> Result<(), Failure<'a>>
+    requires { S.verifies ≡ verifies_by document.now.scheme }
+{
+    let mut restart = restart_of::<S>(rt.alloc(), &document.genesis)?;
     let mut log = log_of_file(rt, log, true, &mut restart)?;
     let core = core_of(rt.alloc(), restart)?;
-    run_script(rt, &genesis, core, &mut log, script, explain, out)
+    run_script(rt, document, core, &mut log, script, explain, out)
 }
 
-/// Opens the log of a file under the genesis of another, and prints how high its chain is. Has the log until then.
-pub fn replay<'a, R: Files<File = File> + AllocGlobal + Threads + Sync, W: Write>(
+/// Opens the log of a file under this genesis, and prints how high its chain is. Has the log until then.
+pub fn replay<'a, S: SigScheme, R: Files<File = File> + AllocGlobal + Threads + Sync, W: Write>(
     rt: &R,
-    genesis: &'a str,
+    document: &GenesisDocument,
     log: &'a str,
     out: &mut W,
-) -> Result<(), Failure<'a>> {
-    let genesis = genesis_of_file(rt, genesis, false)?;
-    let mut restart = restart_of(rt.alloc(), &genesis)?;
+) -> Result<(), Failure<'a>>
+    requires { S.verifies ≡ verifies_by document.now.scheme }
+{
+    let mut restart = restart_of::<S>(rt.alloc(), &document.genesis)?;
     let _log = log_of_file(rt, log, false, &mut restart)?;
     let core = core_of(rt.alloc(), restart)?;
     match write!(out, "height {}\n", core.tip().number) {

@@ -2,8 +2,10 @@
 
 ghost use Rattle.std.specs.Prelude.{◌≡◌, ◌≢◌, ◌≤◌, ◌⊎◌, IfErr, IfSome, OnOk};
 ghost use Rattle.clap.specs.Words.{kind_of};
-ghost use Rattle.scenario.specs.Run.{script_network, EndsWell};
+ghost use Rattle.model.specs.Ledger.{network_of};
+ghost use Rattle.scenario.specs.Run.{EndsWell};
 ghost use Rattle.commands.specs.Ending.{EndsBySome};
+ghost use Rattle.commands.specs.Schemes.{verifies_by};
 
 use crate::command_line::job;
 use crate::failure::Failure;
@@ -13,7 +15,7 @@ use crate::log_runs::{replay, run_logged};
 use crate::recorded::Recorded;
 use clap::Error;
 use clap::error::ErrorKind;
-use genesis::Genesis;
+use genesis::{GenesisDocument, Scheme};
 use scenario::ScenarioFault;
 use simulation::{Clients, sim};
 use std::alloc::{AllocError, Global};
@@ -22,7 +24,7 @@ use std::io::{BufReader, Read, Write};
 use std::rt::Files;
 use std::sync::Wait;
 use std::thread::Threads;
-use witness_pool::OpenGate;
+use witness_pool::{Ed25519, OpenGate, SigScheme, TestScheme};
 
 /// Why a genesis file of this path says no genesis.
 fn genesis_failure<'a>(path: &'a str, why: NoGenesis) -> Failure<'a> {
@@ -39,82 +41,85 @@ fn genesis_failure<'a>(path: &'a str, why: NoGenesis) -> Failure<'a> {
     }
 }
 
-/// The genesis that a file says. What a fault is about is told where it is to be explained.
-pub fn genesis_of_file<'a, R: Files + AllocGlobal>(
+/// The genesis that a file says, and the scheme of its network. What a fault is about is told where it is to be
+/// explained.
+fn genesis_of_file<'a, R: Files + AllocGlobal>(
     rt: &R,
     path: &'a str,
     explain: bool,
-) -> Result<Genesis, Failure<'a>> {
+) -> Result<GenesisDocument, Failure<'a>> {
     let Ok(file) = File::open(rt, path) else {
         return Err(Failure::CannotRead(path));
     };
     // One byte more than a genesis file may have makes it too large, so a file without end takes no more memory.
     let mut bytes = file.take(MAX_GENESIS_SIZE + 1);
     match read_genesis(rt.alloc(), &mut bytes, explain) {
-        Ok(genesis) => Ok(genesis),
+        Ok(document) => Ok(document),
         Err(why) => Err(genesis_failure(path, why)),
     }
 }
 
 /// Runs the script that a reader gives, read through a buffer, on a network of this genesis.
-fn run_reader<R: Read, W: Write>(
+fn run_reader<S: SigScheme, R: Read, W: Write>(
     alloc: Global,
-    genesis: Genesis,
+    document: GenesisDocument,
     reader: &mut R,
     out: &mut W,
 ) -> Result<(), ScenarioFault>
+    requires { S.verifies ≡ verifies_by document.scheme }
+    // What is signed and what is judged goes by the scheme of the genesis file.
     ensures ok { OnOk result (IfSome (R.remaining reader.old)
-        (λ text. EndsWell (script_network genesis) text (W.contents out.old) (W.contents out.new))) }
+        (λ text. EndsWell document.scheme (network_of document.genesis (verifies_by document.scheme)) text
+        (W.contents out.old) (W.contents out.new))) }
     ensures fault { IfErr result (λ why. IfSome (R.remaining reader.old)
-        (λ text. EndsBySome (script_network genesis) text (W.contents out.old) (W.contents out.new) why)) }
+        (λ text. EndsBySome document.scheme (network_of document.genesis (verifies_by document.scheme)) text
+        (W.contents out.old) (W.contents out.new) why)) }
 {
+    let GenesisDocument { genesis, scheme } = document;
     let Ok(mut reader) = BufReader::new(alloc, reader) else {
         return Err(ScenarioFault::OutOfMemory);
     };
-    scenario::run(alloc, genesis, &mut reader, out)
+    scenario::run::<S, _, _>(alloc, genesis, scheme, &mut reader, out)
 }
 
 /// Runs the script of a file on a network of this genesis. What a fault is about is told where it is to be explained.
-fn run_file<'a, R: Files + AllocGlobal, W: Write>(
+fn run_file<'a, S: SigScheme, R: Files + AllocGlobal, W: Write>(
     rt: &R,
-    genesis: Genesis,
+    document: GenesisDocument,
     path: &'a str,
     explain: bool,
     out: &mut W,
-) -> Result<(), Failure<'a>> {
+) -> Result<(), Failure<'a>>
+    requires { S.verifies ≡ verifies_by document.scheme }
+{
     let Ok(file) = File::open(rt, path) else {
         return Err(Failure::CannotRead(path));
     };
     // One byte more than a script may have makes its line a bad one, so a line without end takes no more memory.
     let script = file.take(scenario::MAX_SCRIPT_SIZE + 1);
     let mut script = Recorded::new(rt.alloc(), script, explain);
-    match run_reader(rt.alloc(), genesis, &mut script, out) {
+    match run_reader::<S, _, _>(rt.alloc(), document, &mut script, out) {
         Ok(()) => Ok(()),
         Err(fault) => Err(Failure::Scenario(fault).explained(rt.alloc(), script.kept())),
     }
 }
 
-/// Runs the script of a file under the genesis of another. The genesis is read first, and where it is none the script
-/// isn't opened.
-fn run_files<'a, R: Files + AllocGlobal, W: Write>(
-    rt: &R,
-    genesis: &'a str,
-    script: &'a str,
-    explain: bool,
-    out: &mut W,
-) -> Result<(), Failure<'a>> {
-    let genesis = genesis_of_file(rt, genesis, explain)?;
-    run_file(rt, genesis, script, explain, out)
-}
-
 /// Runs the simulation that the script of a file says, with so many clients, on a network of this genesis.
-fn sim_file<'a, R: Files + AllocGlobal + Threads + Wait + Sync, W: Write>(
+fn sim_file<
+    'a,
+    S: SigScheme + Send + Sync,
+    R: Files + AllocGlobal + Threads + Wait + Sync,
+    W: Write,
+>(
     rt: &R,
-    genesis: Genesis,
+    document: GenesisDocument,
     path: &'a str,
     clients: Clients,
     out: &mut W,
-) -> Result<(), Failure<'a>> {
+) -> Result<(), Failure<'a>>
+    requires { S.verifies ≡ verifies_by document.scheme }
+{
+    let GenesisDocument { genesis, scheme } = document;
     let Ok(file) = File::open(rt, path) else {
         return Err(Failure::CannotRead(path));
     };
@@ -123,22 +128,10 @@ fn sim_file<'a, R: Files + AllocGlobal + Threads + Wait + Sync, W: Write>(
     let Ok(mut reader) = BufReader::new(rt.alloc(), script) else {
         return Err(Failure::Scenario(ScenarioFault::OutOfMemory));
     };
-    match sim(rt, genesis, &mut reader, out, clients, &OpenGate) {
+    match sim::<S, _, _, _, _>(rt, genesis, scheme, &mut reader, out, clients, &OpenGate) {
         Ok(()) => Ok(()),
         Err(fault) => Err(Failure::Scenario(fault)),
     }
-}
-
-/// Runs the simulation that the script of a file says, with so many clients, under the genesis of another.
-fn sim_files<'a, R: Files + AllocGlobal + Threads + Wait + Sync, W: Write>(
-    rt: &R,
-    genesis: &'a str,
-    script: &'a str,
-    clients: Clients,
-    out: &mut W,
-) -> Result<(), Failure<'a>> {
-    let genesis = genesis_of_file(rt, genesis, false)?;
-    sim_file(rt, genesis, script, clients, out)
 }
 
 /// Tells why a command line is no job, and answers the status.
@@ -165,6 +158,60 @@ fn refuse<O: Write, E: Write>(error: &Error, out: &mut O, err: &mut E) -> u8
     }
 }
 
+/// Does a job by this scheme, which is that of its genesis file.
+fn do_by<
+    'a,
+    S: SigScheme + Send + Sync,
+    R: Files<File = File> + AllocGlobal + Threads + Wait + Sync,
+    O: Write,
+>(rt: &R, job: &Job<'a>, document: GenesisDocument, out: &mut O) -> Result<(), Failure<'a>>
+    requires { S.verifies ≡ verifies_by document.scheme }
+{
+    match job {
+        Job::Run {
+            script,
+            log: None,
+            explain,
+            ..
+        } => run_file::<S, _, _>(rt, document, *script, *explain, out),
+        Job::Run {
+            script,
+            log: Some(log),
+            explain,
+            ..
+        } => run_logged::<S, _, _>(rt, &document, *script, *log, *explain, out),
+        Job::Sim {
+            script,
+            clients,
+            ..
+        } => sim_file::<S, _, _>(rt, document, *script, *clients, out),
+        Job::Replay { log, .. } => replay::<S, _, _>(rt, &document, *log, out),
+    }
+}
+
+/// Does a job by the scheme that its genesis file names. Here alone the core's scheme is chosen.
+fn do_named<'a, R: Files<File = File> + AllocGlobal + Threads + Wait + Sync, O: Write>(
+    rt: &R,
+    job: &Job<'a>,
+    document: GenesisDocument,
+    out: &mut O,
+) -> Result<(), Failure<'a>> {
+    match document.scheme {
+        Scheme::Test => do_by::<TestScheme, _, _>(rt, job, document, out),
+        Scheme::Ed25519 => do_by::<Ed25519, _, _>(rt, job, document, out),
+    }
+}
+
+/// Does a job. Its genesis file is read first, and where that says none no other file is opened.
+fn do_read<'a, R: Files<File = File> + AllocGlobal + Threads + Wait + Sync, O: Write>(
+    rt: &R,
+    job: &Job<'a>,
+    out: &mut O,
+) -> Result<(), Failure<'a>> {
+    let document = genesis_of_file(rt, job.genesis(), job.explains())?;
+    do_named(rt, job, document, out)
+}
+
 /// Does a job, and answers the status: 0 where it was done, and else 1 with one line on standard error, or two where a
 /// fault is to be explained.
 fn do_job<R: Files<File = File> + AllocGlobal + Threads + Wait + Sync, O: Write, E: Write>(
@@ -176,26 +223,7 @@ fn do_job<R: Files<File = File> + AllocGlobal + Threads + Wait + Sync, O: Write,
     ensures status { result ≤ 1 }
     ensures quiet { result ≡ 0 → err.new ≡ err.old }
 {
-    match job {
-        Job::Run {
-            genesis,
-            script,
-            log: None,
-            explain,
-        } => tell(run_files(rt, *genesis, *script, *explain, out), err),
-        Job::Run {
-            genesis,
-            script,
-            log: Some(log),
-            explain,
-        } => tell(run_logged(rt, *genesis, *script, *log, *explain, out), err),
-        Job::Sim {
-            genesis,
-            script,
-            clients,
-        } => tell(sim_files(rt, *genesis, *script, *clients, out), err),
-        Job::Replay { genesis, log } => tell(replay(rt, *genesis, *log, out), err),
-    }
+    tell(do_read(rt, job, out), err)
 }
 
 /// Tells why a job wasn't done, where it wasn't, and answers the status.

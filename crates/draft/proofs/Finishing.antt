@@ -12,10 +12,8 @@ use Rattle.tx.specs.Parts.{Parts, IsTxOf}
 use Rattle.tx.specs.View.{input_of, output_of}
 use Rattle.tx.proofs.ForCallers.{same_list}
 use Rattle.draft.specs.declared.draft.Draft.{Draft as CodeDraft}
-use Rattle.draft.specs.declared.signer.Signer.{Signer as CodeSigner}
 use Rattle.draft.specs.declared.unsigned.Unsigned.{Unsigned}
-use Rattle.draft.specs.Draft.{Draft, IsTxOfDraft, IsOutputOf, witness_by, parts_with}
-use Rattle.draft.specs.SignerView.{signer_of}
+use Rattle.draft.specs.Draft.{Draft, Signer, IsTxOfDraft, IsOutputOf, witness_by, parts_with}
 use Rattle.draft.specs.UnsignedView.{parts_of_unsigned}
 use Rattle.draft.specs.View.{IsDraftOf}
 
@@ -24,7 +22,7 @@ ok_as P Q (Ok x) each h = each x h
 ok_as P Q (Err e) each h = tt
 
 -- the parts that were taken out of a draft
-pub record AreTaken (code : CodeDraft) (u : Unsigned) (by : List CodeSigner) (supply : List Script) : Type 0 where
+pub record AreTaken {K : Type 0} (code : CodeDraft K) (u : Unsigned) (by : List K) (supply : List Script) : Type 0 where
   pub inputs : u.inputs.items ≡ code.inputs.items.items
   pub outputs : u.outputs.items ≡ code.outputs.items
   pub fee : u.fee ≡ unwrap_or code.fee 0
@@ -33,9 +31,9 @@ pub record AreTaken (code : CodeDraft) (u : Unsigned) (by : List CodeSigner) (su
   pub signers : by ≡ code.signers.items.items
   pub scripts : supply ≡ code.scripts.items.items
 
-pub finished : (code : CodeDraft) (d : Draft) (u : Unsigned) (signers : List CodeSigner) (scripts : List Script) → IsDraftOf code d → AreTaken code u signers scripts → (tx : Transaction)
+pub finished : {K : Type 0} (signer_of : K → Signer) (code : CodeDraft K) (d : Draft) (u : Unsigned) (signers : List K) (scripts : List Script) → IsDraftOf signer_of code d → AreTaken code u signers scripts → (tx : Transaction)
     → IsTxOf tx (parts_of_unsigned u (map (witness_by (transaction_id_of tx)) (map signer_of signers)) scripts) → IsTxOfDraft d tx
-finished code d u signers scripts s taken tx of =
+finished signer_of code d u signers scripts s taken tx of =
     let id : List ℕ = transaction_id_of tx in
     let inputs : map input_of u.inputs.items ≡ d.inputs = ap (map input_of) taken.inputs ∙ sym s.inputs.items in
     let fee : u.fee ≡ unwrap_or d.fee 0 = taken.fee ∙ ap (λ (f : Option ℕ). unwrap_or f 0) (sym s.fee) in

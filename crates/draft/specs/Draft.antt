@@ -1,12 +1,11 @@
 -- A transaction in the making (this project's own): the parts of which it is to be made, what may be added to them, and
 -- which transactions have just these parts.
 use Rattle.std.specs.Prelude.{◌≡◌, ℕ, ◌<◌, ◌≤◌, nat_lt, nat_le, ℤ, pos, negsuc, Bool, false, ◌==◌, ◌||◌, List, []}
-use Rattle.std.specs.Prelude.{◌∷◌, ◌++◌, length, map, replicate, Option, Some, None, is_some, unwrap_or, bytes_eq}
+use Rattle.std.specs.Prelude.{◌∷◌, ◌++◌, length, map, Option, Some, None, is_some, unwrap_or, bytes_eq}
 use Rattle.std.specs.Prelude.{if◌then◌else◌}
 use Rattle.std.specs.List.{list_any, count_by, AllZip}
-use Rattle.sha2.specs.Sha256.{sha256}
 use Rattle.model.specs.Cbor.{nesting}
-use Rattle.model.specs.Limits.{script_nesting_limit, signature_size, name_size_limit, output_limit}
+use Rattle.model.specs.Limits.{script_nesting_limit, name_size_limit, output_limit}
 use Rattle.model.specs.Script.{Script, item_of_script, script_hash_of}
 use Rattle.model.specs.Transaction.{Address, Input, Output, KeyWitness, Transaction, transaction_id_of}
 use Rattle.model.specs.Value.{Mint}
@@ -23,10 +22,10 @@ pub record DraftOutput : Type 0 where
   pub coin : ℕ
   pub assets : List (AssetQuantity ℕ)
 
--- a key that is to sign, and whether its signature is to be good
+-- who is to sign: a public key, and the signature that it makes of a message
 pub record Signer : Type 0 where
   pub key : List ℕ
-  pub good : Bool
+  pub signs : (message : List ℕ) → List ℕ
 
 -- the parts, in the order in which they were added
 pub record Draft : Type 0 where
@@ -160,17 +159,9 @@ IsSound d = AreSound d.inputs d.outputs d.mint d.signers d.scripts
 
 -- ---- the transaction
 
--- the one good signature of the test scheme: the digest of the key followed by the message, twice
-abbrev pub good_signature : (key message : List ℕ) → List ℕ
-good_signature key message = sha256 (key ++ message) ++ sha256 (key ++ message)
-
--- what a signer makes of an identifier: the good signature, or 64 zero bytes
+-- what a signer makes of an identifier
 abbrev pub witness_by : List ℕ → Signer → KeyWitness
-witness_by id signer =
-    record {
-      key = signer.key;
-      signature = if signer.good then good_signature signer.key id else replicate signature_size 0;
-    }
+witness_by id signer = record { key = signer.key; signature = signer.signs id }
 
 -- the output has this address, this coin and just these assets
 pub record IsOutputOf (draft : DraftOutput) (output : Output) : Type 0 where

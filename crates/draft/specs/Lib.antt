@@ -1,4 +1,5 @@
 pub mod Draft
+pub mod Signers
 pub mod SignerView
 pub mod UnsignedView
 pub mod Refusal

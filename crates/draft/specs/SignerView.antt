@@ -1,13 +1,15 @@
--- Which signers of the definitions those of the code stand for.
-use Rattle.std.specs.Prelude.{Bool, true, false}
-use Rattle.draft.specs.declared.signer.Signer.{Signer as CodeSigner}
-use Rattle.draft.specs.declared.signer.Signing.{Signing}
+-- Which signers of the definitions those of the test scheme stand for.
+use Rattle.draft.specs.declared.signer.TestSigner.{TestSigner}
 use Rattle.draft.specs.declared.signer.Signing.TheVariants.{Good, Bad}
+use Rattle.draft.specs.declared.signer.Signing.{Signing}
 use Rattle.draft.specs.Draft.{Signer}
+use Rattle.draft.specs.Signers.{good_signer, bad_signer}
+use Rattle.std.specs.Prelude.{ℕ, List}
 
-abbrev pub is_good : Signing → Bool
-is_good Good = true
-is_good Bad = false
+-- how the key signs
+abbrev pub signer_by : (key : List ℕ) → Signing → Signer
+signer_by key Good = good_signer key
+signer_by key Bad = bad_signer key
 
-abbrev pub signer_of : CodeSigner → Signer
-signer_of s = record { key = s.key; good = is_good s.signing }
+abbrev pub test_signer_of : TestSigner → Signer
+test_signer_of s = signer_by s.key s.signing

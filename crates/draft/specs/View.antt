@@ -14,9 +14,8 @@ use Rattle.tx.specs.declared.input.Input.{Input as CodeInput}
 use Rattle.draft.specs.declared.draft.Draft.{Draft as CodeDraft}
 use Rattle.draft.specs.declared.draft_fault.DraftFault.{DraftFault}
 use Rattle.draft.specs.declared.keyed.Keyed.{Keyed}
-use Rattle.draft.specs.Draft.{Draft, IsOutputOf, IsSound, has_input, has_asset, has_key, has_hash}
+use Rattle.draft.specs.Draft.{Draft, Signer, IsOutputOf, IsSound, has_input, has_asset, has_key, has_hash}
 use Rattle.draft.specs.Refusal.{IsRefusal}
-use Rattle.draft.specs.SignerView.{signer_of}
 
 -- ---- the orders of the keys
 
@@ -40,8 +39,8 @@ pub record Holds {K T X : Type 0} (cmp : K → K → Ordering) (view : T → X) 
   pub items : parts ≡ map view code.items.items
   pub keys : (key : K) → contains cmp code.keys key ≡ has key parts
 
--- the draft of the code has the parts of the draft, which have no fault
-pub record IsDraftOf (code : CodeDraft) (d : Draft) : Type 0 where
+-- the draft of the code, whose signers stand for these, has the parts of the draft, which have no fault
+pub record IsDraftOf {K : Type 0} (signer_of : K → Signer) (code : CodeDraft K) (d : Draft) : Type 0 where
   pub inputs : Holds code_input_cmp input_of (λ q. has_input (input_of q)) code.inputs d.inputs
   pub outputs : AllZip IsOutputOf d.outputs (map output_of code.outputs.items)
   pub fee : d.fee ≡ code.fee
@@ -53,17 +52,20 @@ pub record IsDraftOf (code : CodeDraft) (d : Draft) : Type 0 where
   pub sound : IsSound d
 
 -- the code stands for the draft with the part
-pub record IsWith (wanted : Option Draft) (new : CodeDraft) : Type 0 where
+pub record IsWith {K : Type 0} (signer_of : K → Signer) (wanted : Option Draft) (new : CodeDraft K) : Type 0 where
   pub draft : Draft
   pub is_wanted : wanted ≡ Some draft
-  pub stands : IsDraftOf new draft
+  pub stands : IsDraftOf signer_of new draft
 
 -- the code stands for the draft as before, and the part is refused
-pub record IsWithout (d : Draft) (wanted : Option Draft) (fault : DraftFault) (new : CodeDraft) : Type 0 where
+pub record IsWithout {K : Type 0} (signer_of : K → Signer) (d : Draft) (wanted : Option Draft) (fault : DraftFault)
+    (new : CodeDraft K) : Type 0 where
   pub refusal : IsRefusal fault wanted
-  pub stands : IsDraftOf new d
+  pub stands : IsDraftOf signer_of new d
 
 -- what came of adding a part, for each draft that the code stood for
-abbrev pub Adds : {T : Type 0} → (Draft → Option Draft) → (old new : CodeDraft) → Result T DraftFault → Type 0
-Adds add old new (Ok done) = (d : Draft) → IsDraftOf old d → IsWith (add d) new
-Adds add old new (Err fault) = (d : Draft) → IsDraftOf old d → IsWithout d (add d) fault new
+abbrev pub Adds : {K T : Type 0} → (K → Signer) → (Draft → Option Draft) → (old new : CodeDraft K)
+    → Result T DraftFault → Type 0
+Adds signer_of add old new (Ok done) = (d : Draft) → IsDraftOf signer_of old d → IsWith signer_of (add d) new
+Adds signer_of add old new (Err fault) =
+    (d : Draft) → IsDraftOf signer_of old d → IsWithout signer_of d (add d) fault new

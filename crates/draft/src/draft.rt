@@ -10,12 +10,11 @@ ghost use Rattle.draft.specs.Draft.{empty_draft, HasNoFault, IsTxOfDraft};
 ghost use Rattle.draft.specs.Draft.{with_input, with_output, with_fee, with_start, with_end, with_minted};
 ghost use Rattle.draft.specs.Draft.{with_signer, with_script};
 ghost use Rattle.draft.specs.View.{IsDraftOf, Adds};
-ghost use Rattle.draft.specs.SignerView.{is_good};
 ghost use Rattle.draft.specs.declared.draft_fault.DraftFault.TheVariants.{NotBuilt};
 
 use crate::draft_fault::DraftFault;
 use crate::keyed::Keyed;
-use crate::signer::{Signer, Signing};
+use crate::signer::Signer;
 use crate::unsigned::{Unsigned, mint_of};
 use crate::values::value_with;
 use ident::ScriptHash;
@@ -33,11 +32,11 @@ fn append(outputs: &mut Vec<Output>, output: Output) -> Result<(), AllocError>
     Ok(())
 }
 
-/// A transaction in the making: parts are added one by one, each refused where no transaction has it beside those that
-/// are there. A part that is refused leaves the draft as it was, and what is refused for itself is told before memory
-/// is asked for.
+/// A transaction in the making, with signers of one kind: parts are added one by one, each refused where no
+/// transaction has it beside those that are there. A part that is refused leaves the draft as it was, and what is
+/// refused for itself is told before memory is asked for.
 #[derive(Drop)]
-pub struct Draft {
+pub struct Draft<K> {
     alloc: Global,
     inputs: Keyed<Input, Input>,
     outputs: Vec<Output>,
@@ -45,14 +44,14 @@ pub struct Draft {
     start: Option<u64>,
     end: Option<u64>,
     mint: Keyed<(ScriptHash, Vec<u8>), AssetQuantity<i64>>,
-    signers: Keyed<[u8; 32], Signer>,
+    signers: Keyed<[u8; 32], K>,
     scripts: Keyed<ScriptHash, Script>,
 }
 
-impl Draft {
+impl<K: Signer + Drop> Draft<K> {
     /// A draft without parts. Takes no memory.
-    pub fn new(alloc: Global) -> Draft
-        ensures { IsDraftOf result empty_draft }
+    pub fn new(alloc: Global) -> Draft<K>
+        ensures { IsDraftOf K.signer result empty_draft }
     {
         Draft {
             alloc,
@@ -69,7 +68,7 @@ impl Draft {
 
     /// Adds an input. NotBuilt where it is there. Logarithmic in the inputs.
     pub fn spend(&mut self, input: Input) -> Result<(), DraftFault>
-        ensures { Adds (with_input (input_of input)) self.old self.new result }
+        ensures { Adds K.signer (with_input (input_of input)) self.old self.new result }
     {
         if self.inputs.has(&input) {
             return Err(DraftFault::NotBuilt);
@@ -87,7 +86,8 @@ impl Draft {
         coin: u64,
         assets: Vec<AssetQuantity<u64>>,
     ) -> Result<(), DraftFault>
-        ensures { Adds (with_output (address_of address) coin (map asset_of assets.items)) self.old self.new result }
+        ensures { Adds K.signer (with_output (address_of address) coin (map asset_of assets.items)) self.old self.new
+            result }
     {
         if self.outputs.len() >= MAX_OUTPUTS {
             return Err(DraftFault::NotBuilt);
@@ -99,7 +99,7 @@ impl Draft {
 
     /// Sets the fee, in lovelace. NotBuilt where it is set. Takes no memory. Constant time.
     pub fn set_fee(&mut self, fee: u64) -> Result<(), DraftFault>
-        ensures adds { Adds (with_fee fee) self.old self.new result }
+        ensures adds { Adds K.signer (with_fee fee) self.old self.new result }
         ensures refused { IfErr result (λ fault. fault ≡ NotBuilt) }
     {
         if self.fee.is_some() {
@@ -111,7 +111,7 @@ impl Draft {
 
     /// Sets the slot from which on the transaction holds. NotBuilt where it is set. Takes no memory. Constant time.
     pub fn set_start(&mut self, slot: u64) -> Result<(), DraftFault>
-        ensures adds { Adds (with_start slot) self.old self.new result }
+        ensures adds { Adds K.signer (with_start slot) self.old self.new result }
         ensures refused { IfErr result (λ fault. fault ≡ NotBuilt) }
     {
         if self.start.is_some() {
@@ -123,7 +123,7 @@ impl Draft {
 
     /// Sets the slot before which the transaction holds. NotBuilt where it is set. Takes no memory. Constant time.
     pub fn set_end(&mut self, slot: u64) -> Result<(), DraftFault>
-        ensures adds { Adds (with_end slot) self.old self.new result }
+        ensures adds { Adds K.signer (with_end slot) self.old self.new result }
         ensures refused { IfErr result (λ fault. fault ≡ NotBuilt) }
     {
         if self.end.is_some() {
@@ -141,7 +141,7 @@ impl Draft {
         name: Vec<u8>,
         quantity: i64,
     ) -> Result<(), DraftFault>
-        ensures { Adds (with_minted (record { policy = policy.bytes; name = name.items; quantity = quantity }))
+        ensures { Adds K.signer (with_minted (record { policy = policy.bytes; name = name.items; quantity = quantity }))
             self.old self.new result }
     {
         if name.len() > MAX_NAME || quantity == 0 {
@@ -161,22 +161,23 @@ impl Draft {
         Ok(())
     }
 
-    /// Adds a key that is to sign the transaction's identifier. NotBuilt where the key is there, however it is to sign.
+    /// Adds who is to sign the transaction's identifier. NotBuilt where the public key is there, whoever signs with it.
     /// Logarithmic in the keys.
-    pub fn sign(&mut self, key: [u8; 32], signing: Signing) -> Result<(), DraftFault>
-        ensures { Adds (with_signer (record { key = key; good = is_good signing })) self.old self.new result }
+    pub fn sign(&mut self, signer: K) -> Result<(), DraftFault>
+        ensures { Adds K.signer (with_signer (K.signer signer)) self.old self.new result }
     {
+        let key = signer.public_key();
         if self.signers.has(&key) {
             return Err(DraftFault::NotBuilt);
         }
-        self.signers.add(key, Signer { key, signing })?;
+        self.signers.add(key, signer)?;
         Ok(())
     }
 
     /// Adds a script, which is copied once, after the tests. NotBuilt where a script with its hash is there, and where
     /// its item nests deeper than 61. Linear in the script and logarithmic in the scripts that are there.
     pub fn supply(&mut self, script: &Script) -> Result<(), DraftFault>
-        ensures { Adds (with_script script.now) self.old self.new result }
+        ensures { Adds K.signer (with_script script.now) self.old self.new result }
     {
         let hash = script.hash();
         if script.nesting() > MAX_SCRIPT_NESTING || self.scripts.has(&hash) {
@@ -192,10 +193,10 @@ impl Draft {
     /// fault. Sorts n parts in n log n comparisons. Inputs, outputs and mint are copied once, and their text is written
     /// twice: first to know the identifier that is signed.
     pub fn finish(self) -> Result<Tx, AllocError>
-        ensures tx { (draft : model.Draft) → IsDraftOf self draft → IfOk result (λ tx. IsTxOfDraft draft tx) }
+        ensures tx { (draft : model.Draft) → IsDraftOf K.signer self draft → IfOk result (λ tx. IsTxOfDraft draft tx) }
         ensures spelled { IfOk result (λ tx. SpellsTransaction tx (text_of (item_of_transaction tx))) }
         // Neither mint nor transaction is refused for a fault of the parts, so want of memory alone ends it.
-        ensures err { OnErr result ((draft : model.Draft) → IsDraftOf self draft → HasNoFault draft) }
+        ensures err { OnErr result ((draft : model.Draft) → IsDraftOf K.signer self draft → HasNoFault draft) }
     {
         let mint = mint_of(self.alloc, self.mint.into_items())?;
         let unsigned = Unsigned {

@@ -2,7 +2,7 @@
 
 ghost use Rattle.std.specs.Prelude.{IsTrue, ℕ, List};
 ghost use Rattle.model.specs.Signature.{test_verifies};
-ghost use Rattle.draft.specs.Draft.{good_signature};
+ghost use Rattle.draft.specs.Signers.{good_signature};
 
 /// The test scheme finds the good signature of a message good, for whichever key.
 pub fn good_signature_verifies()

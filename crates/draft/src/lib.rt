@@ -9,7 +9,7 @@
 //! draft.pay(address, 910, Vec::new(alloc))?; // 910 lovelace, and no other assets
 //! draft.set_fee(290)?;
 //! let again = draft.set_fee(300); // Err(DraftFault::NotBuilt), and the fee is still 290 lovelace
-//! draft.sign(key, Signing::Good)?;
+//! draft.sign(TestSigner { key, signing: Signing::Good })?; // or an `ed25519::SecretKey`
 //! let tx = draft.finish()?; // its text has 190 bytes, and its own identifier is signed
 //! ```
 #![tactic(auto)]
@@ -25,4 +25,4 @@ mod values;
 pub use draft::Draft;
 pub use draft_fault::DraftFault;
 pub use laws::good_signature_verifies;
-pub use signer::Signing;
+pub use signer::{Signer, Signing, TestSigner};

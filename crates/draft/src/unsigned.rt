@@ -11,10 +11,9 @@ ghost use Rattle.tx.specs.Making.{parts_of};
 ghost use Rattle.tx.specs.Parts.{IsTxOf};
 ghost use Rattle.tx.specs.View.{witness_of};
 ghost use Rattle.draft.specs.Draft.{witness_by};
-ghost use Rattle.draft.specs.SignerView.{signer_of};
 ghost use Rattle.draft.specs.UnsignedView.{parts_of_unsigned};
 
-use crate::signer::Signer;
+use crate::signer::{Signer, witness};
 use ident::TxId;
 use std::alloc::{AllocError, Global};
 use timelock::{Interval, Script};
@@ -32,16 +31,16 @@ pub struct Unsigned {
 }
 
 /// What the signers make of an identifier.
-fn witnesses_by(
+fn witnesses_by<K: Signer>(
     alloc: Global,
-    signers: &[Signer],
+    signers: &[K],
     id: &[u8; 32],
 ) -> Result<Vec<KeyWitness>, AllocError>
-    ensures { IfOk result (λ made. map witness_of made.items ≡ map (witness_by id.now) (map signer_of signers.now)) }
+    ensures { IfOk result (λ made. map witness_of made.items ≡ map (witness_by id.now) (map K.signer signers.now)) }
 {
     let mut made = Vec::with_capacity(alloc, signers.len())?;
     for signer in signers {
-        made.push(signer.witness(id))?;
+        made.push(witness(signer, id))?;
     }
     Ok(made)
 }
@@ -83,14 +82,14 @@ impl Unsigned {
     }
 
     /// The transaction of these parts with scripts, whose own identifier the signers signed.
-    pub fn signed(
+    pub fn signed<K: Signer>(
         self,
         alloc: Global,
-        signers: &[Signer],
+        signers: &[K],
         scripts: Vec<Script>,
     ) -> Result<Tx, AllocError>
         ensures tx { IfOk result (λ tx. IsTxOf tx (parts_of_unsigned self
-            (map (witness_by (transaction_id_of tx)) (map signer_of signers.now)) scripts.items)) }
+            (map (witness_by (transaction_id_of tx)) (map K.signer signers.now)) scripts.items)) }
         ensures spelled { IfOk result (λ tx. SpellsTransaction tx (text_of (item_of_transaction tx))) }
     {
         let id = self.id(alloc)?;

@@ -2,7 +2,7 @@
 //! blocks that the lines of a script make.
 
 use crate::changing::put;
-use genesis::Genesis;
+use genesis::{Genesis, Scheme};
 use script::{LinePlace, Names};
 use std::alloc::Global;
 
@@ -109,7 +109,7 @@ pub fn genesis(alloc: Global) -> Option<Genesis> {
 /// No names, in a box, whose drop is a call.
 fn no_names(alloc: Global) -> Option<Box<Names>> {
     let genesis = genesis(alloc)?;
-    Box::new(alloc, Names::new(alloc, &genesis)).ok()
+    Box::new(alloc, Names::new(alloc, &genesis, Scheme::Test)).ok()
 }
 
 /// Whether each of the lines gave a name, or is part of what does.

@@ -5,8 +5,10 @@ use crate::changing::{change, put};
 use crate::network::{ASKING, DEFINING, genesis};
 use crate::random::Random;
 use crate::tally::Tally;
+use genesis::Scheme;
 use scenario::ScenarioFault;
 use std::alloc::Global;
+use witness_pool::TestScheme;
 
 /// What a run printed, and how it ended.
 #[derive(Drop)]
@@ -20,7 +22,13 @@ fn run_of(alloc: Global, script: &[u8]) -> Option<Ran> {
     let genesis = genesis(alloc)?;
     let mut printed = Vec::new(alloc);
     let mut reader = script;
-    let ended = scenario::run(alloc, genesis, &mut reader, &mut printed);
+    let ended = scenario::run::<TestScheme, _, _>(
+        alloc,
+        genesis,
+        Scheme::Test,
+        &mut reader,
+        &mut printed,
+    );
     Some(Ran { printed, ended })
 }
 

@@ -2,6 +2,7 @@ mod Gathering
 mod KnownKeys
 mod CoinSums
 mod Steps
+mod Schemes
 mod Ranges
 mod Places
 mod Coins

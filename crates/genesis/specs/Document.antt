@@ -1,9 +1,12 @@
 -- What a genesis document writes, in any range: TOML (v1.0.0) with just the keys of a genesis, which are this project's
 -- own.
-use Rattle.std.specs.Prelude.{ℕ, ℤ, Bool, true, ◌&&◌, List, [], ◌∷◌, Option, Some, None, option_map, codes, bytes_eq}
+use Rattle.std.specs.Prelude.{ℕ, ℤ, Bool, true, ◌&&◌, if◌then◌else◌, List, [], ◌∷◌, Option, Some, None, option_map}
+use Rattle.std.specs.Prelude.{codes, bytes_eq}
 use Rattle.std.specs.List.{list_any}
 use Rattle.toml.specs.Data.{Data, Items, no_items, item, Members, no_members, member}
 use Rattle.toml.specs.Data.{get_member, as_integer, as_str, as_array, as_table}
+use Rattle.genesis.specs.declared.scheme.Scheme.{Scheme}
+use Rattle.genesis.specs.declared.scheme.Scheme.TheVariants as schemes
 use Rattle.genesis.specs.Steps.{◌>>=◌, guard, each}
 
 -- the two numbers of a second era
@@ -36,6 +39,7 @@ pub record Entry : Type 0 where
 
 pub record Written : Type 0 where
   pub numbers : Numbers
+  pub scheme : Scheme
   pub outputs : List Entry
 
 -- ---- keys
@@ -54,7 +58,7 @@ abbrev pub genesis_keys : List (List ℕ)
 genesis_keys =
     codes "network" ∷ codes "k" ∷ codes "min_fee_a" ∷ codes "min_fee_b" ∷ codes "min_utxo" ∷ codes "max_tx_size"
     ∷ codes "max_body_size" ∷ codes "max_volatile" ∷ codes "max_mempool" ∷ codes "era2_slot" ∷ codes "per_asset"
-    ∷ codes "output" ∷ []
+    ∷ codes "output" ∷ codes "scheme" ∷ []
 
 -- the keys of an output
 abbrev pub entry_keys : List (List ℕ)
@@ -105,6 +109,24 @@ numbers_in document = do
     second_era = second_era;
   })
 
+-- ---- the scheme
+
+-- the scheme of a name
+abbrev pub scheme_of : List ℕ → Option Scheme
+scheme_of name =
+    if bytes_eq name (codes "test") then Some schemes.Test
+    else if bytes_eq name (codes "ed25519") then Some schemes.Ed25519
+    else None
+
+-- the scheme that is named, and the tests' where nothing is
+abbrev pub scheme_at : Option Data → Option Scheme
+scheme_at None = Some schemes.Test
+scheme_at (Some value) = as_str value >>= scheme_of
+
+-- the scheme by which signatures are judged
+unfoldable pub scheme_in : Members → Option Scheme
+scheme_in document = scheme_at (get_member (codes "scheme") document)
+
 -- ---- the outputs
 
 -- just one of an address and a key, which is text
@@ -143,10 +165,11 @@ outputs_in document = do
   each entry_of (values_of tables)
 
 -- WHAT A DOCUMENT WRITES
--- The numbers and the outputs, where it has their keys and no others, each with a value of its type.
+-- The numbers, the scheme and the outputs, where it has their keys and no others, each with a value of its type.
 unfoldable pub written_in : Members → Option Written
 written_in document = do
   known ← guard (has_only genesis_keys document)
   numbers ← numbers_in document
+  scheme ← scheme_in document
   outputs ← outputs_in document
-  Some (record { numbers = numbers; outputs = outputs })
+  Some (record { numbers = numbers; scheme = scheme; outputs = outputs })

@@ -1,10 +1,10 @@
 -- What a text means as a genesis, in words that are not the reader's: which genesis it says, and which faults it has,
 -- each by itself (the faults and their numbers are this project's own).
 use Rattle.std.specs.Prelude.{◌≡◌, ℕ, ℤ, pos, ◌+ℤ◌, ◌≤ℤ◌, List, [], ◌∷◌, length}
-use Rattle.std.specs.Prelude.{Option, Some, None, IfSome, option_map, Result, Ok, Err}
+use Rattle.std.specs.Prelude.{Option, Some, None, IfSome, option_map, Result, Ok, Err, codes}
 use Rattle.std.specs.List.{AllByRecursion}
 use Rattle.hex.specs.Hex.{decode_sized}
-use Rattle.toml.specs.Data.{Members}
+use Rattle.toml.specs.Data.{Data, Members, get_member, as_str}
 use Rattle.toml.specs.Parse.{parse_document}
 use Rattle.model.specs.Transaction.{Address, KeyHash, key_hash_of, address_bytes, IsAddress}
 use Rattle.model.specs.Rules.{SecondEra}
@@ -14,6 +14,8 @@ use Rattle.model.specs.Genesis.{Genesis, Grant, IsWithin, IsGenesis}
 use Rattle.model.specs.First.{IsFirst}
 use Rattle.genesis.specs.declared.genesis_fault.GenesisFault.{GenesisFault}
 use Rattle.genesis.specs.declared.genesis_fault.GenesisFault.TheVariants as faults
+use Rattle.genesis.specs.declared.scheme.Scheme.{Scheme}
+use Rattle.genesis.specs.declared.scheme.Scheme.TheVariants as schemes
 use Rattle.genesis.specs.Steps.{Paired}
 use Rattle.genesis.specs.Document.{EraNumbers, Numbers, Lock, ByAddress, ByKey, Entry, Written, written_in}
 
@@ -127,6 +129,24 @@ pub record Says (text : List ℕ) (genesis : Genesis) : Type 0 where
   pub writes : Writes text written
   pub means : IsGenesisOf written genesis
   pub whole : IsGenesis genesis
+
+-- ---- the scheme
+
+-- the one name of each scheme
+abbrev pub scheme_name : Scheme → List ℕ
+scheme_name schemes.Test = codes "test"
+scheme_name schemes.Ed25519 = codes "ed25519"
+
+-- its name is the text that stands there; where nothing stands there, it is the tests' scheme
+abbrev pub IsSchemeAt : Option Data → Scheme → Type 0
+IsSchemeAt None scheme = scheme ≡ schemes.Test
+IsSchemeAt (Some value) scheme = as_str value ≡ Some (scheme_name scheme)
+
+-- the text is a document, whose key `scheme` says so by which signatures are judged
+pub record NamesScheme (text : List ℕ) (scheme : Scheme) : Type 0 where
+  pub document : Members
+  pub parsed : parse_document text ≡ Some document
+  pub named : IsSchemeAt (get_member (codes "scheme") document) scheme
 
 -- ---- the faults
 

@@ -53,7 +53,7 @@ abbrev pub entries_view : Vec CodeEntry Global → List Entry
 entries_view entries = map entry_view entries.items
 
 abbrev pub written_view : CodeWritten → Written
-written_view w = record { numbers = numbers_view w.numbers; outputs = entries_view w.outputs }
+written_view w = record { numbers = numbers_view w.numbers; scheme = w.scheme; outputs = entries_view w.outputs }
 
 -- ---- what is judged
 

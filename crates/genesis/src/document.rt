@@ -5,17 +5,18 @@ ghost use Rattle.toml.specs.View.{array_view, table_view, view};
 ghost use Rattle.genesis.specs.declared.genesis_fault.GenesisFault.TheVariants.{BadShape};
 ghost use Rattle.genesis.specs.Steps.{each, Gives};
 ghost use Rattle.genesis.specs.Document.{era_in, numbers_in, lock_in, entry_in, entry_of, values_of, outputs_in};
-ghost use Rattle.genesis.specs.Document.{written_in};
+ghost use Rattle.genesis.specs.Document.{scheme_in, written_in};
 ghost use Rattle.genesis.specs.View.{era_numbers_view, numbers_view, lock_view, entry_view, entries_view, written_view};
 
 use crate::genesis_fault::GenesisFault;
+use crate::scheme::Scheme;
 use crate::table::{has_only, number_at, value_at};
 use std::alloc::{AllocError, Global};
 use toml::value::Array;
 use toml::{Table, Value};
 
 /// The keys of a genesis.
-pub const GENESIS_KEYS: [&str; 12] = [
+pub const GENESIS_KEYS: [&str; 13] = [
     "network",
     "k",
     "min_fee_a",
@@ -28,6 +29,7 @@ pub const GENESIS_KEYS: [&str; 12] = [
     "era2_slot",
     "per_asset",
     "output",
+    "scheme",
 ];
 
 /// The keys of an output.
@@ -162,10 +164,22 @@ fn entries_of<'a>(alloc: Global, array: &'a Array) -> Result<Vec<Entry<'a>>, Gen
 #[derive(Drop)]
 pub struct Written<'a> {
     pub numbers: Numbers,
+    pub scheme: Scheme,
     pub outputs: Vec<Entry<'a>>,
 }
 
 impl<'a> Written<'a> {
+    /// The scheme that a document names, and the tests' where it names none.
+    #[tactic(auto, unfolding(crate::specs::Document::scheme_in))]
+    fn scheme(table: &Table) -> Option<Scheme>
+        ensures { result ≡ scheme_in (table_view table.now) }
+    {
+        match value_at(table, "scheme") {
+            None => Some(Scheme::Test),
+            Some(value) => Scheme::of_name(value.as_str()?),
+        }
+    }
+
     /// The outputs of a document, which are an array of tables.
     #[tactic(auto, unfolding(crate::specs::Document::outputs_in))]
     fn outputs(alloc: Global, table: &'a Table) -> Result<Vec<Entry<'a>>, GenesisFault>
@@ -185,7 +199,12 @@ impl<'a> Written<'a> {
             return Err(GenesisFault::BadShape);
         }
         let numbers = Numbers::of_table(table).ok_or(GenesisFault::BadShape)?;
+        let scheme = Written::scheme(table).ok_or(GenesisFault::BadShape)?;
         let outputs = Written::outputs(alloc, table)?;
-        Ok(Written { numbers, outputs })
+        Ok(Written {
+            numbers,
+            scheme,
+            outputs,
+        })
     }
 }

@@ -1,25 +1,22 @@
 //! The genesis of a network.
 
-ghost use Rattle.std.specs.Prelude.{◌≡◌, map, IfOk, IfSome, option_map, ok_or};
-ghost use Rattle.toml.specs.Parse.{parse_document};
-ghost use Rattle.toml.specs.View.{table_view};
+ghost use Rattle.std.specs.Prelude.{◌≡◌, map, IfOk, IfSome, option_map};
 ghost use Rattle.model.specs.Limits.{greatest_network, k_limit, tx_size_limit, body_size_limit};
 ghost use Rattle.model.specs.Genesis as model;
 ghost use Rattle.model.specs.Genesis.{supply_of, IsGenesis, IsSecondEra, IsWithin};
-ghost use Rattle.genesis.specs.declared.genesis_fault.GenesisFault.TheVariants.{NotToml};
 ghost use Rattle.genesis.specs.Steps.{Gives};
 ghost use Rattle.genesis.specs.Judgement.{judged, genesis_of};
 ghost use Rattle.genesis.specs.Meaning.{IsAnswer};
 ghost use Rattle.genesis.specs.View.{era_view, grant_view, written_view};
 
 use crate::document::Written;
+use crate::genesis_document::GenesisDocument;
 use crate::genesis_fault::GenesisFault;
 use crate::grants::{self, Grant};
 use crate::placing;
 use crate::settings::{SecondEra, Settings};
 use std::alloc::{AllocError, Global};
 use std::marker::Model;
-use toml::Table;
 
 /// The most outputs of a genesis.
 const MAX_OUTPUTS: usize = 10_000;
@@ -49,21 +46,10 @@ impl Model for Genesis {
     ghost invariant = { IsHeldGenesis };
 }
 
-/// The table of a document.
-fn read_table(alloc: Global, text: &str) -> Result<Table, GenesisFault>
-    ensures { Gives table_view result (ok_or (parse_document text.now) NotToml) }
-{
-    match toml::table_from_str(alloc, text) {
-        Ok(table) => Ok(table),
-        Err(error) if error.is_memory() => Err(GenesisFault::OutOfMemory),
-        Err(_) => Err(GenesisFault::NotToml),
-    }
-}
-
 impl Genesis {
     /// The genesis of what is written.
     #[tactic(auto, unfolding(crate::specs::Judgement::judged))]
-    fn of_written(alloc: Global, written: &Written<'_>) -> Result<Genesis, GenesisFault>
+    pub(crate) fn of_written(alloc: Global, written: &Written<'_>) -> Result<Genesis, GenesisFault>
         ensures { Gives (λ genesis. genesis) result (judged (written_view written.now)) }
     {
         let settings = Settings::of_numbers(&written.numbers).ok_or(GenesisFault::OutOfRange)?;
@@ -84,15 +70,15 @@ impl Genesis {
     /// 1,000,000), `min_fee_b` and `min_utxo` (at most 1,000,000,000,000), `max_tx_size` (1 to 65,536), `max_body_size`
     /// (1 to 1,048,000), `max_volatile` and `max_mempool` (1 to 100,000), both or none of `era2_slot` (1 to 2^63 - 1)
     /// and `per_asset` (at most 1,000,000,000,000), and `output`, an array of tables, each with `coin` and just one of
-    /// `address` (66 hexadecimal digits) and `key` (64 of them). Err is the first of the faults that applies to the
-    /// whole text, or OutOfMemory. Takes time and memory in proportion to the text.
+    /// `address` (66 hexadecimal digits) and `key` (64 of them). `scheme` may stand there too, `"test"` or `"ed25519"`,
+    /// and where it is missing the scheme is the tests': `GenesisDocument::from_toml` tells it. Err is the first of the
+    /// faults that applies to the whole text, or OutOfMemory. Takes time and memory in proportion to the text.
     pub fn from_toml(alloc: Global, text: &str) -> Result<Genesis, GenesisFault>
         ensures exact { Gives (λ genesis. genesis) result (genesis_of text.now) }
         ensures least { IsAnswer text.now result }
     {
-        let table = read_table(alloc, text)?;
-        let written = Written::of_table(alloc, &table)?;
-        Genesis::of_written(alloc, &written)
+        let document = GenesisDocument::from_toml(alloc, text)?;
+        Ok(document.genesis)
     }
 
     /// The network, 0 to 15.

@@ -13,8 +13,8 @@ pub enum GenesisFault {
     /// The text is no TOML document. A whole number outside 64 bits is none either.
     #[error("NotToml")]
     NotToml,
-    /// A key is missing, unknown or of another type, one key of a second era is there without the other, or an output
-    /// has both an address and a key, or neither.
+    /// A key is missing, unknown or of another type, one key of a second era is there without the other, an output has
+    /// both an address and a key, or neither, or a scheme is named that there isn't.
     #[error("BadShape")]
     BadShape,
     /// One of the numbers is out of its range.

@@ -8,14 +8,18 @@
 
 mod document;
 mod genesis;
+mod genesis_document;
 mod genesis_fault;
 mod grants;
 mod placing;
+mod scheme;
 mod settings;
 pub mod stages;
 mod table;
 
 pub use genesis::Genesis;
+pub use genesis_document::GenesisDocument;
 pub use genesis_fault::GenesisFault;
 pub use grants::Grant;
+pub use scheme::Scheme;
 pub use settings::SecondEra;

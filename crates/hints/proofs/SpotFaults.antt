@@ -10,9 +10,9 @@ use Rattle.model.specs.Genesis.{Genesis, Grant}
 use Rattle.genesis.specs.declared.genesis_fault.GenesisFault.{GenesisFault}
 use Rattle.genesis.specs.declared.genesis_fault.GenesisFault.TheVariants as faults
 use Rattle.genesis.specs.Steps.{◌>>=◌, guard, each, or_fault}
-use Rattle.genesis.specs.Document.{EraNumbers, Numbers, Lock, ByAddress, ByKey, Entry, Written, is_known, has_only, genesis_keys, entry_keys, number_at, both_or_none, era_in, numbers_in, one_lock, lock_in, entry_in, entry_of, values_of, outputs_in, written_in}
+use Rattle.genesis.specs.Document.{EraNumbers, Numbers, Lock, ByAddress, ByKey, Entry, Written, is_known, has_only, genesis_keys, entry_keys, number_at, both_or_none, era_in, numbers_in, scheme_of, scheme_at, scheme_in, one_lock, lock_in, entry_in, entry_of, values_of, outputs_in, written_in}
 use Rattle.genesis.specs.Judgement.{within, era_of, era_if_written, Settings, settings_of, address_of_lock, Placed, placed_of, grant_of, limited, grants_of, counted, genesis_with, judged}
-use Rattle.hints.specs.GenesisSpots.{Spot, in_document, in_output, ◌or◌, unless, first_found, unknown_in, number_trouble, number_spot, lacking, era_spot, lock_spot, table_spot, element_spot, entry_spot, array_spot, outputs_spot, shape_spot}
+use Rattle.hints.specs.GenesisSpots.{Spot, in_document, in_output, ◌or◌, unless, first_found, unknown_in, number_trouble, number_spot, lacking, era_spot, scheme_name_spot, scheme_spot, lock_spot, table_spot, element_spot, entry_spot, array_spot, outputs_spot, shape_spot}
 use Rattle.hints.specs.GenesisSpots.{Bounded, bounded, era_bounds, number_bounds, bound_spot, range_spot, homeless_spot, address_spot, or_zero, coin_trouble, coin_spot, count_spot, written_spot, document_spot, fault_or_genesis, fault_of, TellsOf}
 use Rattle.hints.specs.declared.genesis_spot.Trouble.TheVariants.{Unknown, NotNumber, NoCoin, TooMuch, NoOutputs, TooMany}
 
@@ -142,6 +142,18 @@ numbers_told document =
     told_then faults.BadShape (number_at (codes "max_mempool") document) _ _ _ (number (codes "max_mempool")) (λ i is_i.
     told_made faults.BadShape (era_in document) _ _ (era_told document)))))))))))
 
+scheme_told : (document : Members) → Told faults.BadShape (scheme_in document) (scheme_spot (get_member (codes "scheme") document))
+unfolding scheme_in
+scheme_told document = by_value (get_member (codes "scheme") document)
+  where
+    by_name : (found : Option (List ℕ)) → Told faults.BadShape (found >>= scheme_of) (scheme_name_spot found)
+    by_name None = refl
+    by_name (Some name) = told_unless faults.BadShape (scheme_of name) _ refl
+
+    by_value : (found : Option Data) → Told faults.BadShape (scheme_at found) (scheme_spot found)
+    by_value None = tt
+    by_value (Some value) = by_name (as_str value)
+
 lock_told : (n : ℕ) (entry : Members) → Told faults.BadShape (lock_in entry) (lock_spot n (get_member (codes "address") entry) (get_member (codes "key") entry))
 unfolding lock_in
 lock_told n entry = by_values (get_member (codes "address") entry) (get_member (codes "key") entry)
@@ -182,11 +194,14 @@ shape_told : (document : Members) → Told faults.BadShape (written_in document)
 unfolding written_in shape_spot
 shape_told document =
     let era = era_spot (get_member (codes "era2_slot") document) (get_member (codes "per_asset") document) in
+    let scheme = scheme_spot (get_member (codes "scheme") document) in
     let outputs = outputs_spot (get_member (codes "output") document) in
     told_then faults.BadShape (guard (has_only genesis_keys document)) _ _ _ (unknown_told genesis_keys document (λ key. in_document key Unknown) (λ key. refl)) (λ known is_known.
-    subst (Told faults.BadShape (numbers_in document >>= λ numbers. (outputs_in document >>= λ outputs. Some (record { numbers = numbers; outputs = outputs })))) (or_assoc (lacking (take 9 genesis_keys) document) era outputs)
+    subst (Told faults.BadShape (numbers_in document >>= λ numbers. (scheme_in document >>= λ scheme. (outputs_in document >>= λ outputs. Some (record { numbers = numbers; scheme = scheme; outputs = outputs })))))
+    (or_assoc (lacking (take 9 genesis_keys) document) era (scheme or outputs))
     (told_then faults.BadShape (numbers_in document) _ _ _ (numbers_told document) (λ numbers is_numbers.
-    told_made faults.BadShape (outputs_in document) _ _ (outputs_told document))))
+    told_then faults.BadShape (scheme_in document) _ _ _ (scheme_told document) (λ found is_scheme.
+    told_made faults.BadShape (outputs_in document) _ _ (outputs_told document)))))
 
 -- ---- the numbers
 

@@ -10,13 +10,13 @@ use Rattle.genesis.specs.declared.genesis_fault.GenesisFault.{GenesisFault}
 use Rattle.genesis.specs.declared.genesis_fault.GenesisFault.TheVariants as faults
 use Rattle.genesis.specs.Steps.{◌>>=◌, or_fault}
 use Rattle.genesis.specs.Document.{EraNumbers, Numbers, Lock, ByAddress, ByKey, Entry, Written, written_in}
-use Rattle.genesis.specs.Document.{is_known, genesis_keys, entry_keys, values_of}
+use Rattle.genesis.specs.Document.{is_known, genesis_keys, scheme_of, entry_keys, values_of}
 use Rattle.genesis.specs.Judgement.{within, placed_of, judged}
 use Rattle.hints.specs.declared.genesis_spot.Trouble.{Trouble}
 use Rattle.hints.specs.declared.genesis_spot.Trouble.TheVariants.{Unknown, Missing, Alone, NotNumber, NotText}
 use Rattle.hints.specs.declared.genesis_spot.Trouble.TheVariants.{NotArray, NotTable, BothLocks, NoLock, OutOfRange}
 use Rattle.hints.specs.declared.genesis_spot.Trouble.TheVariants.{NoAddress, NoKey, NoCoin, TooMuch}
-use Rattle.hints.specs.declared.genesis_spot.Trouble.TheVariants.{NoOutputs, TooMany}
+use Rattle.hints.specs.declared.genesis_spot.Trouble.TheVariants.{NoOutputs, TooMany, NoScheme}
 
 -- a key, of the document itself or of one of its outputs, which are counted from 0, and what is wrong there
 pub record Spot : Type 0 where
@@ -77,6 +77,15 @@ era_spot (Some slot) (Some coin) =
     unless (as_integer slot) (in_document (codes "era2_slot") NotNumber)
     or unless (as_integer coin) (in_document (codes "per_asset") NotNumber)
 
+-- the scheme may be missing, and is a text, which is the name of one
+abbrev pub scheme_name_spot : Option (List ℕ) → Option Spot
+scheme_name_spot None = Some (in_document (codes "scheme") NotText)
+scheme_name_spot (Some name) = unless (scheme_of name) (in_document (codes "scheme") NoScheme)
+
+abbrev pub scheme_spot : Option Data → Option Spot
+scheme_spot None = None
+scheme_spot (Some value) = scheme_name_spot (as_str value)
+
 -- there isn't just one of an address and a key, or it is no text
 abbrev pub lock_spot : ℕ → Option Data → Option Data → Option Spot
 lock_spot n None None = Some (in_output n (codes "address") NoLock)
@@ -108,12 +117,13 @@ outputs_spot (Some value) = array_spot (as_array value)
 
 -- A DOCUMENT OF ANOTHER SHAPE
 -- A key that no genesis has, the first in the order of the alphabet; a number that is missing, in the order of
--- `genesis_keys`; or the first output that is none.
+-- `genesis_keys`; a scheme that there isn't; or the first output that is none.
 unfoldable pub shape_spot : Members → Option Spot
 shape_spot document =
     option_map (λ key. in_document key Unknown) (unknown_in genesis_keys document)
     or lacking (take 9 genesis_keys) document
     or era_spot (get_member (codes "era2_slot") document) (get_member (codes "per_asset") document)
+    or scheme_spot (get_member (codes "scheme") document)
     or outputs_spot (get_member (codes "output") document)
 
 -- ---- a document of the right shape

@@ -8,17 +8,17 @@ ghost use Rattle.genesis.specs.Document.{values_of};
 ghost use Rattle.genesis.specs.Judgement.{within};
 ghost use Rattle.genesis.specs.View.{entry_view, era_numbers_view, lock_view, numbers_view, texts_of, written_view};
 ghost use Rattle.hints.specs.GenesisSpots.{in_document, in_output, number_trouble, lacking, unknown_in, era_spot};
-ghost use Rattle.hints.specs.GenesisSpots.{lock_spot, table_spot, entry_spot, first_found, outputs_spot, shape_spot};
-ghost use Rattle.hints.specs.GenesisSpots.{bounded, bound_spot, range_spot, number_bounds, era_bounds};
+ghost use Rattle.hints.specs.GenesisSpots.{scheme_spot, lock_spot, table_spot, entry_spot, first_found, outputs_spot};
+ghost use Rattle.hints.specs.GenesisSpots.{shape_spot, bounded, bound_spot, range_spot, number_bounds, era_bounds};
 ghost use Rattle.hints.specs.GenesisSpots.{address_spot, addresses_spot, homeless_spot, coin_trouble, coin_spot};
 ghost use Rattle.hints.specs.GenesisSpots.{or_zero, count_spot};
 ghost use Rattle.hints.specs.GenesisSpots.{written_spot, document_spot, fault_or_genesis, TellsOf};
 ghost use Rattle.hints.specs.SpotView.{spot_view, bounded_view};
 
-use genesis::GenesisFault;
 use genesis::stages::{
     self, ENTRY_KEYS, Entry, EraNumbers, GENESIS_KEYS, Lock, Numbers, Placed, Written, value_at,
 };
+use genesis::{GenesisFault, Scheme};
 use std::alloc::{AllocError, Global};
 use thiserror::Error;
 use toml::value::Array;
@@ -29,6 +29,11 @@ const MAX_OUTPUTS: usize = 10_000;
 
 /// The largest sum of all coins.
 const MAX_SUPPLY: u64 = (1 << 63) - 1;
+
+/// The names of the schemes. (Between quotes in an attribute, the word would make `rt` look for tests here.)
+const TESTS: &str = "test";
+
+const ED25519: &str = "ed25519";
 
 /// What is wrong at a key, in words that go on after it.
 #[derive(Clone, Copy, Debug, Error)]
@@ -48,6 +53,9 @@ pub enum Trouble {
     /// It is no text.
     #[error("is no text")]
     NotText,
+    /// It is no scheme's name.
+    #[error("is neither \"{}\" nor \"{}\"", TESTS, ED25519)]
+    NoScheme,
     /// It is no array.
     #[error("is no array")]
     NotArray,
@@ -174,6 +182,22 @@ fn era_spot(table: &Table) -> Option<Spot<'static>>
     }
 }
 
+/// What is wrong with the scheme, where one is named.
+fn scheme_spot(table: &Table) -> Option<Spot<'static>>
+    ensures { option_map spot_view result ≡ scheme_spot (get_member (codes "scheme") (table_view table.now)) }
+{
+    match value_at(table, "scheme") {
+        None => None,
+        Some(value) => match value.as_str() {
+            None => Some(Spot::in_document("scheme", Trouble::NotText)),
+            Some(name) => match Scheme::of_name(name) {
+                Some(_) => None,
+                None => Some(Spot::in_document("scheme", Trouble::NoScheme)),
+            },
+        },
+    }
+}
+
 /// What is wrong with what unlocks an output.
 fn lock_spot(table: &Table, output: usize) -> Option<Spot<'static>>
     ensures { option_map spot_view result ≡ lock_spot output (get_member (codes "address") (table_view table.now))
@@ -255,6 +279,9 @@ fn shape_spot<'a>(table: &'a Table) -> Option<Spot<'a>>
         return Some(spot);
     }
     if let Some(spot) = era_spot(table) {
+        return Some(spot);
+    }
+    if let Some(spot) = scheme_spot(table) {
         return Some(spot);
     }
     outputs_spot(table)

@@ -103,7 +103,7 @@ impl Form {
             | "close"
             | "why"
             | "where" => Form::line(NAME, Rest::Nothing),
-            "key" | "script" | "raw" => Form::line(DIGITS, Rest::Nothing),
+            "key" | "seed" | "script" | "raw" => Form::line(DIGITS, Rest::Nothing),
             "forge" => Form::line(SLOT, Rest::Nothing),
             "block" => Form::line(BLOCK, Rest::Each(Kind::Name)),
             "forward" => Form::line(POINT, Rest::Each(Kind::Place)),

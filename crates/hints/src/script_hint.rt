@@ -17,6 +17,9 @@ const MAX_INDEX: u64 = 65_535;
 /// How many digits the name of an asset has at most.
 const MAX_NAME_DIGITS: usize = 64;
 
+/// How many digits a key has.
+const KEY_DIGITS: usize = 64;
+
 /// What is wrong with a word of a line, in words that go on after it.
 #[derive(Clone, Copy, Debug, Error)]
 pub enum WordTrouble {
@@ -52,6 +55,10 @@ pub enum WordTrouble {
     OtherLength,
     #[error("is the text of no native script")]
     NoScript,
+    #[error("says a secret key, where the scheme has none")]
+    NoSecret,
+    #[error("signs twice, or is a public key, where only secret ones sign")]
+    NoSigner,
     #[error("stands there twice, or is too much")]
     Again,
 }
@@ -195,7 +202,8 @@ fn unminted_word(name: &str, quantity: &str) -> (usize, WordTrouble) {
 /// What a line can't be built by.
 fn unbuilt_word(words: &[&str]) -> Found {
     match words {
-        ["key", ..] => Some((2, WordTrouble::OtherLength)),
+        ["seed", _, digits] if digits.len() == KEY_DIGITS => Some((2, WordTrouble::NoSecret)),
+        ["key" | "seed", ..] => Some((2, WordTrouble::OtherLength)),
         ["script", ..] => Some((2, WordTrouble::NoScript)),
         ["in", _, index] if is_above(*index, MAX_INDEX) => Some((2, WordTrouble::OutOfRange)),
         ["block", _, _, slot, ..] if is_above(*slot, MAX_NUMBER) => Some((
@@ -204,7 +212,8 @@ fn unbuilt_word(words: &[&str]) -> Found {
         )),
         ["mint", _, name, quantity] => Some(unminted_word(*name, *quantity)),
         ["out", ..] => unbuilt_asset(words).or(Some((0, WordTrouble::Again))),
-        ["in" | "sign" | "badsign" | "with", ..] => Some((1, WordTrouble::Again)),
+        ["sign", ..] => Some((1, WordTrouble::NoSigner)),
+        ["in" | "badsign" | "with", ..] => Some((1, WordTrouble::Again)),
         _ => Some((0, WordTrouble::Again)),
     }
 }

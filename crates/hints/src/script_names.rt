@@ -94,7 +94,7 @@ impl<'t> BoundSoFar<'t> {
             return Ok(());
         };
         match first {
-            "key" => self.bind(Sort::Key, name, true),
+            "key" | "seed" => self.bind(Sort::Key, name, true),
             "script" => self.bind(Sort::Script, name, true),
             "block" => self.bind(Sort::Block, name, true),
             "raw" => self.bind(Sort::Raw, name, true),

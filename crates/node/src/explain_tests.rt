@@ -52,6 +52,15 @@ const SCRIPTS: &[(&str, (&str, &str, &str))] = &[
         ),
     ),
     (
+        "seed K 0101010101010101010101010101010101010101010101010101010101010101\n",
+        (
+            "",
+            "line 1: NotBuilt\n",
+            "line 1, column 8: \"0101010101010101010101010101010101010101010101010101010101010101\" \
+says a secret key, where the scheme has none",
+        ),
+    ),
+    (
         "tip tip\n",
         (
             "",
@@ -214,6 +223,24 @@ const DOCUMENTS: &[(&[&str], &str, &str)] = &[
         &["network = 0\n k = \"2\"\n", OTHER_NUMBERS, OUTPUT],
         "genesis: 2 BadShape\n",
         "line 2, column 2: \"k\" is no whole number",
+    ),
+    (
+        &[
+            "network = 0\nk = 2\nscheme = \"rsa\"\n",
+            OTHER_NUMBERS,
+            OUTPUT,
+        ],
+        "genesis: 2 BadShape\n",
+        "line 3, column 1: \"scheme\" is neither \"test\" nor \"ed25519\"",
+    ),
+    (
+        &[
+            "network = 0\nk = 2\nscheme = 25519\n",
+            OTHER_NUMBERS,
+            OUTPUT,
+        ],
+        "genesis: 2 BadShape\n",
+        "line 3, column 1: \"scheme\" is no text",
     ),
     (
         &["network = 0\nk = 2\nera2_slot = 5\n", OTHER_NUMBERS, OUTPUT],

@@ -2,6 +2,8 @@
 #![tactic(auto)]
 
 #[cfg(test)]
+mod ed25519_tests;
+#[cfg(test)]
 mod explain_tests;
 #[cfg(test)]
 mod log_tests;

@@ -13,7 +13,7 @@ use Rattle.scenario.specs.Run.{Scene}
 use Rattle.scenario.specs.SessionView.{Holds, Done}
 use Rattle.scenario.proofs.BalanceSums.{first_left, none_left}
 
-pub balance_acted : (network : Network) (s : Scene) (owner : Owner) (address : Address) (utxo : Utxo) (out : List ℕ) (session : Session) → Holds session s → (ledger : Ledger) × (ledger_of network session.core.chain ≡ Some ledger) × (utxo ≡ ledger.utxo)
+pub balance_acted : {S : Type 0} (network : Network) (s : Scene) (owner : Owner) (address : Address) (utxo : Utxo) (out : List ℕ) (session : Session S) → Holds session s → (ledger : Ledger) × (ledger_of network session.core.chain ≡ Some ledger) × (utxo ≡ ledger.utxo)
     → IsBalanceText (outputs_of_address address utxo) owner out → Done network s (PrintsBalance owner address) out session
 balance_acted network s owner address utxo out session holds (ledger, folded, is) text = record {
   entries = [];

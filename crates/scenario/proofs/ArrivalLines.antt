@@ -11,7 +11,7 @@ use Rattle.scenario.specs.Print.{arrival_text}
 use Rattle.scenario.specs.Run.{Scene, entry}
 use Rattle.scenario.specs.SessionView.{Done}
 
-pub arrival_acted : (network : Network) (s : Scene) (form : Form) (name bytes : List ℕ) (reply : Reply) (out : List ℕ) (new : Session) → out ≡ arrival_text form name reply → AreNamed new.names s.names
+pub arrival_acted : {S : Type 0} (network : Network) (s : Scene) (form : Form) (name bytes : List ℕ) (reply : Reply) (out : List ℕ) (new : Session S) → out ≡ arrival_text form name reply → AreNamed new.names s.names
     → (t : State) × Step network s.state (Arrive (formed form bytes)) reply t × Stands new.core t
     → Done network s (Arrives form name bytes) out new
 arrival_acted network s form name bytes reply out new printed names (t, step, stands) = record {

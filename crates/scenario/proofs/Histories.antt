@@ -3,6 +3,7 @@ use Rattle.std.proofs.Common.{◌≡◌, ℕ, ◌+◌, List, [], ◌∷◌, ◌+
 use Rattle.model.specs.Ledger.{Network}
 use Rattle.model.specs.History.{State, opening, Event, Reply, Entry, Step, IsRun}
 use Rattle.model.proofs.ToldChains.{theorem_of_legal}
+use Rattle.genesis.specs.declared.scheme.Scheme.{Scheme}
 use Rattle.script.specs.Meaning.{Meaning, Defines, Arrives, SubmitsTx, ForgesBlock, OpensFollower, TellsFollower, ForwardsFollower, ClosesFollower, PrintsTip, PrintsMempool, PrintsUtxo, PrintsWhy, PrintsWhere, PrintsBalance}
 use Rattle.scenario.specs.Run.{Scene, first_scene, Acts, Prints, AreObeyed, entry}
 
@@ -42,12 +43,12 @@ prints_run network number before s (line ∷ lines) out history t (first, rest, 
     (runs_both network s.state entries mid.state later t.state (acts_run network s obeys.meaning first entries mid obeys.acts) (prints_run network (number + 1) (before + length line) mid lines rest later t prints))
 
 -- the chain theorem of a script
-abbrev pub obeyed : (network : Network) (start : State) (lines : List (List ℕ)) (out : List ℕ) (history : List Entry) (scene : Scene) → Prints network 1 0 (first_scene network start) lines out history scene → AreObeyed network start lines out
-obeyed network start lines out history scene prints = record {
+abbrev pub obeyed : (scheme : Scheme) (network : Network) (start : State) (lines : List (List ℕ)) (out : List ℕ) (history : List Entry) (scene : Scene) → Prints network 1 0 (first_scene scheme network start) lines out history scene → AreObeyed scheme network start lines out
+obeyed scheme network start lines out history scene prints = record {
   scene = scene;
   history = history;
   prints = prints;
-  run = prints_run network 1 0 (first_scene network start) lines out history scene prints;
+  run = prints_run network 1 0 (first_scene scheme network start) lines out history scene prints;
   theorem = λ opens past legal. theorem_of_legal network (past ++ history) scene.state opens
-      (runs_both network (opening network) past start history scene.state legal (prints_run network 1 0 (first_scene network start) lines out history scene prints));
+      (runs_both network (opening network) past start history scene.state legal (prints_run network 1 0 (first_scene scheme network start) lines out history scene prints));
 }

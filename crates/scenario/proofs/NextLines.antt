@@ -25,7 +25,7 @@ due_at held s id (Ok i) stands memory is = cc
 due_at held s id (Err next.UnknownFollower) stands memory is = cc
 due_at held s id (Err next.OutOfMemory) stands memory is = memory refl s stands
 
-pub telling_acted : {S : Type 0} (network : Network) (s : Scene) (name : List ℕ) (id : ℕ) (result : Result (Option (code.Instruction S)) NextFault) (old out : List ℕ) (held : Held) (new : Session)
+pub telling_acted : {S : Type 0} (network : Network) (s : Scene) (name : List ℕ) (id : ℕ) (result : Result (Option (code.Instruction S)) NextFault) (old out : List ℕ) (held : Held) (new : Session S)
     → old ≡ [] → (text : List ℕ) × IsNextText s.names.of_bytes name (next_reply_of result) text × (out ≡ old ++ text) → Stands held s.state → IfErr result (IsWantAtNext held id)
     → AreNamed new.names s.names
     → (t : State) × Step network s.state (Next id) (next_reply_of result) t × Stands new.core t
@@ -55,7 +55,7 @@ pub close_enough : (result : Result (Unit {0}) UnknownFollower) → close_reply_
 close_enough (Ok done) is = cc
 close_enough (Err unknown) is = cc
 
-pub forwarding_acted : (network : Network) (s : Scene) (name : List ℕ) (id : ℕ) (points : List Point) (reply : Reply) (out : List ℕ) (new : Session) → out ≡ forwarding_text s.names.of_bytes name reply → reply ≢ OutOfMemory
+pub forwarding_acted : {S : Type 0} (network : Network) (s : Scene) (name : List ℕ) (id : ℕ) (points : List Point) (reply : Reply) (out : List ℕ) (new : Session S) → out ≡ forwarding_text s.names.of_bytes name reply → reply ≢ OutOfMemory
     → AreNamed new.names s.names
     → (t : State) × Step network s.state (Forward id points) reply t × Stands new.core t
     → Done network s (ForwardsFollower name id points) out new
@@ -66,7 +66,7 @@ forwarding_acted network s name id points reply out new printed enough names (t,
   holds = record { stands = stands; names = names };
 }
 
-pub closing_acted : (network : Network) (s : Scene) (name : List ℕ) (id : ℕ) (reply : Reply) (out : List ℕ) (new : Session) → out ≡ closing_text name reply → reply ≢ OutOfMemory
+pub closing_acted : {S : Type 0} (network : Network) (s : Scene) (name : List ℕ) (id : ℕ) (reply : Reply) (out : List ℕ) (new : Session S) → out ≡ closing_text name reply → reply ≢ OutOfMemory
     → AreNamed new.names s.names
     → (t : State) × Step network s.state (Close id) reply t × Stands new.core t
     → Done network s (ClosesFollower name id) out new

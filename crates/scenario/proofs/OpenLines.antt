@@ -36,7 +36,7 @@ free_at held s (Ok id) stands memory is = cc
 free_at held s (Err open'.TooManyFollowers) stands memory is = cc
 free_at held s (Err open'.OutOfMemory) stands memory is = subst (λ n. n < follower_limit) (sym (the_lengths.free held.chain held.followers s.followers stands.followers)) (memory refl)
 
-pub open_acted : (network : Network) (s : Scene) (name : List ℕ) (result : Result FollowerId OpenFollowerFault) (out : List ℕ) (held : Held) (new : Session) → out ≡ open_text name (open_reply_of result)
+pub open_acted : {S : Type 0} (network : Network) (s : Scene) (name : List ℕ) (result : Result FollowerId OpenFollowerFault) (out : List ℕ) (held : Held) (new : Session S) → out ≡ open_text name (open_reply_of result)
     → Stands held s.state → IfErr result (IsWantAtOpen held)
     → AreNamed new.names (record s.names { of_followers = names_opened s.names.of_followers name (open_reply_of result) })
     → (t : State) × Step network s.state Open (open_reply_of result) t × Stands new.core t

@@ -9,10 +9,12 @@ use Rattle.std.specs.Io.{appended_bytes}
 use Rattle.std.proofs.lemmas.Bool.Decides.{nat_tests}
 use Rattle.std.proofs.lemmas.List.Folds.{concat-append}
 use Rattle.std.proofs.lemmas.Option.{same_Some}
+use Rattle.model.specs.Signature.{Verifies}
 use Rattle.model.specs.Ledger.{Network}
 use Rattle.model.specs.Chain.{IsOpening}
 use Rattle.model.specs.History.{State, opening, Entry, IsRun}
-use Rattle.chain_core.specs.Held.{Held, Stands}
+use Rattle.chain_core.specs.Held.{Held, Stands, network_held}
+use Rattle.genesis.specs.declared.scheme.Scheme.{Scheme}
 use Rattle.scenario.specs.Pieces.{IsPiece}
 use Rattle.scenario.specs.declared.session.Session.{Session}
 use Rattle.script.specs.declared.stop.Stop.{Stop}
@@ -27,7 +29,7 @@ use Rattle.script.specs.RequestView.{AreNamed}
 use Rattle.script.specs.Meaning.{Meaning, Means, HasNoFault, is_late_line, parse_within}
 use Rattle.scenario.specs.Run.{Scene, first_scene, Obeys, Prints, AreObeyed, IsLeftBy, BreaksOff, EndsWellFrom, EndsByFrom, EndsWell, EndsBy}
 use Rattle.scenario.specs.Run.{fault_of, entry}
-use Rattle.scenario.specs.SessionView.{core_network, Holds, Acted, IsShort, IsObeyed}
+use Rattle.scenario.specs.SessionView.{Holds, Acted, IsShort, IsObeyed}
 use Rattle.scenario.specs.Handed.{RunsWell, RunsInto, HasRun}
 use Rattle.scenario.specs.Print.{AppendsPart}
 use Rattle.scenario.proofs.Lines.{first_line, no_line, line_and_rest, line_stops, prints_more}
@@ -43,24 +45,24 @@ abbrev pub HasLine : Option (List ℕ) → Option (List ℕ) → List (List ℕ)
 HasLine old new done line = IfSome old (λ text. (rest : List ℕ) × (new ≡ Some (drop_through 10 rest)) × (line ≡ take_through 10 rest) × (lines_of text ≡ done ++ lines_of rest) × (text ≡ concat done ++ rest))
 
 -- from this state on these lines were obeyed, what they print is written, and the session is where they lead
-pub record Goes (network : Network) (start : State) (session : Session) (done : List (List ℕ)) (old_out out : Option (List ℕ)) : Type 0 where
+pub record Goes {S : Type 0} (scheme : Scheme) (network : Network) (start : State) (session : Session S) (done : List (List ℕ)) (old_out out : Option (List ℕ)) : Type 0 where
   pub scene : Scene
   pub history : List Entry
   pub printed : List ℕ
-  pub prints : Prints network 1 0 (first_scene network start) done printed history scene
+  pub prints : Prints network 1 0 (first_scene scheme network start) done printed history scene
   pub holds : Holds session scene
   pub written : Appends old_out out printed
 
 -- before the line of this number: these lines were read, and obeyed from each state on that the core stood for at first
-pub record Running (network : Network) (first : Held) (session : Session) (before number : ℕ) (old_text text old_out out : Option (List ℕ)) : Type 0 where
+pub record Running {S : Type 0} (scheme : Scheme) (verifies : Verifies) (network : Network) (first : Held) (session : Session S) (before number : ℕ) (old_text text old_out out : Option (List ℕ)) : Type 0 where
   pub done : List (List ℕ)
-  pub same_network : core_network session.core ≡ network
+  pub same_network : network_held session.core verifies ≡ network
   pub size : before ≡ length (concat done)
   pub limit : before ≤ 4194304
   pub counted : length done + 1 ≡ number
   pub bytes : length done ≤ before
   pub read : HasRead old_text text done
-  pub goes : (start : State) → Stands first start → Goes network start session done old_out out
+  pub goes : (start : State) → Stands first start → Goes scheme network start session done old_out out
 
 -- ---- reading
 
@@ -126,8 +128,8 @@ has_bytes [] some = absurd (some refl)
 has_bytes (x ∷ xs) some = omega arith
 
 -- before the first line
-pub opened : (network : Network) (session : Session) (text out : Option (List ℕ)) → AreNamed session.names (no_names network.genesis.params.network) → core_network session.core ≡ network → Appends out out [] → Running network session.core session 0 1 text text out out
-opened network session text out named is_network none = record {
+pub opened : {S : Type 0} (scheme : Scheme) (verifies : Verifies) (network : Network) (session : Session S) (text out : Option (List ℕ)) → AreNamed session.names (no_names scheme network.genesis.params.network) → network_held session.core verifies ≡ network → Appends out out [] → Running scheme verifies network session.core session 0 1 text text out out
+opened scheme verifies network session text out named is_network none = record {
   done = [];
   same_network = is_network;
   size = refl;
@@ -136,7 +138,7 @@ opened network session text out named is_network none = record {
   bytes = omega arith;
   read = none_read text;
   goes = λ start stands. record {
-    scene = first_scene network start;
+    scene = first_scene scheme network start;
     history = [];
     printed = [];
     prints = (refl, refl, refl);
@@ -145,7 +147,7 @@ opened network session text out named is_network none = record {
   };
 }
 
-obeyed_so : (network : Network) (number before : ℕ) (s : Scene) (line out : List ℕ) (new : Session) (done : List (List ℕ)) (acted : Acted network s (Means number before s.names line) out new) → length done + 1 ≡ number → before ≡ length (concat done)
+obeyed_so : {S : Type 0} (network : Network) (number before : ℕ) (s : Scene) (line out : List ℕ) (new : Session S) (done : List (List ℕ)) (acted : Acted network s (Means number before s.names line) out new) → length done + 1 ≡ number → before ≡ length (concat done)
     → Obeys network (1 + length done) (0 + length (concat done)) s line out acted.done.entries acted.done.scene
 obeyed_so network number before s line out new done acted counted size =
     let here : Obeys network number before s line out acted.done.entries acted.done.scene = record { meaning = acted.meaning; is_meant = acted.is_meant; acts = acted.done.acts } in
@@ -153,32 +155,32 @@ obeyed_so network number before s line out new done acted counted size =
     subst (λ (n : ℕ). Obeys network (1 + length done) n s line out acted.done.entries acted.done.scene) (omega (arith, size)) there
 
 -- what a session answers to a line, whatever the scene that it holds
-abbrev pub AnswersTo : (old new : Session) (before number : ℕ) (line : List ℕ) → Result (Vec ℕ) Stop → Type 0
-AnswersTo old new before number line answer = (s : Scene) → Holds old s → IsObeyed (core_network old.core) s (Means number before s.names line) (is_late_line (parse_within before line)) answer new
+abbrev pub AnswersTo : {S : Type 0} (verifies : Verifies) (old new : Session S) (before number : ℕ) (line : List ℕ) → Result (Vec ℕ) Stop → Type 0
+AnswersTo verifies old new before number line answer = (s : Scene) → Holds old s → IsObeyed (network_held old.core verifies) s (Means number before s.names line) (is_late_line (parse_within before line)) answer new
 
 -- one line more from a state on
-goes_on : (network : Network) (start : State) (old new : Session) (before number : ℕ) (done : List (List ℕ)) (old_out mid_out out : Option (List ℕ)) (line printed : List ℕ) (so_far : Goes network start old done old_out mid_out) → length done + 1 ≡ number → before ≡ length (concat done)
-    → Acted network so_far.scene (Means number before so_far.scene.names line) printed new → Appends mid_out out printed → Goes network start new (done ++ line ∷ []) old_out out
-goes_on network start old new before number done old_out mid_out out line printed so_far counted size acted written = record {
+goes_on : {S : Type 0} (scheme : Scheme) (network : Network) (start : State) (old new : Session S) (before number : ℕ) (done : List (List ℕ)) (old_out mid_out out : Option (List ℕ)) (line printed : List ℕ) (so_far : Goes scheme network start old done old_out mid_out) → length done + 1 ≡ number → before ≡ length (concat done)
+    → Acted network so_far.scene (Means number before so_far.scene.names line) printed new → Appends mid_out out printed → Goes scheme network start new (done ++ line ∷ []) old_out out
+goes_on scheme network start old new before number done old_out mid_out out line printed so_far counted size acted written = record {
   scene = acted.done.scene;
   history = so_far.history ++ acted.done.entries;
   printed = so_far.printed ++ printed;
-  prints = prints_more network 1 0 (first_scene network start) done so_far.printed so_far.history so_far.scene line printed acted.done.entries acted.done.scene so_far.prints
+  prints = prints_more network 1 0 (first_scene scheme network start) done so_far.printed so_far.history so_far.scene line printed acted.done.entries acted.done.scene so_far.prints
       (obeyed_so network number before so_far.scene line printed new done acted counted size);
   holds = acted.done.holds;
   written = appends_both old_out mid_out out so_far.printed printed so_far.written written;
 }
 
 -- a line was obeyed from a state on
-acted_from : (network : Network) (old new : Session) (before number : ℕ) (line : List ℕ) (out : Vec ℕ) (s : Scene) → core_network old.core ≡ network → AnswersTo old new before number line (Ok out) → Holds old s → Acted network s (Means number before s.names line) out.items new
-acted_from network old new before number line out s same said holds =
+acted_from : {S : Type 0} (verifies : Verifies) (network : Network) (old new : Session S) (before number : ℕ) (line : List ℕ) (out : Vec ℕ) (s : Scene) → network_held old.core verifies ≡ network → AnswersTo verifies old new before number line (Ok out) → Holds old s → Acted network s (Means number before s.names line) out.items new
+acted_from verifies network old new before number line out s same said holds =
     subst (λ (n : Network). Acted n s (Means number before s.names line) out.items new) same (said s holds)
 
 -- a line was read, obeyed and written
-pub stepped : (network : Network) (first : Held) (old new : Session) (before number : ℕ) (old_text mid_text text old_out mid_out out : Option (List ℕ)) (line : List ℕ) (printed : Vec ℕ) (so_far : Running network first old before number old_text mid_text old_out mid_out)
-    → HasLine old_text text so_far.done line → line ≢ [] → AnswersTo old new before number line (Ok printed) → core_network new.core ≡ core_network old.core
-    → before + length line ≤ 4194304 → Appends mid_out out printed.items → Running network first new (before + length line) (number + 1) old_text text old_out out
-stepped network first old new before number old_text mid_text text old_out mid_out out line printed so_far read some said same limit written =
+pub stepped : {S : Type 0} (scheme : Scheme) (verifies : Verifies) (network : Network) (first : Held) (old new : Session S) (before number : ℕ) (old_text mid_text text old_out mid_out out : Option (List ℕ)) (line : List ℕ) (printed : Vec ℕ) (so_far : Running scheme verifies network first old before number old_text mid_text old_out mid_out)
+    → HasLine old_text text so_far.done line → line ≢ [] → AnswersTo verifies old new before number line (Ok printed) → network_held new.core verifies ≡ network_held old.core verifies
+    → before + length line ≤ 4194304 → Appends mid_out out printed.items → Running scheme verifies network first new (before + length line) (number + 1) old_text text old_out out
+stepped scheme verifies network first old new before number old_text mid_text text old_out mid_out out line printed so_far read some said same limit written =
     let more : length (concat (so_far.done ++ line ∷ [])) ≡ length (concat so_far.done) + length line = ap length (concat_more so_far.done line) ∙ length-append (concat so_far.done) line in
     let count : length (so_far.done ++ line ∷ []) ≡ length so_far.done + 1 = length-append so_far.done (line ∷ []) in
     let filled_line : 0 < length line = has_bytes line some in
@@ -192,29 +194,29 @@ stepped network first old new before number old_text mid_text text old_out mid_o
       read = next_read old_text text so_far.done line some read;
       goes = λ start stands.
           let goes = so_far.goes start stands in
-          goes_on network start old new before number so_far.done old_out mid_out out line printed.items goes so_far.counted so_far.size
-          (acted_from network old new before number line printed goes.scene so_far.same_network said goes.holds) written;
+          goes_on scheme network start old new before number so_far.done old_out mid_out out line printed.items goes so_far.counted so_far.size
+          (acted_from verifies network old new before number line printed goes.scene so_far.same_network said goes.holds) written;
     }
 
 -- ---- what happened to the core
 
 -- the lines that were obeyed
-pub ran : (first : Held) (session : Session) (before number : ℕ) (old_text text old_out out : Option (List ℕ)) → Running (core_network first) first session before number old_text text old_out out → HasRun first session.core
-ran first session before number old_text text old_out out so_far = λ start stands.
+pub ran : {S : Type 0} (scheme : Scheme) (verifies : Verifies) (first : Held) (session : Session S) (before number : ℕ) (old_text text old_out out : Option (List ℕ)) → Running scheme verifies (network_held first verifies) first session before number old_text text old_out out → HasRun verifies first session.core
+ran scheme verifies first session before number old_text text old_out out so_far = λ start stands.
     let goes = so_far.goes start stands in
-    (goes.history, goes.scene.state, prints_run (core_network first) 1 0 (first_scene (core_network first) start) so_far.done goes.printed goes.history goes.scene goes.prints, goes.holds.stands)
+    (goes.history, goes.scene.state, prints_run (network_held first verifies) 1 0 (first_scene scheme (network_held first verifies) start) so_far.done goes.printed goes.history goes.scene goes.prints, goes.holds.stands)
 
 -- and one more
-pub ran_on : (first : Held) (old new : Session) (before number : ℕ) (old_text text old_out out : Option (List ℕ)) (line : List ℕ) (printed : Vec ℕ) → Running (core_network first) first old before number old_text text old_out out
-    → AnswersTo old new before number line (Ok printed) → HasRun first new.core
-ran_on first old new before number old_text text old_out out line printed so_far said = λ start stands.
+pub ran_on : {S : Type 0} (scheme : Scheme) (verifies : Verifies) (first : Held) (old new : Session S) (before number : ℕ) (old_text text old_out out : Option (List ℕ)) (line : List ℕ) (printed : Vec ℕ) → Running scheme verifies (network_held first verifies) first old before number old_text text old_out out
+    → AnswersTo verifies old new before number line (Ok printed) → HasRun verifies first new.core
+ran_on scheme verifies first old new before number old_text text old_out out line printed so_far said = λ start stands.
     let goes = so_far.goes start stands in
-    let acted = acted_from (core_network first) old new before number line printed goes.scene so_far.same_network said goes.holds in (
+    let acted = acted_from verifies (network_held first verifies) old new before number line printed goes.scene so_far.same_network said goes.holds in (
       goes.history ++ acted.done.entries,
       acted.done.scene.state,
-      runs_both (core_network first) start goes.history goes.scene.state acted.done.entries acted.done.scene.state
-          (prints_run (core_network first) 1 0 (first_scene (core_network first) start) so_far.done goes.printed goes.history goes.scene goes.prints)
-          (acts_run (core_network first) goes.scene acted.meaning printed.items acted.done.entries acted.done.scene acted.done.acts),
+      runs_both (network_held first verifies) start goes.history goes.scene.state acted.done.entries acted.done.scene.state
+          (prints_run (network_held first verifies) 1 0 (first_scene scheme (network_held first verifies) start) so_far.done goes.printed goes.history goes.scene goes.prints)
+          (acts_run (network_held first verifies) goes.scene acted.meaning printed.items acted.done.entries acted.done.scene acted.done.acts),
       acted.done.holds.stands,
     )
 
@@ -231,16 +233,16 @@ ran_short network first new start s history means run short =
     let on = left_run network start s short.state history means run short.left in
     (on.0, short.state, on.1, short.stands)
 
-pub ran_stopped : (first : Held) (old new : Session) (before number : ℕ) (old_text text old_out out : Option (List ℕ)) (line : List ℕ) (why : Stop) → Running (core_network first) first old before number old_text text old_out out
-    → AnswersTo old new before number line (Err why) → HasRun first new.core
-ran_stopped first old new before number old_text text old_out out line (stop.Fault why) so_far said = λ start stands.
+pub ran_stopped : {S : Type 0} (scheme : Scheme) (verifies : Verifies) (first : Held) (old new : Session S) (before number : ℕ) (old_text text old_out out : Option (List ℕ)) (line : List ℕ) (why : Stop) → Running scheme verifies (network_held first verifies) first old before number old_text text old_out out
+    → AnswersTo verifies old new before number line (Err why) → HasRun verifies first new.core
+ran_stopped scheme verifies first old new before number old_text text old_out out line (stop.Fault why) so_far said = λ start stands.
     let goes = so_far.goes start stands in
-    (goes.history, goes.scene.state, prints_run (core_network first) 1 0 (first_scene (core_network first) start) so_far.done goes.printed goes.history goes.scene goes.prints, (said goes.scene goes.holds).1)
-ran_stopped first old new before number old_text text old_out out line stop.OutOfMemory so_far said = λ start stands.
+    (goes.history, goes.scene.state, prints_run (network_held first verifies) 1 0 (first_scene scheme (network_held first verifies) start) so_far.done goes.printed goes.history goes.scene goes.prints, (said goes.scene goes.holds).1)
+ran_stopped scheme verifies first old new before number old_text text old_out out line stop.OutOfMemory so_far said = λ start stands.
     let goes = so_far.goes start stands in
     let means = Means number before goes.scene.names line in
-    ran_short (core_network first) first new.core start goes.scene.state goes.history means
-    (prints_run (core_network first) 1 0 (first_scene (core_network first) start) so_far.done goes.printed goes.history goes.scene goes.prints)
+    ran_short (network_held first verifies) first new.core start goes.scene.state goes.history means
+    (prints_run (network_held first verifies) 1 0 (first_scene scheme (network_held first verifies) start) so_far.done goes.printed goes.history goes.scene goes.prints)
     (subst (λ (n : Network). IsShort n goes.scene.state means new.core) so_far.same_network (said goes.scene goes.holds).1)
 
 -- ---- ends
@@ -252,9 +254,9 @@ at_end text rest line done lines is none =
     lines ∙ ap (λ (l : List ℕ). done ++ lines_of l) empty ∙ append-nil done
 
 -- all lines of a text that is at its end were obeyed
-abbrev all_obeyed : (network : Network) (start : State) (session : Session) (done : List (List ℕ)) (old_out out : Option (List ℕ)) (so_far : Goes network start session done old_out out) (lines : List (List ℕ)) → lines ≡ done → AreObeyed network start lines so_far.printed
-all_obeyed network start session done old_out out so_far lines same =
-    obeyed network start lines so_far.printed so_far.history so_far.scene (subst (λ (ls : List (List ℕ)). Prints network 1 0 (first_scene network start) ls so_far.printed so_far.history so_far.scene) (sym same) so_far.prints)
+abbrev all_obeyed : {S : Type 0} (scheme : Scheme) (network : Network) (start : State) (session : Session S) (done : List (List ℕ)) (old_out out : Option (List ℕ)) (so_far : Goes scheme network start session done old_out out) (lines : List (List ℕ)) → lines ≡ done → AreObeyed scheme network start lines so_far.printed
+all_obeyed scheme network start session done old_out out so_far lines same =
+    obeyed scheme network start lines so_far.printed so_far.history so_far.scene (subst (λ (ls : List (List ℕ)). Prints network 1 0 (first_scene scheme network start) ls so_far.printed so_far.history so_far.scene) (sym same) so_far.prints)
 
 pub no_making : (making : Option OpenTx) → None ≡ option_map (λ (made : OpenTx). made.line) making → making ≡ None
 no_making None is = refl
@@ -273,20 +275,20 @@ pub nothing_left : (rest line : List ℕ) → line ≡ take_through 10 rest → 
 nothing_left rest line is none = ap (drop_through 10) (no_line rest (sym is ∙ none))
 
 -- which line began the transaction that is open, whatever the scene that a session holds
-abbrev pub IsOpenLine : Session → Option ℕ → Type 0
+abbrev pub IsOpenLine : {S : Type 0} → Session S → Option ℕ → Type 0
 IsOpenLine session told = (s : Scene) → Holds session s → told ≡ option_map (λ (made : OpenTx). made.line) s.names.making
 
 -- the run ended well
-pub ended : (first : Held) (session : Session) (before number : ℕ) (old_text mid_text text old_out out : Option (List ℕ)) (line : List ℕ) (told : Option ℕ) (so_far : Running (core_network first) first session before number old_text mid_text old_out out)
-    → HasLine old_text text so_far.done line → line ≡ [] → IsOpenLine session told → ((number : ℕ) → told ≡ Some number → ⊥) → IfSome old_text (λ t. RunsWell first session.core t old_out out)
-ended first session before number None mid_text text old_out out line told so_far read none is_told open_none = tt
-ended first session before number (Some t) mid_text text old_out out line told so_far (rest, remains, is, lines, all) none is_told open_none = λ start stands.
+pub ended : {S : Type 0} (scheme : Scheme) (verifies : Verifies) (first : Held) (session : Session S) (before number : ℕ) (old_text mid_text text old_out out : Option (List ℕ)) (line : List ℕ) (told : Option ℕ) (so_far : Running scheme verifies (network_held first verifies) first session before number old_text mid_text old_out out)
+    → HasLine old_text text so_far.done line → line ≡ [] → IsOpenLine session told → ((number : ℕ) → told ≡ Some number → ⊥) → IfSome old_text (λ t. RunsWell scheme verifies first session.core t old_out out)
+ended scheme verifies first session before number None mid_text text old_out out line told so_far read none is_told open_none = tt
+ended scheme verifies first session before number (Some t) mid_text text old_out out line told so_far (rest, remains, is, lines, all) none is_told open_none = λ start stands.
     let goes = so_far.goes start stands in (
       goes.scene.state,
       record {
         out = goes.printed;
         written = goes.written;
-        obeyed = all_obeyed (core_network first) start session so_far.done old_out out goes (lines_of t) (at_end t rest line so_far.done lines is none);
+        obeyed = all_obeyed scheme (network_held first verifies) start session so_far.done old_out out goes (lines_of t) (at_end t rest line so_far.done lines is none);
         ended = no_making goes.scene.names.making (no_line_told told (option_map (λ (made : OpenTx). made.line) goes.scene.names.making) (is_told goes.scene goes.holds) open_none);
         is_end = refl;
       },
@@ -299,10 +301,10 @@ nothing_remains None text done line read none = tt
 nothing_remains (Some t) text done line (rest, remains, is, lines, all) none = remains ∙ ap Some (nothing_left rest line is none)
 
 -- the run ended within a transaction, whose line has this number
-pub unended : (first : Held) (session : Session) (before number : ℕ) (old_text mid_text text old_out out : Option (List ℕ)) (line : List ℕ) (begun : ℕ) (so_far : Running (core_network first) first session before number old_text mid_text old_out out)
-    → HasLine old_text text so_far.done line → line ≡ [] → IsOpenLine session (Some begun) → IfSome old_text (λ t. RunsInto first session.core t text old_out out (fault.Line begun BadLine))
-unended first session before number None mid_text text old_out out line begun so_far read none is_told = tt
-unended first session before number (Some t) mid_text text old_out out line begun so_far (rest, remains, is, lines, all) none is_told = λ start stands.
+pub unended : {S : Type 0} (scheme : Scheme) (verifies : Verifies) (first : Held) (session : Session S) (before number : ℕ) (old_text mid_text text old_out out : Option (List ℕ)) (line : List ℕ) (begun : ℕ) (so_far : Running scheme verifies (network_held first verifies) first session before number old_text mid_text old_out out)
+    → HasLine old_text text so_far.done line → line ≡ [] → IsOpenLine session (Some begun) → IfSome old_text (λ t. RunsInto scheme verifies first session.core t text old_out out (fault.Line begun BadLine))
+unended scheme verifies first session before number None mid_text text old_out out line begun so_far read none is_told = tt
+unended scheme verifies first session before number (Some t) mid_text text old_out out line begun so_far (rest, remains, is, lines, all) none is_told = λ start stands.
     let goes = so_far.goes start stands in
     let making = some_making goes.scene.names.making begun (is_told goes.scene goes.holds) in (
       goes.scene.state,
@@ -315,7 +317,7 @@ unended first session before number (Some t) mid_text text old_out out line begu
           refl,
           nothing_left rest line is none,
           record {
-            obeyed = all_obeyed (core_network first) start session so_far.done old_out out goes (lines_of t) (at_end t rest line so_far.done lines is none);
+            obeyed = all_obeyed scheme (network_held first verifies) start session so_far.done old_out out goes (lines_of t) (at_end t rest line so_far.done lines is none);
             made = making.0;
             is_made = making.1;
             line = making.2;
@@ -331,16 +333,16 @@ pub text_behind : (text rest line : List ℕ) (done : List (List ℕ)) → text 
 text_behind text rest line done all is = all ∙ ap (λ (l : List ℕ). concat done ++ l) (line_and_rest rest ∙ ap (λ (l : List ℕ). l ++ drop_through 10 rest) (sym is))
 
 -- nothing of a line is printed
-abbrev breaks_off_before : (network : Network) (start : State) (text rest left more : List ℕ) (done : List (List ℕ)) (printed : List ℕ) (history : List Entry) (scene : Scene) → Prints network 1 0 (first_scene network start) done printed history scene → lines_of text ≡ done ++ lines_of rest → text ≡ concat done ++ (more ++ left)
-    → IsPiece more → BreaksOff network start text left printed
-breaks_off_before network start text rest left more done printed history scene prints lines all piece = record {
+abbrev breaks_off_before : (scheme : Scheme) (network : Network) (start : State) (text rest left more : List ℕ) (done : List (List ℕ)) (printed : List ℕ) (history : List Entry) (scene : Scene) → Prints network 1 0 (first_scene scheme network start) done printed history scene → lines_of text ≡ done ++ lines_of rest → text ≡ concat done ++ (more ++ left)
+    → IsPiece more → BreaksOff scheme network start text left printed
+breaks_off_before scheme network start text rest left more done printed history scene prints lines all piece = record {
   lines = done;
   after = lines_of rest;
   begins = lines;
   more = more;
   piece = piece;
   read = all;
-  obeyed = obeyed network start done printed history scene prints;
+  obeyed = obeyed scheme network start done printed history scene prints;
 }
 
 -- the same line, by its place among those that were read
@@ -349,12 +351,12 @@ means_there number before done s line P counted size holds =
     subst (λ (n : ℕ). P (Means n (length (concat done)) s.names line)) (sym counted) (subst (λ (n : ℕ). P (Means number n s.names line)) size holds)
 
 -- a line was not run
-pub stopped : (first : Held) (session new : Session) (before number : ℕ) (old_text mid_text text old_out out : Option (List ℕ)) (line : List ℕ) (why : Stop) (so_far : Running (core_network first) first session before number old_text mid_text old_out out)
-    → HasLine old_text text so_far.done line → line ≢ [] → AnswersTo session new before number line (Err why)
-    → IfSome old_text (λ t. RunsInto first new.core t text old_out out (fault_of number why))
-stopped first session new before number None mid_text text old_out out line why so_far read some said = tt
-stopped first session new before number (Some t) mid_text text old_out out line (stop.Fault why) so_far (rest, remains, is, lines, all) some said = λ start stands.
-    let network = core_network first in
+pub stopped : {S : Type 0} (scheme : Scheme) (verifies : Verifies) (first : Held) (session new : Session S) (before number : ℕ) (old_text mid_text text old_out out : Option (List ℕ)) (line : List ℕ) (why : Stop) (so_far : Running scheme verifies (network_held first verifies) first session before number old_text mid_text old_out out)
+    → HasLine old_text text so_far.done line → line ≢ [] → AnswersTo verifies session new before number line (Err why)
+    → IfSome old_text (λ t. RunsInto scheme verifies first new.core t text old_out out (fault_of number why))
+stopped scheme verifies first session new before number None mid_text text old_out out line why so_far read some said = tt
+stopped scheme verifies first session new before number (Some t) mid_text text old_out out line (stop.Fault why) so_far (rest, remains, is, lines, all) some said = λ start stands.
+    let network = network_held first verifies in
     let goes = so_far.goes start stands in
     let told = said goes.scene goes.holds in (
       goes.scene.state,
@@ -370,15 +372,15 @@ stopped first session new before number (Some t) mid_text text old_out out line 
           lines = one_line_more t rest line so_far.done lines is some;
           read = text_behind t rest line so_far.done all is;
           counted = so_far.counted;
-          obeyed = obeyed network start so_far.done goes.printed goes.history goes.scene goes.prints;
+          obeyed = obeyed scheme network start so_far.done goes.printed goes.history goes.scene goes.prints;
           is_fault = subst (λ (n : ℕ). Means number n goes.scene.names line (Err why)) so_far.size told.0;
           is_end = refl;
         });
       },
       told.1,
     )
-stopped first session new before number (Some t) mid_text text old_out out line stop.OutOfMemory so_far (rest, remains, is, lines, all) some said = λ start stands.
-    let network = core_network first in
+stopped scheme verifies first session new before number (Some t) mid_text text old_out out line stop.OutOfMemory so_far (rest, remains, is, lines, all) some said = λ start stands.
+    let network = network_held first verifies in
     let goes = so_far.goes start stands in
     let told = said goes.scene goes.holds in
     let short = subst (λ (n : Network). IsShort n goes.scene.state (Means number before goes.scene.names line) new.core) so_far.same_network told.1 in (
@@ -389,7 +391,7 @@ stopped first session new before number (Some t) mid_text text old_out out line 
         out = goes.printed;
         written = goes.written;
         is_fault = record {
-          broken = breaks_off_before network start t rest (drop_through 10 rest) line so_far.done goes.printed goes.history goes.scene goes.prints lines (text_behind t rest line so_far.done all is) (subst (λ (l : List ℕ). IsPiece l) (sym is) (line_stops rest));
+          broken = breaks_off_before scheme network start t rest (drop_through 10 rest) line so_far.done goes.printed goes.history goes.scene goes.prints lines (text_behind t rest line so_far.done all is) (subst (λ (l : List ℕ). IsPiece l) (sym is) (line_stops rest));
           has_no_fault = λ content whole. subst (λ (n : ℕ). HasNoFault n (length (concat so_far.done)) goes.scene.names line) (sym so_far.counted) (subst (λ (n : ℕ). HasNoFault number n goes.scene.names line) so_far.size told.0);
           is_end = means_there number before so_far.done goes.scene line (λ means. IsLeftBy network goes.scene.state means short.state) so_far.counted so_far.size short.left;
         };
@@ -398,14 +400,14 @@ stopped first session new before number (Some t) mid_text text old_out out line 
     )
 
 -- of what a line prints a part was written
-pub not_written : (first : Held) (old new : Session) (before number : ℕ) (old_text mid_text text old_out mid_out out : Option (List ℕ)) (line : List ℕ) (printed : Vec ℕ) (so_far : Running (core_network first) first old before number old_text mid_text old_out mid_out)
-    → HasLine old_text text so_far.done line → line ≢ [] → AnswersTo old new before number line (Ok printed)
-    → AppendsPart mid_out out printed.items → IfSome old_text (λ t. RunsInto first new.core t text old_out out fault.WriteFailed)
-not_written first old new before number None mid_text text old_out mid_out out line printed so_far read some said written = tt
-not_written first old new before number (Some t) mid_text text old_out mid_out out line printed so_far (rest, remains, is, lines, all) some said (unwritten, not_all, some_written) = λ start stands.
-    let network = core_network first in
+pub not_written : {S : Type 0} (scheme : Scheme) (verifies : Verifies) (first : Held) (old new : Session S) (before number : ℕ) (old_text mid_text text old_out mid_out out : Option (List ℕ)) (line : List ℕ) (printed : Vec ℕ) (so_far : Running scheme verifies (network_held first verifies) first old before number old_text mid_text old_out mid_out)
+    → HasLine old_text text so_far.done line → line ≢ [] → AnswersTo verifies old new before number line (Ok printed)
+    → AppendsPart mid_out out printed.items → IfSome old_text (λ t. RunsInto scheme verifies first new.core t text old_out out fault.WriteFailed)
+not_written scheme verifies first old new before number None mid_text text old_out mid_out out line printed so_far read some said written = tt
+not_written scheme verifies first old new before number (Some t) mid_text text old_out mid_out out line printed so_far (rest, remains, is, lines, all) some said (unwritten, not_all, some_written) = λ start stands.
+    let network = network_held first verifies in
     let goes = so_far.goes start stands in
-    let acted = acted_from network old new before number line printed goes.scene so_far.same_network said goes.holds in
+    let acted = acted_from verifies network old new before number line printed goes.scene so_far.same_network said goes.holds in
     let obeys = obeyed_so network number before goes.scene line printed.items new so_far.done acted so_far.counted so_far.size in (
       acted.done.scene.state,
       record {
@@ -421,9 +423,9 @@ not_written first old new before number (Some t) mid_text text old_out mid_out o
           read = text_behind t rest line so_far.done all is;
           before = goes.printed;
           printed = printed.items;
-          obeyed_before = obeyed network start so_far.done goes.printed goes.history goes.scene goes.prints;
-          obeyed = obeyed network start (so_far.done ++ line ∷ []) (goes.printed ++ printed.items) (goes.history ++ acted.done.entries) acted.done.scene
-              (prints_more network 1 0 (first_scene network start) so_far.done goes.printed goes.history goes.scene line printed.items acted.done.entries acted.done.scene goes.prints obeys);
+          obeyed_before = obeyed scheme network start so_far.done goes.printed goes.history goes.scene goes.prints;
+          obeyed = obeyed scheme network start (so_far.done ++ line ∷ []) (goes.printed ++ printed.items) (goes.history ++ acted.done.entries) acted.done.scene
+              (prints_more network 1 0 (first_scene scheme network start) so_far.done goes.printed goes.history goes.scene line printed.items acted.done.entries acted.done.scene goes.prints obeys);
           part = some_written.part;
           unwritten = unwritten;
           parts = some_written.begins;
@@ -446,31 +448,31 @@ abbrev pub IsReadFault : List ℕ → ScenarioFault → Type 0
 IsReadFault part why = (why ≡ fault.ReadFailed) ⊎ ((why ≡ fault.OutOfMemory) × ((content : List ℕ) → part ≡ content ++ 10 ∷ [] → ⊥))
 
 -- no line was read
-breaks_at : (network : Network) (start : State) (t : List ℕ) (text old_out out : Option (List ℕ)) (rest left part : List ℕ) (done : List (List ℕ)) (printed : List ℕ) (history : List Entry) (scene : Scene) → Prints network 1 0 (first_scene network start) done printed history scene → Appends old_out out printed
-    → lines_of t ≡ done ++ lines_of rest → t ≡ concat done ++ rest → text ≡ Some left → rest ≡ part ++ left → IsPiece part → (why : ScenarioFault) → IsReadFault part why → EndsByFrom network start t text old_out out why scene.state
-breaks_at network start t text old_out out rest left part done printed history scene prints written lines all remains parts piece why is =
-    let broken : BreaksOff network start t left printed = breaks_off_before network start t rest left part done printed history scene prints lines (all ∙ ap (λ (l : List ℕ). concat done ++ l) parts) piece in
+breaks_at : (scheme : Scheme) (network : Network) (start : State) (t : List ℕ) (text old_out out : Option (List ℕ)) (rest left part : List ℕ) (done : List (List ℕ)) (printed : List ℕ) (history : List Entry) (scene : Scene) → Prints network 1 0 (first_scene scheme network start) done printed history scene → Appends old_out out printed
+    → lines_of t ≡ done ++ lines_of rest → t ≡ concat done ++ rest → text ≡ Some left → rest ≡ part ++ left → IsPiece part → (why : ScenarioFault) → IsReadFault part why → EndsByFrom scheme network start t text old_out out why scene.state
+breaks_at scheme network start t text old_out out rest left part done printed history scene prints written lines all remains parts piece why is =
+    let broken : BreaksOff scheme network start t left printed = breaks_off_before scheme network start t rest left part done printed history scene prints lines (all ∙ ap (λ (l : List ℕ). concat done ++ l) parts) piece in
     elim is [
-      | inl e ↦ subst (λ (w : ScenarioFault). EndsByFrom network start t text old_out out w scene.state) (sym e) (record { left = left; remains = remains; out = printed; written = written; is_fault = record { broken = broken; is_end = refl } })
-      | inr e ↦ subst (λ (w : ScenarioFault). EndsByFrom network start t text old_out out w scene.state) (sym e.0)
+      | inl e ↦ subst (λ (w : ScenarioFault). EndsByFrom scheme network start t text old_out out w scene.state) (sym e) (record { left = left; remains = remains; out = printed; written = written; is_fault = record { broken = broken; is_end = refl } })
+      | inr e ↦ subst (λ (w : ScenarioFault). EndsByFrom scheme network start t text old_out out w scene.state) (sym e.0)
           (record { left = left; remains = remains; out = printed; written = written; is_fault = record { broken = broken; has_no_fault = λ content whole. absurd (e.1 content whole); is_end = inl refl } })
     ]
 
-not_read_at : (first : Held) (session : Session) (before number : ℕ) (old_text mid_text text old_out out : Option (List ℕ)) (part : List ℕ) (so_far : Running (core_network first) first session before number old_text mid_text old_out out)
-    → HasRead old_text mid_text so_far.done → Consumes mid_text text part → IsPiece part → (why : ScenarioFault) → IsReadFault part why → IfSome old_text (λ t. RunsInto first session.core t text old_out out why)
-not_read_at first session before number None mid_text text old_out out part so_far read taken piece why is = tt
-not_read_at first session before number (Some t) mid_text text old_out out part so_far (rest, remains, lines, all) taken piece why is = λ start stands.
+not_read_at : {S : Type 0} (scheme : Scheme) (verifies : Verifies) (first : Held) (session : Session S) (before number : ℕ) (old_text mid_text text old_out out : Option (List ℕ)) (part : List ℕ) (so_far : Running scheme verifies (network_held first verifies) first session before number old_text mid_text old_out out)
+    → HasRead old_text mid_text so_far.done → Consumes mid_text text part → IsPiece part → (why : ScenarioFault) → IsReadFault part why → IfSome old_text (λ t. RunsInto scheme verifies first session.core t text old_out out why)
+not_read_at scheme verifies first session before number None mid_text text old_out out part so_far read taken piece why is = tt
+not_read_at scheme verifies first session before number (Some t) mid_text text old_out out part so_far (rest, remains, lines, all) taken piece why is = λ start stands.
     let goes = so_far.goes start stands in
     let left = still_left rest part mid_text text remains taken in (
       goes.scene.state,
-      breaks_at (core_network first) start t text old_out out rest left.0 part so_far.done goes.printed goes.history goes.scene goes.prints goes.written lines all left.1 left.2 piece why is,
+      breaks_at scheme (network_held first verifies) start t text old_out out rest left.0 part so_far.done goes.printed goes.history goes.scene goes.prints goes.written lines all left.1 left.2 piece why is,
       goes.holds.stands,
     )
 
-pub not_read : (first : Held) (session : Session) (before number : ℕ) (old_text mid_text text old_out out : Option (List ℕ)) (part : List ℕ) (so_far : Running (core_network first) first session before number old_text mid_text old_out out)
-    → Consumes mid_text text part → IsPiece part → (why : ScenarioFault) → IsReadFault part why → IfSome old_text (λ t. RunsInto first session.core t text old_out out why)
-not_read first session before number old_text mid_text text old_out out part so_far taken piece why is =
-    not_read_at first session before number old_text mid_text text old_out out part so_far so_far.read taken piece why is
+pub not_read : {S : Type 0} (scheme : Scheme) (verifies : Verifies) (first : Held) (session : Session S) (before number : ℕ) (old_text mid_text text old_out out : Option (List ℕ)) (part : List ℕ) (so_far : Running scheme verifies (network_held first verifies) first session before number old_text mid_text old_out out)
+    → Consumes mid_text text part → IsPiece part → (why : ScenarioFault) → IsReadFault part why → IfSome old_text (λ t. RunsInto scheme verifies first session.core t text old_out out why)
+not_read scheme verifies first session before number old_text mid_text text old_out out part so_far taken piece why is =
+    not_read_at scheme verifies first session before number old_text mid_text text old_out out part so_far so_far.read taken piece why is
 
 -- the part of a line that was read into a buffer that was empty
 pub part_into : (start buf line : List ℕ) (why : ScenarioFault) → start ≡ [] → line ≡ buf → IsReadFault line why → IsReadFault (appended_bytes start buf) why
@@ -485,34 +487,34 @@ is_nil (x ∷ xs) n is test = let zero_long : n ≡ 0 = grind (arith, nat_tests)
 
 -- ---- a new core
 
-pub new_well : (network : Network) → IsOpening network → (old new : Held) → core_network old ≡ network → Stands old (opening network) → (text before after : Option (List ℕ)) (result : Result (Unit {0}) ScenarioFault)
-    → OnOk result (IfSome text (λ t. RunsWell old new t before after)) → OnOk result (IfSome text (λ t. EndsWell network t before after))
-new_well network opens old new is stands None before after (Ok done) well = tt
-new_well network opens old new is stands (Some t) before after (Ok done) well =
+pub new_well : (scheme : Scheme) (verifies : Verifies) (network : Network) → IsOpening network → (old new : Held) → network_held old verifies ≡ network → Stands old (opening network) → (text before after : Option (List ℕ)) (result : Result (Unit {0}) ScenarioFault)
+    → OnOk result (IfSome text (λ t. RunsWell scheme verifies old new t before after)) → OnOk result (IfSome text (λ t. EndsWell scheme network t before after))
+new_well scheme verifies network opens old new is stands None before after (Ok done) well = tt
+new_well scheme verifies network opens old new is stands (Some t) before after (Ok done) well =
     let from = well (opening network) stands in
-    record { opens = opens; end = from.0; ends = subst (λ (n : Network). EndsWellFrom n (opening network) t before after from.0) is from.1 }
-new_well network opens old new is stands text before after (Err why) well = tt
+    record { opens = opens; end = from.0; ends = subst (λ (n : Network). EndsWellFrom scheme n (opening network) t before after from.0) is from.1 }
+new_well scheme verifies network opens old new is stands text before after (Err why) well = tt
 
-pub new_into : (network : Network) → IsOpening network → (old new : Held) → core_network old ≡ network → Stands old (opening network) → (text remaining before after : Option (List ℕ)) (result : Result (Unit {0}) ScenarioFault)
-    → IfErr result (λ why. IfSome text (λ t. RunsInto old new t remaining before after why)) → IfErr result (λ why. IfSome text (λ t. EndsBy network t remaining before after why))
-new_into network opens old new is stands text remaining before after (Ok done) into = tt
-new_into network opens old new is stands None remaining before after (Err why) into = tt
-new_into network opens old new is stands (Some t) remaining before after (Err why) into =
+pub new_into : (scheme : Scheme) (verifies : Verifies) (network : Network) → IsOpening network → (old new : Held) → network_held old verifies ≡ network → Stands old (opening network) → (text remaining before after : Option (List ℕ)) (result : Result (Unit {0}) ScenarioFault)
+    → IfErr result (λ why. IfSome text (λ t. RunsInto scheme verifies old new t remaining before after why)) → IfErr result (λ why. IfSome text (λ t. EndsBy scheme network t remaining before after why))
+new_into scheme verifies network opens old new is stands text remaining before after (Ok done) into = tt
+new_into scheme verifies network opens old new is stands None remaining before after (Err why) into = tt
+new_into scheme verifies network opens old new is stands (Some t) remaining before after (Err why) into =
     let from = into (opening network) stands in
-    record { opens = opens; end = from.0; ends = subst (λ (n : Network). EndsByFrom n (opening network) t remaining before after why from.0) is from.1 }
+    record { opens = opens; end = from.0; ends = subst (λ (n : Network). EndsByFrom scheme n (opening network) t remaining before after why from.0) is from.1 }
 
 -- ---- a core that is handed in and given back
 
-pub handed_well : (held old new given : Held) → old ≡ held → given ≡ new → (text before after : Option (List ℕ)) (result : Result (Unit {0}) ScenarioFault)
-    → OnOk result (IfSome text (λ t. RunsWell old new t before after)) → OnOk result (IfSome text (λ t. RunsWell held given t before after))
-handed_well held old new given is same text before after result well =
-    subst (λ (h : Held). OnOk result (IfSome text (λ t. RunsWell h given t before after))) is (subst (λ (h : Held). OnOk result (IfSome text (λ t. RunsWell old h t before after))) (sym same) well)
+pub handed_well : (scheme : Scheme) (verifies : Verifies) (held old new given : Held) → old ≡ held → given ≡ new → (text before after : Option (List ℕ)) (result : Result (Unit {0}) ScenarioFault)
+    → OnOk result (IfSome text (λ t. RunsWell scheme verifies old new t before after)) → OnOk result (IfSome text (λ t. RunsWell scheme verifies held given t before after))
+handed_well scheme verifies held old new given is same text before after result well =
+    subst (λ (h : Held). OnOk result (IfSome text (λ t. RunsWell scheme verifies h given t before after))) is (subst (λ (h : Held). OnOk result (IfSome text (λ t. RunsWell scheme verifies old h t before after))) (sym same) well)
 
-pub handed_into : (held old new given : Held) → old ≡ held → given ≡ new → (text remaining before after : Option (List ℕ)) (result : Result (Unit {0}) ScenarioFault)
-    → IfErr result (λ why. IfSome text (λ t. RunsInto old new t remaining before after why)) → IfErr result (λ why. IfSome text (λ t. RunsInto held given t remaining before after why))
-handed_into held old new given is same text remaining before after result into =
-    subst (λ (h : Held). IfErr result (λ why. IfSome text (λ t. RunsInto h given t remaining before after why))) is
-    (subst (λ (h : Held). IfErr result (λ why. IfSome text (λ t. RunsInto old h t remaining before after why))) (sym same) into)
+pub handed_into : (scheme : Scheme) (verifies : Verifies) (held old new given : Held) → old ≡ held → given ≡ new → (text remaining before after : Option (List ℕ)) (result : Result (Unit {0}) ScenarioFault)
+    → IfErr result (λ why. IfSome text (λ t. RunsInto scheme verifies old new t remaining before after why)) → IfErr result (λ why. IfSome text (λ t. RunsInto scheme verifies held given t remaining before after why))
+handed_into scheme verifies held old new given is same text remaining before after result into =
+    subst (λ (h : Held). IfErr result (λ why. IfSome text (λ t. RunsInto scheme verifies h given t remaining before after why))) is
+    (subst (λ (h : Held). IfErr result (λ why. IfSome text (λ t. RunsInto scheme verifies old h t remaining before after why))) (sym same) into)
 
-pub handed_run : (held old new given : Held) → old ≡ held → given ≡ new → HasRun old new → HasRun held given
-handed_run held old new given is same run = subst (λ (h : Held). HasRun h given) is (subst (λ (h : Held). HasRun old h) (sym same) run)
+pub handed_run : (verifies : Verifies) (held old new given : Held) → old ≡ held → given ≡ new → HasRun verifies old new → HasRun verifies held given
+handed_run verifies held old new given is same run = subst (λ (h : Held). HasRun verifies h given) is (subst (λ (h : Held). HasRun verifies old h) (sym same) run)

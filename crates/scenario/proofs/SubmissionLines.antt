@@ -29,7 +29,7 @@ use Rattle.scenario.specs.SessionView.{Holds, Done, Forges}
 
 -- ---- submissions
 
-pub submission_acted : (network : Network) (s : Scene) (name : List ℕ) (tx : Transaction) (reply : Reply) (out : List ℕ) (new : Session) → out ≡ submission_text name reply → AreNamed new.names s.names
+pub submission_acted : {S : Type 0} (network : Network) (s : Scene) (name : List ℕ) (tx : Transaction) (reply : Reply) (out : List ℕ) (new : Session S) → out ≡ submission_text name reply → AreNamed new.names s.names
     → (t : State) × Step network s.state (Submit (text_of (item_of_transaction tx))) reply t × Stands new.core t
     → Done network s (SubmitsTx name tx) out new
 submission_acted network s name tx reply out new printed names (t, step, stands) = record {
@@ -74,7 +74,7 @@ none_forged network s held name slot fault.SlotNotAfterTip names stands why name
 none_forged network s held name slot fault.OutOfRange names stands why named = record { is = NoBlock OutOfRange; is_answer = subst (λ (c : List Block). IsNotForged network c slot OutOfRange) stands.chain why; text = refl; named = named }
 none_forged network s held name slot fault.OutOfMemory names stands why named = record { is = NoMemory; is_answer = subst (λ (c : List Block). IsForgeFault network c slot fault.OutOfMemory) stands.chain why; text = refl; named = named }
 
-pub forging_acted : (network : Network) (s : Scene) (name : List ℕ) (slot : ℕ) (answer : Result ℕ CodeFault) (out : List ℕ) (new : Session) → Forges network s name slot answer new.names → Stands new.core s.state → out ≡ forging_text name (code_answer_text answer)
+pub forging_acted : {S : Type 0} (network : Network) (s : Scene) (name : List ℕ) (slot : ℕ) (answer : Result ℕ CodeFault) (out : List ℕ) (new : Session S) → Forges network s name slot answer new.names → Stands new.core s.state → out ≡ forging_text name (code_answer_text answer)
     → Done network s (ForgesBlock name slot) out new
 forging_acted network s name slot answer out new forges stands printed = record {
   entries = [];
@@ -85,7 +85,7 @@ forging_acted network s name slot answer out new forges stands printed = record 
 
 -- ---- the mempool
 
-pub mempool_acted : (network : Network) (s : Scene) (out : List ℕ) (session : Session) → Holds session s → out ≡ mempool_text s.names.of_txs session.core.mempool → Done network s PrintsMempool out session
+pub mempool_acted : {S : Type 0} (network : Network) (s : Scene) (out : List ℕ) (session : Session S) → Holds session s → out ≡ mempool_text s.names.of_txs session.core.mempool → Done network s PrintsMempool out session
 mempool_acted network s out session holds printed = record {
   entries = [];
   scene = s;

@@ -15,7 +15,7 @@ use Rattle.scenario.specs.SessionView.{Holds, Done}
 same_unspent : (a : Ledger) (utxo : Utxo) (pairs coin fees : ℕ) → utxo ≡ a.utxo → pairs ≡ finite.len utxo → coin ≡ coin_of (outputs_of utxo) → fees ≡ a.fees → unspent_text pairs coin fees ≡ utxo_text a
 same_unspent a utxo pairs coin fees is is_pairs is_coin is_fees = rw (is_pairs, is_coin, is_fees, is) refl
 
-pub utxo_acted : (network : Network) (s : Scene) (utxo : Utxo) (pairs coin fees : ℕ) (old out : List ℕ) (session : Session) → Holds session s
+pub utxo_acted : {S : Type 0} (network : Network) (s : Scene) (utxo : Utxo) (pairs coin fees : ℕ) (old out : List ℕ) (session : Session S) → Holds session s
     → (ledger : Ledger) × (ledger_of network session.core.chain ≡ Some ledger) × (utxo ≡ ledger.utxo)
     → (ledger : Ledger) × (ledger_of network session.core.chain ≡ Some ledger) × (fees ≡ ledger.fees)
     → pairs ≡ finite.len utxo → coin ≡ coin_of (outputs_of utxo) → old ≡ [] → out ≡ old ++ unspent_text pairs coin fees

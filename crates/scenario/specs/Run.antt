@@ -5,9 +5,7 @@ use Rattle.std.specs.List.{concat}
 use Rattle.std.specs.Io.KnownBytes.{Appends}
 use Rattle.model.specs.Cbor.{text_of}
 use Rattle.model.specs.Transaction.{Transaction, item_of_transaction}
-use Rattle.model.specs.Signature.{test_verifies}
-use Rattle.model.specs.Genesis.{Genesis}
-use Rattle.model.specs.Ledger.{Network, Ledger, network_of, ledger_of}
+use Rattle.model.specs.Ledger.{Network, Ledger, ledger_of}
 use Rattle.model.specs.Chain.{Point, tip_point, IsOpening}
 use Rattle.model.specs.Follower.{free_id}
 use Rattle.model.specs.Limits.{follower_limit}
@@ -16,6 +14,7 @@ use Rattle.model.specs.History.{State, opening, Event, Arrive, Submit, Open, Nex
 use Rattle.model.specs.History.{Reply, Opened, OutOfMemory}
 use Rattle.model.specs.History.{Entry, IsRun, IsLegal, ChainTheorem}
 use Rattle.model.specs.Asked.{Why, IsWhyOf, TxPlace, IsTxPlaceOf}
+use Rattle.genesis.specs.declared.scheme.Scheme.{Scheme}
 use Rattle.script.specs.declared.fault.LineFault.{LineFault}
 use Rattle.script.specs.declared.fault.LineFault.TheVariants.{BadLine}
 use Rattle.script.specs.declared.stop.Stop.{Stop}
@@ -39,17 +38,13 @@ pub record Scene : Type 0 where
   pub state : State
   pub names : AllNames
 
--- a node in this state, and no name is bound
-abbrev pub first_scene : Network → State → Scene
-first_scene network s = record { state = s; names = no_names network.genesis.params.network }
+-- a node in this state, and no name is bound. What a script signs it signs by this scheme
+abbrev pub first_scene : Scheme → Network → State → Scene
+first_scene scheme network s = record { state = s; names = no_names scheme network.genesis.params.network }
 
 -- nothing has happened either
-abbrev pub opening_scene : Network → Scene
-opening_scene network = first_scene network (opening network)
-
--- the network that a script runs on: of this genesis and no block, with signatures of the scheme for tests
-abbrev pub script_network : Genesis → Network
-script_network genesis = network_of genesis test_verifies
+abbrev pub opening_scene : Scheme → Network → Scene
+opening_scene scheme network = first_scene scheme network (opening network)
 
 -- bytes that arrived were answered so, by a step of the definitions
 pub record Arrived (network : Network) (s : Scene) (bytes : List ℕ) (reply : Reply) (t : Scene) : Type 0 where
@@ -172,10 +167,11 @@ Prints network number before s (line ∷ lines) out history t = (first rest : Li
 -- the node was opened on a valid chain, the chain theorem holds of every legal history that led to the state with these
 -- behind it: that is a legal history, the selected chain is valid, and none is longer, the mempool is valid on it, and
 -- each follower follows it.
-pub record AreObeyed (network : Network) (start : State) (lines : List (List ℕ)) (out : List ℕ) : Type 0 where
+pub record AreObeyed (scheme : Scheme) (network : Network) (start : State) (lines : List (List ℕ)) (out : List ℕ)
+    : Type 0 where
   pub scene : Scene
   pub history : List Entry
-  pub prints : Prints network 1 0 (first_scene network start) lines out history scene
+  pub prints : Prints network 1 0 (first_scene scheme network start) lines out history scene
   pub run : IsRun network start history scene.state
   pub theorem : IsOpening network → (past : List Entry) → IsLegal network past start
       → ChainTheorem network (past ++ history) scene.state
@@ -206,22 +202,22 @@ IsLeftBy network s means t = (t ≡ s) ⊎ ((meaning : Meaning) × means (Ok mea
 -- ---- ends of a script that finds the node in one state, and leaves it in another
 
 -- the line of this number is the first one with a fault, the lines before it print so, and what comes after it is left
-pub record StopsAt (network : Network) (start : State) (text left : List ℕ) (number : ℕ) (fault : LineFault)
-    (out : List ℕ) (end : State) : Type 0 where
+pub record StopsAt (scheme : Scheme) (network : Network) (start : State) (text left : List ℕ) (number : ℕ)
+    (fault : LineFault) (out : List ℕ) (end : State) : Type 0 where
   pub before : List (List ℕ)
   pub line : List ℕ
   pub after : List (List ℕ)
   pub lines : lines_of text ≡ before ++ line ∷ after
   pub read : text ≡ concat before ++ (line ++ left)
   pub counted : length before + 1 ≡ number
-  pub obeyed : AreObeyed network start before out
+  pub obeyed : AreObeyed scheme network start before out
   pub is_fault : Means number (length (concat before)) obeyed.scene.names line (Err fault)
   pub is_end : end ≡ obeyed.scene.state
 
 -- all lines print so, and they leave a transaction without its end, which was begun in the line of this number
-pub record IsUnended (network : Network) (start : State) (text : List ℕ) (number : ℕ) (out : List ℕ) (end : State)
-    : Type 0 where
-  pub obeyed : AreObeyed network start (lines_of text) out
+pub record IsUnended (scheme : Scheme) (network : Network) (start : State) (text : List ℕ) (number : ℕ) (out : List ℕ)
+    (end : State) : Type 0 where
+  pub obeyed : AreObeyed scheme network start (lines_of text) out
   pub made : OpenTx
   pub is_made : obeyed.scene.names.making ≡ Some made
   pub line : made.line ≡ number
@@ -229,32 +225,35 @@ pub record IsUnended (network : Network) (start : State) (text : List ℕ) (numb
 
 -- Some first lines of the text were read, and then a piece of the next one, or none; `left` is what is left of the
 -- text. What was written is exactly what the lines print.
-pub record BreaksOff (network : Network) (start : State) (text left out : List ℕ) : Type 0 where
+pub record BreaksOff (scheme : Scheme) (network : Network) (start : State) (text left out : List ℕ) : Type 0 where
   pub lines : List (List ℕ)
   pub after : List (List ℕ)
   pub begins : lines_of text ≡ lines ++ after
   pub more : List ℕ
   pub piece : IsPiece more
   pub read : text ≡ concat lines ++ (more ++ left)
-  pub obeyed : AreObeyed network start lines out
+  pub obeyed : AreObeyed scheme network start lines out
 
 -- The same where no more was read: the state is the one that the lines leave.
-pub record StopsReading (network : Network) (start : State) (text left out : List ℕ) (end : State) : Type 0 where
-  pub broken : BreaksOff network start text left out
+pub record StopsReading (scheme : Scheme) (network : Network) (start : State) (text left out : List ℕ) (end : State)
+    : Type 0 where
+  pub broken : BreaksOff scheme network start text left out
   pub is_end : end ≡ broken.obeyed.scene.state
 
 -- The same where memory ran out: if the bytes more are a line with its line feed, that line has no fault, but that it
 -- may not be built where only memory tells. The state is the one that the lines before it leave, or its event did
 -- happen, and nothing that it prints was written.
-pub record RunsShort (network : Network) (start : State) (text left out : List ℕ) (end : State) : Type 0 where
-  pub broken : BreaksOff network start text left out
+pub record RunsShort (scheme : Scheme) (network : Network) (start : State) (text left out : List ℕ) (end : State)
+    : Type 0 where
+  pub broken : BreaksOff scheme network start text left out
   pub has_no_fault : (content : List ℕ) → broken.more ≡ content ++ 10 ∷ []
       → HasNoFault (length broken.lines + 1) (length (concat broken.lines)) broken.obeyed.scene.names broken.more
   pub is_end : IsLeftBy network broken.obeyed.scene.state
       (Means (length broken.lines + 1) (length (concat broken.lines)) broken.obeyed.scene.names broken.more) end
 
 -- of what the last line prints that was read a part was written, and not all; of those before it all
-pub record StopsWriting (network : Network) (start : State) (text left out : List ℕ) (end : State) : Type 0 where
+pub record StopsWriting (scheme : Scheme) (network : Network) (start : State) (text left out : List ℕ) (end : State)
+    : Type 0 where
   pub lines : List (List ℕ)
   pub line : List ℕ
   pub after : List (List ℕ)
@@ -262,8 +261,8 @@ pub record StopsWriting (network : Network) (start : State) (text left out : Lis
   pub read : text ≡ concat lines ++ (line ++ left)
   pub before : List ℕ
   pub printed : List ℕ
-  pub obeyed_before : AreObeyed network start lines before
-  pub obeyed : AreObeyed network start (lines ++ line ∷ []) (before ++ printed)
+  pub obeyed_before : AreObeyed scheme network start lines before
+  pub obeyed : AreObeyed scheme network start (lines ++ line ∷ []) (before ++ printed)
   pub part : List ℕ
   pub unwritten : List ℕ
   pub parts : printed ≡ part ++ unwritten
@@ -272,45 +271,46 @@ pub record StopsWriting (network : Network) (start : State) (text left out : Lis
   pub is_end : end ≡ obeyed.scene.state
 
 -- the end of a run without fault: what all lines of the text print was written, and no transaction is without its end
-pub record EndsWellFrom (network : Network) (start : State) (text : List ℕ) (old new : Option (List ℕ)) (end : State)
-    : Type 0 where
+pub record EndsWellFrom (scheme : Scheme) (network : Network) (start : State) (text : List ℕ)
+    (old new : Option (List ℕ)) (end : State) : Type 0 where
   pub out : List ℕ
   pub written : Appends old new out
-  pub obeyed : AreObeyed network start (lines_of text) out
+  pub obeyed : AreObeyed scheme network start (lines_of text) out
   pub ended : obeyed.scene.names.making ≡ None
   pub is_end : end ≡ obeyed.scene.state
 
 -- what was written at a fault, where this is left of the text
-abbrev pub IsFaultOf : Network → State → (text left out : List ℕ) → ScenarioFault → State → Type 0
-IsFaultOf network start text left out (fault.Line number why) end = StopsAt network start text left number why out end
-    ⊎ ((why ≡ BadLine) × (left ≡ []) × IsUnended network start text number out end)
-IsFaultOf network start text left out fault.ReadFailed end = StopsReading network start text left out end
-IsFaultOf network start text left out fault.WriteFailed end = StopsWriting network start text left out end
-IsFaultOf network start text left out fault.OutOfMemory end = RunsShort network start text left out end
+abbrev pub IsFaultOf : Scheme → Network → State → (text left out : List ℕ) → ScenarioFault → State → Type 0
+IsFaultOf scheme network start text left out (fault.Line number why) end =
+    StopsAt scheme network start text left number why out end
+    ⊎ ((why ≡ BadLine) × (left ≡ []) × IsUnended scheme network start text number out end)
+IsFaultOf scheme network start text left out fault.ReadFailed end = StopsReading scheme network start text left out end
+IsFaultOf scheme network start text left out fault.WriteFailed end = StopsWriting scheme network start text left out end
+IsFaultOf scheme network start text left out fault.OutOfMemory end = RunsShort scheme network start text left out end
 
 -- the end of a run by a fault
-pub record EndsByFrom (network : Network) (start : State) (text : List ℕ) (remaining old new : Option (List ℕ))
-    (why : ScenarioFault) (end : State) : Type 0 where
+pub record EndsByFrom (scheme : Scheme) (network : Network) (start : State) (text : List ℕ)
+    (remaining old new : Option (List ℕ)) (why : ScenarioFault) (end : State) : Type 0 where
   pub left : List ℕ
   pub remains : remaining ≡ Some left
   pub out : List ℕ
   pub written : Appends old new out
-  pub is_fault : IsFaultOf network start text left out why end
+  pub is_fault : IsFaultOf scheme network start text left out why end
 
 -- ---- ends of a script that finds a node to which nothing came since it was opened, on a valid chain
 
 -- the end of a run without fault
-pub record EndsWell (network : Network) (text : List ℕ) (old new : Option (List ℕ)) : Type 0 where
+pub record EndsWell (scheme : Scheme) (network : Network) (text : List ℕ) (old new : Option (List ℕ)) : Type 0 where
   pub opens : IsOpening network
   pub end : State
-  pub ends : EndsWellFrom network (opening network) text old new end
+  pub ends : EndsWellFrom scheme network (opening network) text old new end
 
 -- the end of a run by a fault
-pub record EndsBy (network : Network) (text : List ℕ) (remaining old new : Option (List ℕ)) (why : ScenarioFault)
-    : Type 0 where
+pub record EndsBy (scheme : Scheme) (network : Network) (text : List ℕ) (remaining old new : Option (List ℕ))
+    (why : ScenarioFault) : Type 0 where
   pub opens : IsOpening network
   pub end : State
-  pub ends : EndsByFrom network (opening network) text remaining old new why end
+  pub ends : EndsByFrom scheme network (opening network) text remaining old new why end
 
 -- why the line of this number was not run
 abbrev pub fault_of : ℕ → Stop → ScenarioFault

@@ -1,10 +1,9 @@
 -- Which scenes of the definitions a session stands for, and what it answers to a line.
 use Rattle.std.specs.Prelude.{◌≡◌, ℕ, Bool, List, Result, Ok, Err}
 use Rattle.std.specs.Global.{Vec}
-use Rattle.model.specs.Signature.{test_verifies}
 use Rattle.model.specs.Ledger.{Network}
 use Rattle.model.specs.History.{State, Entry}
-use Rattle.chain_core.specs.Held.{Held, Stands, network_held}
+use Rattle.chain_core.specs.Held.{Held, Stands}
 use Rattle.script.specs.declared.fault.LineFault.{LineFault}
 use Rattle.script.specs.declared.stop.Stop.{Stop}
 use Rattle.script.specs.declared.stop.Stop.TheVariants.{Fault, OutOfMemory}
@@ -17,12 +16,8 @@ use Rattle.scenario.specs.Print.{ForgeAnswer, forge_answer_text}
 use Rattle.scenario.specs.ForgeView.{code_answer_text}
 use Rattle.scenario.specs.Run.{Scene, IsForgeAnswer, names_forged, Acts, IsLeftBy}
 
--- what a core begins from, with signatures of the scheme for tests
-abbrev pub core_network : Held → Network
-core_network held = network_held held test_verifies
-
 -- the core stands for the state, and the names for the names
-pub record Holds (session : Session) (s : Scene) : Type 0 where
+pub record Holds {S : Type 0} (session : Session S) (s : Scene) : Type 0 where
   pub stands : Stands session.core s.state
   pub names : AreNamed session.names s.names
 
@@ -35,7 +30,8 @@ pub record Forges (network : Network) (s : Scene) (name : List ℕ) (slot : ℕ)
   pub named : AreNamed names (record s.names { of_bytes = names_forged s.names.of_bytes name is })
 
 -- what is meant was done, and printed so
-pub record Done (network : Network) (s : Scene) (meaning : Meaning) (out : List ℕ) (new : Session) : Type 0 where
+pub record Done {S : Type 0} (network : Network) (s : Scene) (meaning : Meaning) (out : List ℕ) (new : Session S)
+    : Type 0 where
   pub entries : List Entry
   pub scene : Scene
   pub acts : Acts network s meaning out entries scene
@@ -49,22 +45,22 @@ pub record IsShort (network : Network) (s : State) (means : Result Meaning LineF
   pub stands : Stands core state
 
 -- what came of a request that means this: it was done, or memory ran out
-abbrev pub IsDone : Network → Scene → Meaning → Result (Vec ℕ) Stop → Session → Type 0
+abbrev pub IsDone : {S : Type 0} → Network → Scene → Meaning → Result (Vec ℕ) Stop → Session S → Type 0
 IsDone network s meaning (Ok out) new = Done network s meaning out.items new
 IsDone network s meaning (Err (Fault fault)) new = ⊥
 IsDone network s meaning (Err OutOfMemory) new = IsShort network s.state (λ m. m ≡ Ok meaning) new.core
 
 -- a line was obeyed as it means
-pub record Acted (network : Network) (s : Scene) (means : Result Meaning LineFault → Type 0) (out : List ℕ)
-    (new : Session) : Type 0 where
+pub record Acted {S : Type 0} (network : Network) (s : Scene) (means : Result Meaning LineFault → Type 0) (out : List ℕ)
+    (new : Session S) : Type 0 where
   pub meaning : Meaning
   pub is_meant : means (Ok meaning)
   pub done : Done network s meaning out new
 
 -- What was answered to a line that means this: what it prints; its fault, where nothing happened to the core; or that
 -- memory ran out, which says that it has no fault but one that only memory tells.
-abbrev pub IsObeyed : Network → Scene → (Result Meaning LineFault → Type 0) → (late : Bool) → Result (Vec ℕ) Stop
-    → Session → Type 0
+abbrev pub IsObeyed : {S : Type 0} → Network → Scene → (Result Meaning LineFault → Type 0) → (late : Bool)
+    → Result (Vec ℕ) Stop → Session S → Type 0
 IsObeyed network s means late (Ok out) new = Acted network s means out.items new
 IsObeyed network s means late (Err (Fault fault)) new = means (Err fault) × Stands new.core s.state
 IsObeyed network s means late (Err OutOfMemory) new = Lacks means late × IsShort network s.state means new.core

@@ -16,7 +16,7 @@ use ledger::BlockFault;
 use script::Names;
 use std::alloc::AllocError;
 use std::io::Write;
-use witness_pool::TestScheme;
+use witness_pool::SigScheme;
 
 /// Appends what is wrong with a block.
 fn print_fault(line: &mut Vec<u8>, fault: BlockFault) -> Result<(), AllocError>
@@ -96,7 +96,7 @@ pub fn print_why(
 }
 
 /// The name of the block of this number on the selected chain.
-fn name_on_chain<'a>(names: &'a Names, core: &Core<TestScheme>, number: u64) -> &'a [u8]
+fn name_on_chain<'a, S: SigScheme>(names: &'a Names, core: &Core<S>, number: u64) -> &'a [u8]
     ensures { (all : AllNames) → AreNamed names.entry.now all
         → result.now ≡ name_of_block all.of_bytes (block_numbered core.now.chain number) }
 {
@@ -110,10 +110,10 @@ fn name_on_chain<'a>(names: &'a Names, core: &Core<TestScheme>, number: u64) -> 
 }
 
 /// Appends where in a block of the selected chain a transaction stands.
-fn print_in_block(
+fn print_in_block<S: SigScheme>(
     line: &mut Vec<u8>,
     names: &Names,
-    core: &Core<TestScheme>,
+    core: &Core<S>,
     number: u64,
     index: u64,
 ) -> Result<(), AllocError>
@@ -131,10 +131,10 @@ fn print_in_block(
 }
 
 /// Appends where a transaction stands that was looked for on this core.
-fn print_standing(
+fn print_standing<S: SigScheme>(
     line: &mut Vec<u8>,
     names: &Names,
-    core: &Core<TestScheme>,
+    core: &Core<S>,
     place: TxPlace,
 ) -> Result<(), AllocError>
     ensures { OnOk result ((all : AllNames) → AreNamed names.now all
@@ -151,11 +151,11 @@ fn print_standing(
 }
 
 /// Appends what the question `where` prints on this core.
-pub fn print_where(
+pub fn print_where<S: SigScheme>(
     line: &mut Vec<u8>,
     names: &Names,
     name: &[u8],
-    core: &Core<TestScheme>,
+    core: &Core<S>,
     place: TxPlace,
 ) -> Result<(), AllocError>
     ensures { OnOk result ((all : AllNames) → AreNamed names.now all → line.new.items ≡ line.old.items

@@ -23,7 +23,7 @@ use mempool::{Mempool, SubmitReply};
 use script::{Form, Names};
 use std::alloc::AllocError;
 use std::io::Write;
-use witness_pool::TestScheme;
+use witness_pool::SigScheme;
 
 /// Appends what an arrival prints.
 pub fn print_arrival(
@@ -113,10 +113,10 @@ pub fn print_forging(
 }
 
 /// Appends the names of the transactions that wait, each after a space.
-fn print_waiting(
+fn print_waiting<S: SigScheme>(
     line: &mut Vec<u8>,
     names: &Names,
-    mempool: &Mempool<TestScheme>,
+    mempool: &Mempool<S>,
 ) -> Result<(), AllocError>
     ensures { OnOk result ((all : AllNames) → AreNamed names.now all
         → line.new.items ≡ line.old.items ++ tx_names_text all.of_txs mempool.now.waiting.txs) }
@@ -129,10 +129,10 @@ fn print_waiting(
 }
 
 /// Appends what the question `mempool` prints.
-pub fn print_mempool(
+pub fn print_mempool<S: SigScheme>(
     line: &mut Vec<u8>,
     names: &Names,
-    mempool: &Mempool<TestScheme>,
+    mempool: &Mempool<S>,
 ) -> Result<(), AllocError>
     ensures { OnOk result ((all : AllNames) → AreNamed names.now all
         → line.new.items ≡ line.old.items ++ mempool_text all.of_txs mempool.now.waiting.txs) }
@@ -186,7 +186,7 @@ fn point_name<'a>(names: &'a Names, point: &Point) -> &'a [u8]
 }
 
 /// The name of a block that was read.
-fn block_name<'a>(names: &'a Names, block: &CheckedBlock<TestScheme>) -> &'a [u8]
+fn block_name<'a, S: SigScheme>(names: &'a Names, block: &CheckedBlock<S>) -> &'a [u8]
     ensures name { (all : AllNames) → AreNamed names.entry.now all
         → result.now ≡ printed_name (block_hash_of block.now) all.of_bytes }
     // It is that of the one block that has this text.
@@ -198,10 +198,10 @@ fn block_name<'a>(names: &'a Names, block: &CheckedBlock<TestScheme>) -> &'a [u8
 }
 
 /// Appends what a follower is told.
-fn print_instruction(
+fn print_instruction<S: SigScheme>(
     line: &mut Vec<u8>,
     names: &Names,
-    instruction: &Option<Instruction<TestScheme>>,
+    instruction: &Option<Instruction<S>>,
 ) -> Result<(), AllocError>
     ensures { OnOk result ((all : AllNames) → AreNamed names.now all → (text : List ℕ)
         × IsInstructionText all.of_bytes (instruction_of instruction.now) text
@@ -221,10 +221,10 @@ fn print_instruction(
 }
 
 /// Appends what a follower is answered that asks what comes next.
-fn print_next_reply(
+fn print_next_reply<S: SigScheme>(
     line: &mut Vec<u8>,
     names: &Names,
-    reply: &Result<Option<Instruction<TestScheme>>, NextFault>,
+    reply: &Result<Option<Instruction<S>>, NextFault>,
 ) -> Result<(), AllocError>
     ensures { OnOk result ((all : AllNames) → AreNamed names.now all → (text : List ℕ)
         × IsNextReplyText all.of_bytes (next_reply_of reply.now) text × (line.new.items ≡ line.old.items ++ text)) }
@@ -237,11 +237,11 @@ fn print_next_reply(
 }
 
 /// Appends what the question `next` prints.
-pub fn print_next(
+pub fn print_next<S: SigScheme>(
     line: &mut Vec<u8>,
     names: &Names,
     name: &[u8],
-    reply: &Result<Option<Instruction<TestScheme>>, NextFault>,
+    reply: &Result<Option<Instruction<S>>, NextFault>,
 ) -> Result<(), AllocError>
     ensures { OnOk result ((all : AllNames) → AreNamed names.now all → (out : List ℕ)
         × IsNextText all.of_bytes name.now (next_reply_of reply.now) out × (line.new.items ≡ line.old.items ++ out)) }

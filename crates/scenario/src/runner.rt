@@ -1,11 +1,12 @@
 //! The run of a script.
 
 ghost use Rattle.std.specs.Prelude.{◌≡◌, ℕ, ◌+◌, ◌≤◌, ◌⊎◌, List, [], ◌∷◌, ◌++◌, length, Some, OnOk, IfErr, IfSome};
+ghost use Rattle.model.specs.Ledger.{network_of};
 ghost use Rattle.script.specs.Names.{no_names};
 ghost use Rattle.script.specs.RequestView.{AreNamed};
-ghost use Rattle.scenario.specs.Run.{script_network, EndsWell, EndsBy, fault_of};
+ghost use Rattle.scenario.specs.Run.{EndsWell, EndsBy, fault_of};
+ghost use Rattle.chain_core.specs.Held.{network_held};
 ghost use Rattle.chain_core.specs.Steps.{KeepsStart};
-ghost use Rattle.scenario.specs.SessionView.{core_network};
 ghost use Rattle.scenario.specs.Handed.{RunsWell, RunsInto, HasRun};
 ghost use Rattle.script.specs.declared.fault.LineFault.TheVariants.{BadLine};
 
@@ -13,11 +14,11 @@ use crate::fault::ScenarioFault;
 use crate::output::{WriteStopped, write_all};
 use crate::session::Session;
 use chain_core::Core;
-use genesis::Genesis;
+use genesis::{Genesis, Scheme};
 use script::{LineFault, LinePlace, Stop};
 use std::alloc::Global;
 use std::io::{BufRead, Error, ErrorKind, Write};
-use witness_pool::TestScheme;
+use witness_pool::SigScheme;
 
 /// Why no line was read, of which these bytes were. That memory ran out is said only where they are no whole line.
 pub fn read_fault(error: &Error, line: &[u8]) -> ScenarioFault
@@ -56,23 +57,24 @@ pub fn unended(number: u64) -> ScenarioFault
     }
 }
 
-/// Runs the lines of a script in a session before the first one.
-fn run_lines<R: BufRead, W: Write>(
+/// Runs the lines of a script in a session before the first one, which was begun for this scheme.
+fn run_lines<S: SigScheme, R: BufRead, W: Write>(
     alloc: Global,
-    session: &mut Session,
+    scheme: Scheme,
+    session: &mut Session<S>,
     reader: &mut R,
     writer: &mut W,
 ) -> Result<(), ScenarioFault>
-    requires { AreNamed session.now.names (no_names session.now.core.genesis.params.network) }
+    requires { AreNamed session.now.names (no_names scheme session.now.core.genesis.params.network) }
     ensures ok { OnOk result (IfSome (R.remaining reader.old)
-        (λ text. RunsWell session.old.core session.new.core text (W.contents writer.old)
+        (λ text. RunsWell scheme S.verifies session.old.core session.new.core text (W.contents writer.old)
         (W.contents writer.new))) }
     ensures rest { OnOk result (IfSome (R.remaining reader.old) (λ _. R.remaining reader.new ≡ Some [])) }
     ensures fault { IfErr result (λ why. IfSome (R.remaining reader.old)
-        (λ text. RunsInto session.old.core session.new.core text (R.remaining reader.new)
+        (λ text. RunsInto scheme S.verifies session.old.core session.new.core text (R.remaining reader.new)
         (W.contents writer.old) (W.contents writer.new) why)) }
-    ensures run { HasRun session.old.core session.new.core }
-    ensures network { core_network session.new.core ≡ core_network session.old.core }
+    ensures run { HasRun S.verifies session.old.core session.new.core }
+    ensures network { network_held session.new.core S.verifies ≡ network_held session.old.core S.verifies }
 {
     let mut before: u64 = 0;
     for number in 1..4_194_306u64 {
@@ -99,41 +101,45 @@ fn run_lines<R: BufRead, W: Write>(
     unreachable!()
 }
 
-/// Runs a script line by line on a new network of this genesis, whose signatures are those of the scheme for tests.
+/// Runs a script line by line on a new network of this genesis. Whether a signature is good the core judges by `S`, and
+/// what the script signs it signs by `scheme`: give both the same, unless a script is to be run that signs by another.
 /// What each line prints is written before the next line is read, and the first fault ends the run; what was written
 /// before stands. Where there is no memory for the outputs of the genesis, nothing is read.
 ///
 /// ```text
 /// let mut script = b"block A1 genesis 1\narrive A1\ntip\n".as_slice();
 /// let mut out = Vec::new(alloc);
-/// scenario::run(alloc, genesis, &mut script, &mut out)?; // arrive A1: kept back 0 added 1, and then tip: 1 A1
+/// scenario::run::<TestScheme, _, _>(alloc, genesis, Scheme::Test, &mut script, &mut out)?;
+/// // arrive A1: kept back 0 added 1, and then tip: 1 A1
 /// ```
 ///
 /// A line is read whole before it is looked at. A reader whose lines may have no end is given by
 /// [`Read::take`](std::io::Read::take) with one byte more than [`MAX_SCRIPT_SIZE`](script::MAX_SCRIPT_SIZE), which
 /// makes such a line a bad one.
-pub fn run<R: BufRead, W: Write>(
+pub fn run<S: SigScheme, R: BufRead, W: Write>(
     alloc: Global,
     genesis: Genesis,
+    scheme: Scheme,
     reader: &mut R,
     writer: &mut W,
 ) -> Result<(), ScenarioFault>
     // Without a fault, what was written is what all lines of the text print, and the chain theorem holds of their
     // events.
     ensures ok { OnOk result (IfSome (R.remaining reader.old)
-        (λ text. EndsWell (script_network genesis) text (W.contents writer.old) (W.contents writer.new))) }
+        (λ text. EndsWell scheme (network_of genesis S.verifies) text (W.contents writer.old)
+        (W.contents writer.new))) }
     // The whole text was then read.
     ensures rest { OnOk result (IfSome (R.remaining reader.old) (λ _. R.remaining reader.new ≡ Some [])) }
     // At a fault of the script it is the first one, and what comes after its line is left in the reader. In each case
     // the chain theorem holds of the lines that were obeyed.
     ensures fault { IfErr result (λ why. IfSome (R.remaining reader.old)
-        (λ text. EndsBy (script_network genesis) text (R.remaining reader.new) (W.contents writer.old)
+        (λ text. EndsBy scheme (network_of genesis S.verifies) text (R.remaining reader.new) (W.contents writer.old)
         (W.contents writer.new) why)) }
 {
-    let Ok(mut session) = Session::new(alloc, genesis) else {
+    let Ok(mut session) = Session::<S>::new(alloc, genesis, scheme) else {
         return Err(ScenarioFault::OutOfMemory);
     };
-    run_lines(alloc, &mut session, reader, writer)
+    run_lines(alloc, scheme, &mut session, reader, writer)
 }
 
 /// Runs a script line by line, as [`run`] does, on a core of this genesis to which something may have come before.
@@ -144,33 +150,34 @@ pub fn run<R: BufRead, W: Write>(
 ///
 /// ```text
 /// let mut more = b"block A2 genesis 2\narrive A2\n".as_slice();
-/// let (core, result) = scenario::run_from(alloc, &genesis, core, &mut more, &mut out);
+/// let (core, result) = scenario::run_from(alloc, &genesis, Scheme::Test, core, &mut more, &mut out);
 /// ```
-pub fn run_from<R: BufRead, W: Write>(
+pub fn run_from<S: SigScheme, R: BufRead, W: Write>(
     alloc: Global,
     genesis: &Genesis,
-    core: Core<TestScheme>,
+    scheme: Scheme,
+    core: Core<S>,
     reader: &mut R,
     writer: &mut W,
-) -> (Core<TestScheme>, Result<(), ScenarioFault>)
+) -> (Core<S>, Result<(), ScenarioFault>)
     requires { core.genesis ≡ genesis.now }
     // Without a fault, from every state of the definitions that the core stood for on: what was written is what all
     // lines of the text print there, and the core stands for the state in which that ends.
     ensures ok { OnOk result.1 (IfSome (R.remaining reader.old)
-        (λ text. RunsWell core result.0 text (W.contents writer.old) (W.contents writer.new))) }
+        (λ text. RunsWell scheme S.verifies core result.0 text (W.contents writer.old) (W.contents writer.new))) }
     // The whole text was then read.
     ensures rest { OnOk result.1 (IfSome (R.remaining reader.old) (λ _. R.remaining reader.new ≡ Some [])) }
     // At a fault of the script it is the first one, and what comes after its line is left in the reader. The core
     // stands for the state that the lines before it left, and where memory ran out in a line, for that state or the one
     // after the line's event.
     ensures fault { IfErr result.1 (λ why. IfSome (R.remaining reader.old)
-        (λ text. RunsInto core result.0 text (R.remaining reader.new) (W.contents writer.old)
+        (λ text. RunsInto scheme S.verifies core result.0 text (R.remaining reader.new) (W.contents writer.old)
         (W.contents writer.new) why)) }
     // Whatever was read, the definitions' steps lead to the core that is given back.
-    ensures run { HasRun core result.0 }
+    ensures run { HasRun S.verifies core result.0 }
     ensures start { KeepsStart core result.0 }
 {
-    let mut session = Session::on(alloc, genesis, core);
-    let result = run_lines(alloc, &mut session, reader, writer);
+    let mut session = Session::on(alloc, genesis, scheme, core);
+    let result = run_lines(alloc, scheme, &mut session, reader, writer);
     (session.into_core(), result)
 }

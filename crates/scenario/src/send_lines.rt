@@ -11,7 +11,7 @@ ghost use Rattle.scenario.specs.Sending.{IsSentByOneOf};
 use crate::fault::ScenarioFault;
 use crate::runner::{line_fault, read_fault, unended};
 use crate::sending::Sending;
-use genesis::Genesis;
+use genesis::{Genesis, Scheme};
 use script::{LinePlace, Names, Stop};
 use std::alloc::Global;
 use std::io::BufRead;
@@ -83,36 +83,37 @@ fn sends_of_lines<R: BufRead>(
 /// What a script sends, in the order of its lines, with so many peers. Such a script has the lines of
 /// [`run`](crate::run) that define something, and lines `send P B`: the peer P, a number from 1 to `peers`, sends the
 /// bytes of the name B. Each other line is a bad one, as where P is no such number. Faults are told as
-/// [`run`](crate::run) tells them, and limits are the same. Addresses are those of the network of this genesis. Takes
-/// time in proportion to the script and to the bytes that are sent, and for each name to the logarithm of the number of
-/// names.
+/// [`run`](crate::run) tells them, and limits are the same. Addresses are those of the network of this genesis, and
+/// what the script signs it signs by `scheme`. Takes time in proportion to the script and to the bytes that are sent,
+/// and for each name to the logarithm of the number of names.
 ///
 /// ```text
 /// let mut script = b"block A1 genesis 1\nsend 2 A1\n".as_slice();
-/// let sends = scenario::sends(alloc, &genesis, &mut script, 8)?; // by peer 2, the bytes of A1
+/// let sends = scenario::sends(alloc, &genesis, Scheme::Test, &mut script, 8)?; // by peer 2, the bytes of A1
 /// ```
 ///
 /// A line is read whole before it is looked at, as by [`run`](crate::run).
 pub fn sends<R: BufRead>(
     alloc: Global,
     genesis: &Genesis,
+    scheme: Scheme,
     reader: &mut R,
     peers: u64,
 ) -> Result<Vec<Sending>, ScenarioFault>
     // Without a fault, it is what the lines of the text send, each by what it means where the names are bound that
     // those before it bind.
     ensures sends { IfOk result (λ sends. IfSome (R.remaining reader.old)
-        (λ text. SendsAll peers (no_names genesis.now.params.network) text (map sent_of sends.items))) }
+        (λ text. SendsAll peers (no_names scheme genesis.now.params.network) text (map sent_of sends.items))) }
     // The whole text was then read.
     ensures rest { OnOk result (IfSome (R.remaining reader.old) (λ _. R.remaining reader.new ≡ Some [])) }
     // At a fault of a line it is the first one, and what comes after its line is left in the reader.
     ensures fault { IfErr result (λ why. IfSome (R.remaining reader.old)
-        (λ text. SendsBy peers (no_names genesis.now.params.network) text (R.remaining reader.new) why)) }
+        (λ text. SendsBy peers (no_names scheme genesis.now.params.network) text (R.remaining reader.new) why)) }
     // It is never told that a writer failed.
     ensures unwritten { IfErr result (λ why. why ≢ ScenarioFault.WriteFailed) }
     // Who sends is one of the peers.
     ensures peers { IfOk result (λ sends. All (IsSentByOneOf peers) sends.items) }
 {
-    let mut names = Names::new(alloc, genesis);
+    let mut names = Names::new(alloc, genesis, scheme);
     sends_of_lines(alloc, &mut names, reader, peers)
 }

@@ -4,8 +4,8 @@ ghost use Rattle.std.specs.Prelude.{◌≡◌, ◌+◌, ◌≤◌, [], None, Som
 ghost use Rattle.model.specs.Cbor.{text_of};
 ghost use Rattle.model.specs.Transaction.{Transaction, item_of_transaction};
 ghost use Rattle.model.specs.History.{Arrive, Submit};
-ghost use Rattle.model.specs.Signature.{test_verifies};
-ghost use Rattle.chain_core.specs.Held.{Stands};
+ghost use Rattle.model.specs.Ledger.{network_of};
+ghost use Rattle.chain_core.specs.Held.{Stands, network_held};
 ghost use Rattle.chain_core.specs.Steps.{Steps, KeepsStart};
 ghost use Rattle.ident.specs.PointView.{point_of};
 ghost use Rattle.chain_core.specs.Views.{arrive_reply_of, submit_reply_of};
@@ -18,8 +18,8 @@ ghost use Rattle.tx.specs.View.{address_of};
 ghost use Rattle.script.specs.Meaning.{formed, is_late_line, Means, parse_within};
 ghost use Rattle.script.specs.RequestView.{AreNamed, HasFollowerRoom};
 ghost use Rattle.script.specs.Text.{script_size_limit};
-ghost use Rattle.scenario.specs.Run.{Scene, opening_scene, script_network};
-ghost use Rattle.scenario.specs.SessionView.{core_network, Forges, Holds, IsDone, IsObeyed};
+ghost use Rattle.scenario.specs.Run.{Scene, opening_scene};
+ghost use Rattle.scenario.specs.SessionView.{Forges, Holds, IsDone, IsObeyed};
 
 use crate::answers::{print_where, print_why};
 use crate::balance::balance_lines;
@@ -28,13 +28,13 @@ use crate::print::{
     print_open, print_submission, print_tip, print_utxo,
 };
 use chain_core::{ArriveReply, Core, FollowerId, ForgeFault};
-use genesis::Genesis;
+use genesis::{Genesis, Scheme};
 use ident::{BlockHash, Point, TxId};
 use mempool::SubmitReply;
 use script::{Form, LinePlace, Name, Names, Owner, Request, Stop};
 use std::alloc::{AllocError, Global};
 use tx::Address;
-use witness_pool::TestScheme;
+use witness_pool::SigScheme;
 
 /// What a line prints is at most its own name longer than this, whose numbers are the greatest ones. A name that a
 /// follower is told has at most 16 letters, and is shorter than these numbers.
@@ -42,14 +42,14 @@ const LONGEST_LINE: &[u8] =
     b"arrive-ext : kept back 18446744073709551615 added 18446744073709551615\n";
 
 /// The node, with what names are bound to.
-pub struct Session {
+pub struct Session<S: SigScheme> {
     alloc: Global,
-    core: Core<TestScheme>,
+    core: Core<S>,
     names: Names,
 }
 
 // By hand, so that each exit calls it: the derived one is copied to each exit of each owner.
-impl Drop for Session {
+impl<S: SigScheme> Drop for Session<S> {
     fn drop(self) {
         let Session {
             alloc: _,
@@ -97,13 +97,13 @@ fn bytes_named<'a>(names: &'a Names, name: &[u8]) -> &'a [u8]
 }
 
 /// Bytes arrive at the core.
-fn arrive(
+fn arrive<S: SigScheme>(
     alloc: Global,
-    core: &mut Core<TestScheme>,
+    core: &mut Core<S>,
     form: Form,
     bytes: &[u8],
 ) -> Result<ArriveReply, AllocError>
-    ensures step { Steps test_verifies core.old (Arrive (formed form bytes.now)) (arrive_reply_of result) core.new }
+    ensures step { Steps S.verifies core.old (Arrive (formed form bytes.now)) (arrive_reply_of result) core.new }
     ensures start { KeepsStart core.old core.new }
 {
     let bytes = formed(alloc, form, bytes)?;
@@ -111,14 +111,14 @@ fn arrive(
 }
 
 /// The transaction of a name is submitted to the core.
-fn submit(
-    core: &mut Core<TestScheme>,
+fn submit<S: SigScheme>(
+    core: &mut Core<S>,
     names: &Names,
     name: &[u8],
 ) -> Result<SubmitReply, AllocError>
     ensures step { (all : AllNames) → AreNamed names.now all → (tx : Transaction)
         → bound_to name.now all.of_txs ≡ Some tx
-        → Steps test_verifies core.old (Submit (text_of (item_of_transaction tx))) (submit_reply_of result) core.new }
+        → Steps S.verifies core.old (Submit (text_of (item_of_transaction tx))) (submit_reply_of result) core.new }
     ensures start { KeepsStart core.old core.new }
 {
     let Some(tx) = names.tx_of(name) else {
@@ -130,15 +130,15 @@ fn submit(
 
 /// A block is forged, and gets a name that is free: how many bytes it has, or why there is none. Err where there is no
 /// memory for the name.
-fn forge(
-    core: &Core<TestScheme>,
+fn forge<S: SigScheme>(
+    core: &Core<S>,
     names: &mut Names,
     name: &[u8],
     slot: u64,
 ) -> Result<Result<usize, ForgeFault>, AllocError>
     ensures { IfOk result (λ answer. (s : Scene) → Stands core.now s.state → AreNamed names.old s.names
         → bound_to name.now s.names.of_bytes ≡ None
-        → Forges (core_network core.now) s name.now slot answer names.new) }
+        → Forges (network_held core.now S.verifies) s name.now slot answer names.new) }
 {
     match core.forge(slot) {
         Ok(forged) => {
@@ -150,13 +150,14 @@ fn forge(
     }
 }
 
-impl Session {
+impl<S: SigScheme> Session<S> {
     /// A session before the first line. Err where there is no memory for the outputs of the genesis.
-    pub fn new(alloc: Global, genesis: Genesis) -> Result<Session, AllocError>
-        ensures holds { IfOk result (λ session. Holds session (opening_scene (script_network genesis))) }
-        ensures network { IfOk result (λ session. core_network session.core ≡ script_network genesis) }
+    pub fn new(alloc: Global, genesis: Genesis, scheme: Scheme) -> Result<Session<S>, AllocError>
+        ensures holds { IfOk result (λ session. Holds session (opening_scene scheme (network_of genesis S.verifies))) }
+        ensures network { IfOk result (λ session. network_held session.core S.verifies
+            ≡ network_of genesis S.verifies) }
     {
-        let names = Names::new(alloc, &genesis);
+        let names = Names::new(alloc, &genesis, scheme);
         Ok(Session {
             alloc,
             core: Core::new(alloc, genesis)?,
@@ -165,16 +166,16 @@ impl Session {
     }
 
     /// A session before the first line, on a core of this genesis. Takes no memory.
-    pub fn on(alloc: Global, genesis: &Genesis, core: Core<TestScheme>) -> Session
+    pub fn on(alloc: Global, genesis: &Genesis, scheme: Scheme, core: Core<S>) -> Session<S>
         ensures core { result.core ≡ core }
-        ensures names { AreNamed result.names (no_names genesis.now.params.network) }
+        ensures names { AreNamed result.names (no_names scheme genesis.now.params.network) }
     {
-        let names = Names::new(alloc, genesis);
+        let names = Names::new(alloc, genesis, scheme);
         Session { alloc, core, names }
     }
 
     /// The core as the lines left it.
-    pub fn into_core(self) -> Core<TestScheme>
+    pub fn into_core(self) -> Core<S>
         ensures { result ≡ self.core }
     {
         let Session {
@@ -189,7 +190,7 @@ impl Session {
     fn arrive(&mut self, form: Form, name: Name<'_>) -> Result<Vec<u8>, Stop>
         ensures obeyed { (s : Scene) → Holds self.old s → (bound : Bound)
             → bound_to name.entry.text.now s.names.of_bytes ≡ Some bound
-            → IsDone (core_network self.old.core) s (Arrives form name.entry.text.now bound.bytes)
+            → IsDone (network_held self.old.core S.verifies) s (Arrives form name.entry.text.now bound.bytes)
             result self.new }
         ensures start { KeepsStart self.old.core self.new.core }
     {
@@ -206,7 +207,7 @@ impl Session {
     fn submit(&mut self, name: Name<'_>) -> Result<Vec<u8>, Stop>
         ensures obeyed { (s : Scene) → Holds self.old s → (tx : Transaction)
             → bound_to name.entry.text.now s.names.of_txs ≡ Some tx
-            → IsDone (core_network self.old.core) s (SubmitsTx name.entry.text.now tx) result self.new }
+            → IsDone (network_held self.old.core S.verifies) s (SubmitsTx name.entry.text.now tx) result self.new }
         ensures start { KeepsStart self.old.core self.new.core }
     {
         let mut line = line_room(self.alloc, name)?;
@@ -220,7 +221,7 @@ impl Session {
     /// A block is forged in a slot, and gets its name. The room for what it prints is taken first.
     fn forge(&mut self, name: Name<'_>, slot: u64) -> Result<Vec<u8>, Stop>
         ensures obeyed { (s : Scene) → Holds self.old s → bound_to name.entry.text.now s.names.of_bytes ≡ None
-            → IsDone (core_network self.old.core) s (ForgesBlock name.entry.text.now slot) result self.new }
+            → IsDone (network_held self.old.core S.verifies) s (ForgesBlock name.entry.text.now slot) result self.new }
         ensures start { KeepsStart self.old.core self.new.core }
     {
         let mut line = line_room(self.alloc, name)?;
@@ -237,7 +238,7 @@ impl Session {
     fn open(&mut self, name: Name<'_>) -> Result<Vec<u8>, Stop>
         ensures obeyed { HasFollowerRoom self.old.names name.entry.text.now → (s : Scene) → Holds self.old s
             → bound_to name.entry.text.now s.names.of_followers ≡ None
-            → IsDone (core_network self.old.core) s (OpensFollower name.entry.text.now) result
+            → IsDone (network_held self.old.core S.verifies) s (OpensFollower name.entry.text.now) result
             self.new }
         ensures start { KeepsStart self.old.core self.new.core }
     {
@@ -254,7 +255,7 @@ impl Session {
 
     /// The follower of a number is told what comes next. The room for what it prints is taken first.
     fn next(&mut self, name: Name<'_>, id: u64) -> Result<Vec<u8>, Stop>
-        ensures obeyed { (s : Scene) → Holds self.old s → IsDone (core_network self.old.core) s
+        ensures obeyed { (s : Scene) → Holds self.old s → IsDone (network_held self.old.core S.verifies) s
             (TellsFollower name.entry.text.now id) result self.new }
         ensures start { KeepsStart self.old.core self.new.core }
     {
@@ -269,7 +270,7 @@ impl Session {
     /// The follower of a number is set to the first of the points that is on the selected chain. The room for what it
     /// prints is taken first.
     fn forward(&mut self, name: Name<'_>, id: u64, points: &[Point]) -> Result<Vec<u8>, Stop>
-        ensures obeyed { (s : Scene) → Holds self.old s → IsDone (core_network self.old.core) s
+        ensures obeyed { (s : Scene) → Holds self.old s → IsDone (network_held self.old.core S.verifies) s
             (ForwardsFollower name.entry.text.now id (map point_of points.now)) result self.new }
         ensures start { KeepsStart self.old.core self.new.core }
     {
@@ -283,7 +284,7 @@ impl Session {
 
     /// The follower of a number is closed. The room for what it prints is taken first.
     fn close(&mut self, name: Name<'_>, id: u64) -> Result<Vec<u8>, Stop>
-        ensures obeyed { (s : Scene) → Holds self.old s → IsDone (core_network self.old.core) s
+        ensures obeyed { (s : Scene) → Holds self.old s → IsDone (network_held self.old.core S.verifies) s
             (ClosesFollower name.entry.text.now id) result self.new }
         ensures start { KeepsStart self.old.core self.new.core }
     {
@@ -298,7 +299,7 @@ impl Session {
     /// The question where the selected chain ends.
     fn tip(&self) -> Result<Vec<u8>, Stop>
         ensures { (s : Scene) → Holds self.now s
-            → IsDone (core_network self.now.core) s PrintsTip result self.now }
+            → IsDone (network_held self.now.core S.verifies) s PrintsTip result self.now }
     {
         let Ok(mut line) = Vec::with_capacity(self.alloc, LONGEST_LINE.len()) else {
             return Err(Stop::OutOfMemory);
@@ -312,7 +313,7 @@ impl Session {
     /// The question what waits in the mempool.
     fn mempool(&self) -> Result<Vec<u8>, Stop>
         ensures { (s : Scene) → Holds self.now s
-            → IsDone (core_network self.now.core) s PrintsMempool result self.now }
+            → IsDone (network_held self.now.core S.verifies) s PrintsMempool result self.now }
     {
         let mut line = Vec::new(self.alloc);
         match print_mempool(&mut line, &self.names, self.core.mempool()) {
@@ -324,7 +325,7 @@ impl Session {
     /// The question what is unspent on the selected chain.
     fn utxo(&self) -> Result<Vec<u8>, Stop>
         ensures { (s : Scene) → Holds self.now s
-            → IsDone (core_network self.now.core) s PrintsUtxo result self.now }
+            → IsDone (network_held self.now.core S.verifies) s PrintsUtxo result self.now }
     {
         let utxo = self.core.utxo();
         let mut line = Vec::new(self.alloc);
@@ -336,8 +337,8 @@ impl Session {
 
     /// The question why the block of this hash isn't selected.
     fn why(&self, name: Name<'_>, hash: BlockHash) -> Result<Vec<u8>, Stop>
-        ensures { (s : Scene) → Holds self.now s
-            → IsDone (core_network self.now.core) s (PrintsWhy name.entry.text.now hash.bytes) result self.now }
+        ensures { (s : Scene) → Holds self.now s → IsDone (network_held self.now.core S.verifies) s
+            (PrintsWhy name.entry.text.now hash.bytes) result self.now }
     {
         let Ok(why) = self.core.why(hash) else {
             return Err(Stop::OutOfMemory);
@@ -351,8 +352,8 @@ impl Session {
 
     /// The question where the transaction of this identifier stands.
     fn place(&self, name: Name<'_>, id: TxId) -> Result<Vec<u8>, Stop>
-        ensures { (s : Scene) → Holds self.now s
-            → IsDone (core_network self.now.core) s (PrintsWhere name.entry.text.now id.bytes) result self.now }
+        ensures { (s : Scene) → Holds self.now s → IsDone (network_held self.now.core S.verifies) s
+            (PrintsWhere name.entry.text.now id.bytes) result self.now }
     {
         let place = self.core.transaction(id);
         let mut line = Vec::new(self.alloc);
@@ -364,7 +365,7 @@ impl Session {
 
     /// The question how much an owner has, whose address this is.
     fn balance(&self, owner: Owner<'_>, address: &Address) -> Result<Vec<u8>, Stop>
-        ensures { (s : Scene) → Holds self.now s → IsDone (core_network self.now.core) s
+        ensures { (s : Scene) → Holds self.now s → IsDone (network_held self.now.core S.verifies) s
             (PrintsBalance (owner_of owner.entry) (address_of address.now)) result self.now }
     {
         match balance_lines(self.alloc, self.core.utxo(), owner, address) {
@@ -382,7 +383,7 @@ impl Session {
 
     /// Obeys a line that stands here in its script, and answers what it prints.
     pub fn obey(&mut self, at: LinePlace, line: &[u8]) -> Result<Vec<u8>, Stop>
-        ensures obeyed { (s : Scene) → Holds self.old s → IsObeyed (core_network self.old.core) s
+        ensures obeyed { (s : Scene) → Holds self.old s → IsObeyed (network_held self.old.core S.verifies) s
             (Means at.number at.before s.names line.now) (is_late_line (parse_within at.before line.now)) result
             self.new }
         ensures start { KeepsStart self.old.core self.new.core }

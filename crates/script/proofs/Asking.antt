@@ -9,6 +9,7 @@ use Rattle.script.specs.declared.stop.Stop.{Stop}
 use Rattle.script.specs.declared.stop.Stop.TheVariants.{OutOfMemory}
 use Rattle.script.specs.declared.request.Request.{Request}
 use Rattle.script.specs.declared.names.Names.{Names}
+use Rattle.script.specs.Keys.{Key}
 use Rattle.script.specs.Names.{AllNames}
 use Rattle.script.specs.Meaning.{Meaning, MeansScript, where_free, built_key}
 use Rattle.script.specs.RequestView.{Asks, AsksFor, Lacks}
@@ -47,10 +48,6 @@ pub bound_so : {X Y : Type 0} (f : X → Y) (r : Option X) (m : Option Y) → op
 bound_so f None m is some = cc
 bound_so f (Some x) m is some = (f x, sym is)
 
-key_if : (b : Bool) (found : Option (List ℕ)) (name said key : List ℕ) → nat_eq (length said) 32 ≡ b → found ≡ None → Some key ≡ cond b (Some said) None → IsOk (where_free found (built_key name said))
-key_if true found name said key test free is = rw (free, test) refl
-key_if false found name said key test free is = cc
-
--- a key of 32 bytes whose name is free
-pub key_built : (found : Option (List ℕ)) (name said key : List ℕ) → found ≡ None → Some key ≡ cond (nat_eq (length said) 32) (Some said) None → IsOk (where_free found (built_key name said))
-key_built found name said key free is = key_if (nat_eq (length said) 32) found name said key refl free is
+-- a key that there is, whose name is free
+pub key_built : {X : Type 0} (found : Option X) (name : List ℕ) (said : Option Key) (key : Key) → found ≡ None → said ≡ Some key → IsOk (where_free found (built_key name said))
+key_built found name said key free is = rw (free, is) refl

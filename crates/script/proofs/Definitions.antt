@@ -26,6 +26,8 @@ use Rattle.tx.proofs.ForCallers.{same_list}
 use Rattle.script.specs.Line.{NamedPlace}
 use Rattle.script.specs.Meaning.{Meaning, Defines, ForwardsFollower, BindsScript, Continues, MeansScript, Base, meaning_by, continued, where_known, where_built, binds_bytes}
 use Rattle.script.specs.Meaning.{are_some, base_after, block_meaning, block_on, bound_block, built, txs_named}
+use Rattle.script.specs.SignerView.{key_signer_of}
+use Rattle.script.specs.declared.key_signer.KeySigner.{KeySigner}
 use Rattle.script.specs.RequestView.{AreNamed, Asked, AsksFor, IsOpen, IsMaking}
 
 -- ---- what is gathered
@@ -50,8 +52,8 @@ late_only None fault is = (unwrapped NotBuilt fault is, refl)
 late_only (Some d) fault is = cc
 
 -- an output whose assets were not found
-pub pay_refused : (found : Option Address) (address : Address) (wanted : Option (List (AssetQuantity ℕ))) (make : Address → List (AssetQuantity ℕ) → Option Draft) (d : Draft) (draft : CodeDraft) (stop : Stop) → found ≡ Some address
-    → AreFound {X = CodeAssetQuantity ℕ} asset_of wanted (Err stop) → IsDraftOf draft d → IsPartAdded (where_known found (λ a. where_known wanted (λ all. where_built (make a all)))) true d draft (Err stop)
+pub pay_refused : (found : Option Address) (address : Address) (wanted : Option (List (AssetQuantity ℕ))) (make : Address → List (AssetQuantity ℕ) → Option Draft) (d : Draft) (draft : CodeDraft KeySigner) (stop : Stop) → found ≡ Some address
+    → AreFound {X = CodeAssetQuantity ℕ} asset_of wanted (Err stop) → IsDraftOf key_signer_of draft d → IsPartAdded (where_known found (λ a. where_known wanted (λ all. where_built (make a all)))) true d draft (Err stop)
 pay_refused found address wanted make d draft (Fault fault) is (unknown, none) stands = (rw (is, none, unknown) refl, stands)
 pay_refused found address None make d draft OutOfMemory is some stands = cc
 pay_refused found address (Some all) make d draft OutOfMemory is some stands = rw is (late_only (make address all))
@@ -69,7 +71,7 @@ pub free_name : (names : AllNames) (made : OpenTx) (d : Draft) → bound_to made
 free_name names made d free open' is = subst (λ (o : OpenTx). bound_to o.name names.of_txs ≡ None) (same_Some {A = OpenTx} (record made { draft = d }) open' is) free
 
 -- a part was added
-pub part_asked : (names : AllNames) (c : Names) (made : OpenTx) (o : code.OpenTx) (draft : CodeDraft) (said : Result Draft LineFault) (late : Bool) → AreNamed c names → names.making ≡ Some made → IsMaking o made
+pub part_asked : (names : AllNames) (c : Names) (made : OpenTx) (o : code.OpenTx) (draft : CodeDraft KeySigner) (said : Result Draft LineFault) (late : Bool) → AreNamed c names → names.making ≡ Some made → IsMaking o made
     → IsPartAdded said late made.draft draft (Ok tt) → Asked names (λ m. meaning_by (continued made) said ≡ m) Nothing (record c { making = Some (record o { draft = draft }) })
 part_asked names c made o draft said late named is making (with_part, is_with, stands) = record {
   meaning = continued made with_part;
@@ -81,7 +83,7 @@ part_asked names c made o draft said late named is making (with_part, is_with, s
       new = record names { making = Some (record made { draft = with_part }) };
       after = refl;
       named = record {
-        known = record { network = named.known.network; of_keys = named.known.of_keys; of_scripts = named.known.of_scripts; of_txs = named.known.of_txs };
+        known = record { scheme = named.known.scheme; network = named.known.network; of_keys = named.known.of_keys; of_scripts = named.known.of_scripts; of_txs = named.known.of_txs };
         of_bytes = named.of_bytes;
         of_followers = named.of_followers;
         printed = named.printed;
@@ -93,7 +95,7 @@ part_asked names c made o draft said late named is making (with_part, is_with, s
 }
 
 -- a part was not added
-pub part_refused : (names : AllNames) (c : Names) (made : OpenTx) (o : code.OpenTx) (draft : CodeDraft) (said : Result Draft LineFault) (late : Bool) (stop : Stop) → AreNamed c names → names.making ≡ Some made → IsMaking o made
+pub part_refused : (names : AllNames) (c : Names) (made : OpenTx) (o : code.OpenTx) (draft : CodeDraft KeySigner) (said : Result Draft LineFault) (late : Bool) (stop : Stop) → AreNamed c names → names.making ≡ Some made → IsMaking o made
     → IsPartAdded said late made.draft draft (Err stop) → AsksFor names (meaning_by (continued made) said) late (Err stop) (record c { making = Some (record o { draft = draft }) })
 part_refused names c made o draft said late (Fault fault) named is making (is_fault, stands) = (
   rw is_fault refl,

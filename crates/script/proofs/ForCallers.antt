@@ -2,7 +2,7 @@
 use Rattle.std.proofs.Common.{◌≡◌, ℕ, List, Option, Some, None, Result, Ok, Err, sym, ◌∙◌}
 use Rattle.model.specs.Script.{Script}
 use Rattle.script.specs.declared.fault.LineFault.{LineFault}
-use Rattle.script.specs.Line.{Line, Nothing, DefineKey, DefineScript, BeginTx, AddPart, EndTx, DefineBlock, DefineRaw, Arrive, SubmitTx, ForgeBlock, OpenFollower, AskNext, AskForward, CloseFollower, AskTip, AskMempool, AskUtxo, AskWhy, AskWhere, AskBalance}
+use Rattle.script.specs.Line.{Line, Nothing, DefineKey, DefineSeed, DefineScript, BeginTx, AddPart, EndTx, DefineBlock, DefineRaw, Arrive, SubmitTx, ForgeBlock, OpenFollower, AskNext, AskForward, CloseFollower, AskTip, AskMempool, AskUtxo, AskWhy, AskWhere, AskBalance}
 use Rattle.script.specs.Names.{AllNames, OpenTx, bound_to}
 use Rattle.script.specs.Meaning.{Meaning, Means, MeansLine, MeansScript, parse_within}
 
@@ -18,6 +18,7 @@ never_line number names making None m fault is also = cc
 never_line number names (Some made) (Some line) m fault is also = no_both _ m fault is also
 never_line number names None (Some Nothing) m fault is also = no_both _ m fault is also
 never_line number names None (Some (DefineKey name bytes)) m fault is also = no_both _ m fault is also
+never_line number names None (Some (DefineSeed name bytes)) m fault is also = no_both _ m fault is also
 never_line number names None (Some (DefineScript name bytes)) m fault is also = never_script (bound_to name names.of_scripts) name bytes m fault is also
 never_line number names None (Some (BeginTx name)) m fault is also = no_both _ m fault is also
 never_line number names None (Some (AddPart part)) m fault is also = no_both _ m fault is also

@@ -13,10 +13,11 @@ use Rattle.script.specs.declared.request.Request.TheVariants as request
 use Rattle.script.specs.declared.names.Names.{Names}
 use Rattle.script.specs.declared.open_tx.OpenTx as code
 use Rattle.script.specs.declared.sending.SendRequest.{SendRequest}
-use Rattle.script.specs.Line.{Line, NamedPlace, Nothing, DefineKey, DefineScript, BeginTx, AddPart, EndTx, DefineBlock, DefineRaw, Arrive, SubmitTx, ForgeBlock, OpenFollower, AskNext, AskForward, CloseFollower, AskTip, AskMempool, AskUtxo, AskWhy, AskWhere, AskBalance, parse_line}
+use Rattle.script.specs.Line.{Line, NamedPlace, Nothing, DefineKey, DefineSeed, DefineScript, BeginTx, AddPart, EndTx, DefineBlock, DefineRaw, Arrive, SubmitTx, ForgeBlock, OpenFollower, AskNext, AskForward, CloseFollower, AskTip, AskMempool, AskUtxo, AskWhy, AskWhere, AskBalance, parse_line}
 use Rattle.script.specs.Names.{AllNames, Bound, OpenTx, Named, bound_to}
 use Rattle.script.specs.Text.{script_size_limit}
 use Rattle.script.specs.WordsView.{has_no_words}
+use Rattle.script.specs.Keys.{Key, key_in, secret_key_in}
 use Rattle.script.specs.Meaning.{Meaning, Definition, NoDefinition, BindsKey, BindsScript, Continues, Finishes, BindsBytes, Defines, MeansLine, MeansScript, base_after, begun, binds_bytes, block_meaning, bound_raw, built, built_key, continued, is_late, meaning_by, meaning_inside, meaning_outside, part_meaning, txs_named, where_free, where_known}
 use Rattle.script.specs.RequestView.{AreNamed, Asked, AsksLine, IsDefined, IsOpen, IsRequest, Lacks}
 use Rattle.script.specs.Sending.{Defining, MeansSimulation, SendLine, Sending, Sends, SimulationLine, is_definition, is_late_sending, parse_send, parse_sending, said_either, said_send, send_meaning}
@@ -58,9 +59,9 @@ by_part : {X : Type 0} (mean : X → Meaning) (r : Result X LineFault) → ((x :
 by_part mean (Ok x) is = is x
 by_part mean (Err fault) is = tt
 
-key : (b : Bool) (k : Named (List ℕ)) (fault : LineFault) → IsDefining (cond b (Ok (Defines (BindsKey k))) (Err fault))
-key true k fault = (BindsKey k, refl)
-key false k fault = tt
+key : (name : List ℕ) (said : Option Key) → IsDefining (built_key name said)
+key name (Some k) = (BindsKey (record { name = name; bound = k }), refl)
+key name None = tt
 
 block : (names : AllNames) (name : List ℕ) (parent : NamedPlace) (slot : ℕ) (txs : List (List ℕ)) → IsDefining (block_meaning names name parent slot txs)
 block names name parent slot txs =
@@ -79,12 +80,14 @@ defines number names (Some making) Nothing m so is = meant (Ok (Defines NoDefini
 defines number names (Some making) (AddPart part) m so is = meant (meaning_inside names making (AddPart part)) m (by_part (continued making) (part_meaning names part making.draft) (λ draft. (Continues (record making { draft = draft }), refl))) is
 defines number names (Some making) EndTx m so is = meant (Ok (Defines (Finishes making))) m (Finishes making, refl) is
 defines number names (Some making) (DefineKey name bytes) m so is = cc
+defines number names (Some making) (DefineSeed name bytes) m so is = cc
 defines number names (Some making) (DefineScript name bytes) m so is = cc
 defines number names (Some making) (BeginTx name) m so is = cc
 defines number names (Some making) (DefineBlock name parent slot txs) m so is = cc
 defines number names (Some making) (DefineRaw name bytes) m so is = cc
 defines number names None Nothing m so is = meant (Ok (Defines NoDefinition)) m (NoDefinition, refl) is
-defines number names None (DefineKey name bytes) m so is = meant (meaning_outside number names (DefineKey name bytes)) m (free (bound_to name names.of_keys) (built_key name bytes) (key (length bytes == hash_size) (record { name = name; bound = bytes }) NotBuilt)) is
+defines number names None (DefineKey name bytes) m so is = meant (meaning_outside number names (DefineKey name bytes)) m (free (bound_to name names.of_keys) (built_key name (key_in bytes)) (key name (key_in bytes))) is
+defines number names None (DefineSeed name bytes) m so is = meant (meaning_outside number names (DefineSeed name bytes)) m (free (bound_to name names.of_keys) (built_key name (secret_key_in names.scheme bytes)) (key name (secret_key_in names.scheme bytes))) is
 defines number names None (DefineScript name bytes) m so is = script (bound_to name names.of_scripts) name bytes m is
 defines number names None (BeginTx name) m so is = meant (meaning_outside number names (BeginTx name)) m (free (bound_to name names.of_txs) (begun number name) (Continues (record { name = name; line = number; draft = empty_draft }), refl)) is
 defines number names None (AddPart part) m so is = cc

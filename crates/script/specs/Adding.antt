@@ -10,6 +10,8 @@ use Rattle.script.specs.declared.fault.LineFault.{LineFault}
 use Rattle.script.specs.declared.fault.LineFault.TheVariants.{NotBuilt, UnknownName}
 use Rattle.script.specs.declared.stop.Stop.{Stop}
 use Rattle.script.specs.declared.stop.Stop.TheVariants.{Fault, OutOfMemory}
+use Rattle.script.specs.declared.key_signer.KeySigner.{KeySigner}
+use Rattle.script.specs.SignerView.{key_signer_of}
 
 -- why a line is not run whose part is not added
 abbrev pub stop_of : DraftFault → Stop
@@ -18,9 +20,11 @@ stop_of draft.OutOfMemory = OutOfMemory
 
 -- What came of a part: the draft with it; its fault, which leaves the draft; or that memory ran out, and that it has no
 -- fault but, where it is late, the one that only memory tells.
-abbrev pub IsPartAdded : Result Draft LineFault → (late : Bool) → Draft → CodeDraft → Result Unit Stop → Type 0
-IsPartAdded said late d new (Ok done) = (with_part : Draft) × (said ≡ Ok with_part) × IsDraftOf new with_part
-IsPartAdded said late d new (Err (Fault fault)) = (said ≡ Err fault) × IsDraftOf new d
+abbrev pub IsPartAdded : Result Draft LineFault → (late : Bool) → Draft → CodeDraft KeySigner → Result Unit Stop
+    → Type 0
+IsPartAdded said late d new (Ok done) =
+    (with_part : Draft) × (said ≡ Ok with_part) × IsDraftOf key_signer_of new with_part
+IsPartAdded said late d new (Err (Fault fault)) = (said ≡ Err fault) × IsDraftOf key_signer_of new d
 IsPartAdded said late d new (Err OutOfMemory) =
     (fault : LineFault) → said ≡ Err fault → (fault ≡ NotBuilt) × IsTrue late
 

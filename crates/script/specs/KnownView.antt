@@ -11,6 +11,7 @@ IsTable table names = (name : List ℕ) → at_bytes (λ k. k.items) name table.
 
 -- the code knows what the parts of a transaction may name
 pub record AreKnown (code : Known) (names : AllNames) : Type 0 where
+  pub scheme : names.scheme ≡ code.scheme
   pub network : names.network ≡ code.network
   pub of_keys : IsTable code.keys names.of_keys
   pub of_scripts : IsTable code.scripts names.of_scripts

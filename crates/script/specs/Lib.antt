@@ -6,6 +6,9 @@ pub mod PlaceView
 pub mod LineView
 pub mod Answer
 pub mod WordsView
+pub mod Keys
+pub mod KeyView
+pub mod SignerView
 pub mod Names
 pub mod NamesView
 pub mod TxNamesView

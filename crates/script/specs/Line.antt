@@ -39,15 +39,16 @@ pub data Part : Type 0 where
   SignBy : (key : List ℕ) → (good : Bool) → Part
   Supply : (script : List ℕ) → Part
 
--- a line: nothing, a key or a script of a name, a transaction of a name that begins, a part of it, its end, a block of
--- a name, on a parent, in a slot, with transactions, bytes of a name, an arrival, a submission, a block of a name to
--- forge in a slot, a follower to open, the question what a follower is told next, a follower to set to the first of
--- some places that is on the selected chain, a follower to close, the question where that chain ends, what waits in the
--- mempool, or what is unspent on the chain, why the block of a name isn't selected, where the transaction of a name
--- stands, or how much an owner has
+-- a line: nothing, a key, a secret key or a script of a name, a transaction of a name that begins, a part of it, its
+-- end, a block of a name, on a parent, in a slot, with transactions, bytes of a name, an arrival, a submission, a block
+-- of a name to forge in a slot, a follower to open, the question what a follower is told next, a follower to set to the
+-- first of some places that is on the selected chain, a follower to close, the question where that chain ends, what
+-- waits in the mempool, or what is unspent on the chain, why the block of a name isn't selected, where the transaction
+-- of a name stands, or how much an owner has
 pub data Line : Type 0 where
   Nothing : Line
   DefineKey : (name bytes : List ℕ) → Line
+  DefineSeed : (name bytes : List ℕ) → Line
   DefineScript : (name bytes : List ℕ) → Line
   BeginTx : (name : List ℕ) → Line
   AddPart : Part → Line
@@ -238,6 +239,7 @@ abbrev pub pair_line : (word first second : List ℕ) → Option Line
 pair_line word first second =
     if bytes_eq word (codes "raw") then bytes_line DefineRaw first second
     else if bytes_eq word (codes "key") then bytes_line DefineKey first second
+    else if bytes_eq word (codes "seed") then bytes_line DefineSeed first second
     else if bytes_eq word (codes "script") then bytes_line DefineScript first second
     else if bytes_eq word (codes "in") then spend_line first second
     else if bytes_eq word (codes "forge") then forge_line first second

@@ -9,6 +9,7 @@ use Rattle.script.specs.WordsView.{words_left}
 abbrev pub line_of : Line → spec.Line
 line_of line.Nothing = spec.Nothing
 line_of (line.Key name digits) = spec.DefineKey name.text.now (spec.said_bytes digits.text.now)
+line_of (line.Seed name digits) = spec.DefineSeed name.text.now (spec.said_bytes digits.text.now)
 line_of (line.Script name digits) = spec.DefineScript name.text.now (spec.said_bytes digits.text.now)
 line_of (line.Tx name) = spec.BeginTx name.text.now
 line_of (line.Part part) = spec.AddPart (part_of part)

@@ -23,11 +23,12 @@ use Rattle.script.specs.Text.{script_size_limit}
 use Rattle.script.specs.Line.{NamedPlace, Genesis, AtBlock, Owner, OwnedByKey, OwnedByScript, NamedAsset, Part}
 use Rattle.script.specs.Line.{SpendGrant, Spend, Pay}
 use Rattle.script.specs.Line.{SetFee, SetStart, SetEnd, MintAsset, SignBy, Supply, Line, Nothing, DefineKey}
-use Rattle.script.specs.Line.{DefineScript, BeginTx}
+use Rattle.script.specs.Line.{DefineSeed, DefineScript, BeginTx}
 use Rattle.script.specs.Line.{AddPart, EndTx, DefineBlock, DefineRaw, Arrive, SubmitTx, ForgeBlock, OpenFollower}
 use Rattle.script.specs.Line.{AskNext, AskForward, CloseFollower, AskTip, AskMempool, AskUtxo, AskWhy, AskWhere}
 use Rattle.script.specs.Line.{AskBalance}
 use Rattle.script.specs.Line.{parse_line, is_quantity}
+use Rattle.script.specs.Keys.{Key, key_bytes, key_in, secret_key_in, signer_with}
 use Rattle.script.specs.Names.{Named, Bound, Binding, OpenTx, AllNames, bound_to}
 
 -- what a line defines: nothing, bytes, a key or a script of a name; a transaction is begun or goes on, or it ends and
@@ -35,7 +36,7 @@ use Rattle.script.specs.Names.{Named, Bound, Binding, OpenTx, AllNames, bound_to
 pub data Definition : Type 0 where
   NoDefinition : Definition
   BindsBytes : Binding → Definition
-  BindsKey : Named (List ℕ) → Definition
+  BindsKey : Named Key → Definition
   BindsScript : Named Script → Definition
   Continues : OpenTx → Definition
   Finishes : OpenTx → Definition
@@ -95,10 +96,9 @@ with_one (Some x) (Some others) = Some (x ∷ others)
 
 -- ---- keys
 
--- a key has 32 bytes
-abbrev pub built_key : (name bytes : List ℕ) → Result Meaning LineFault
-built_key name bytes =
-    if length bytes == hash_size then Ok (Defines (BindsKey (record { name = name; bound = bytes }))) else Err NotBuilt
+-- a key that there is gets the name
+abbrev pub built_key : (name : List ℕ) → Option Key → Result Meaning LineFault
+built_key name key = where_built (option_map (λ k. Defines (BindsKey (record { name = name; bound = k }))) key)
 
 -- ---- parts of a transaction
 
@@ -111,7 +111,7 @@ spends id index d =
 module _ (names : AllNames) where
   -- what unlocks the outputs of an owner
   abbrev pub payment_of : Owner → Option Credential
-  payment_of (OwnedByKey name) = option_map (λ key. KeyHash (key_hash_of key)) (bound_to name names.of_keys)
+  payment_of (OwnedByKey name) = option_map (λ key. KeyHash (key_hash_of (key_bytes key))) (bound_to name names.of_keys)
   payment_of (OwnedByScript name) =
       option_map (λ script. ScriptHash (script_hash_of script)) (bound_to name names.of_scripts)
 
@@ -143,7 +143,8 @@ module _ (names : AllNames) where
       where_known (asset_of asset)
       (λ a. if is_quantity a.quantity then where_built (with_minted a d) else Err NotBuilt)
   part_meaning (SignBy name good) d =
-      where_known (bound_to name names.of_keys) (λ key. where_built (with_signer (record { key = key; good = good }) d))
+      where_known (bound_to name names.of_keys)
+      (λ key. where_built (option_and_then (λ signer. with_signer signer d) (signer_with names.scheme key good)))
   part_meaning (Supply name) d =
       where_known (bound_to name names.of_scripts) (λ script. where_built (with_script script d))
 
@@ -253,7 +254,10 @@ meaning_inside names making line = Err BadLine
 -- what a line of this number but a script's means elsewhere
 abbrev pub meaning_outside : ℕ → AllNames → Line → Result Meaning LineFault
 meaning_outside number names Nothing = Ok (Defines NoDefinition)
-meaning_outside number names (DefineKey name bytes) = where_free (bound_to name names.of_keys) (built_key name bytes)
+meaning_outside number names (DefineKey name bytes) =
+    where_free (bound_to name names.of_keys) (built_key name (key_in bytes))
+meaning_outside number names (DefineSeed name bytes) =
+    where_free (bound_to name names.of_keys) (built_key name (secret_key_in names.scheme bytes))
 meaning_outside number names (BeginTx name) = where_free (bound_to name names.of_txs) (begun number name)
 meaning_outside number names (DefineBlock name parent slot txs) = block_meaning names name parent slot txs
 meaning_outside number names (DefineRaw name bytes) =

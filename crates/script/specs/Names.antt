@@ -5,7 +5,9 @@ use Rattle.std.specs.List.{find}
 use Rattle.model.specs.Chain.{Point}
 use Rattle.model.specs.Script.{Script}
 use Rattle.model.specs.Transaction.{Transaction, transaction_id_of}
+use Rattle.genesis.specs.declared.scheme.Scheme.{Scheme}
 use Rattle.draft.specs.Draft.{Draft}
+use Rattle.script.specs.Keys.{Key}
 
 -- a name with what it is bound to
 pub record Named (A : Type 0) : Type 0 where
@@ -53,10 +55,11 @@ pub record OpenTx : Type 0 where
   pub draft : Draft
 
 -- All names of a script, each kind in the order in which they were bound, and the transaction that is being made. One
--- name may be of each kind. Addresses are those of this network.
+-- name may be of each kind. Addresses are those of this network, and keys sign by this scheme.
 pub record AllNames : Type 0 where
+  pub scheme : Scheme
   pub network : ℕ
-  pub of_keys : List (Named (List ℕ))
+  pub of_keys : List (Named Key)
   pub of_scripts : List (Named Script)
   pub of_txs : List (Named Transaction)
   pub of_bytes : List Binding
@@ -64,9 +67,10 @@ pub record AllNames : Type 0 where
   pub making : Option OpenTx
 
 -- before the first line no name is bound
-abbrev pub no_names : ℕ → AllNames
-no_names network =
+abbrev pub no_names : Scheme → (network : ℕ) → AllNames
+no_names scheme network =
     record {
+      scheme = scheme;
       network = network;
       of_keys = [];
       of_scripts = [];

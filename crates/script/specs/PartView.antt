@@ -1,6 +1,7 @@
 -- What a part of the code stands for.
 use Rattle.std.specs.Prelude.{ℕ, ℤ, pos, Bool, true, false}
-use Rattle.draft.specs.SignerView.{is_good}
+use Rattle.draft.specs.declared.signer.Signing.{Signing}
+use Rattle.draft.specs.declared.signer.Signing.TheVariants.{Good, Bad}
 use Rattle.script.specs.declared.part.Owner.{Owner}
 use Rattle.script.specs.declared.part.Owner.TheVariants as owner
 use Rattle.script.specs.declared.part.Quantity.{Quantity}
@@ -21,6 +22,11 @@ signed false n = pos n
 
 abbrev pub quantity_of : Quantity → ℤ
 quantity_of q = signed q.negative q.size
+
+-- whether a key is to sign well
+abbrev pub is_good : Signing → Bool
+is_good Good = true
+is_good Bad = false
 
 abbrev pub part_of : Part → spec.Part
 part_of (part.SpendGrant index) = spec.SpendGrant index

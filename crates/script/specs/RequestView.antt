@@ -17,6 +17,7 @@ use Rattle.script.specs.NamesView.{AreBound}
 use Rattle.script.specs.TxNamesView.{AreTxsNamed}
 use Rattle.script.specs.FollowerNamesView.{AreFollowersNamed, HasRoom}
 use Rattle.script.specs.KnownView.{AreKnown}
+use Rattle.script.specs.SignerView.{key_signer_of}
 use Rattle.script.specs.Line.{Line}
 use Rattle.script.specs.Meaning.{Meaning, Defines, Definition, Arrives, SubmitsTx, ForgesBlock, OpensFollower}
 use Rattle.script.specs.Meaning.{TellsFollower, ForwardsFollower, ClosesFollower, PrintsTip, PrintsMempool, PrintsUtxo}
@@ -27,7 +28,7 @@ use Rattle.script.specs.PartView.{owner_of}
 pub record IsMaking (code : code.OpenTx) (making : OpenTx) : Type 0 where
   pub name : making.name ≡ code.name.items
   pub line : making.line ≡ code.line
-  pub stands : IsDraftOf code.draft making.draft
+  pub stands : IsDraftOf key_signer_of code.draft making.draft
 
 -- the transaction in the making, if there is one
 abbrev pub IsOpen : Option code.OpenTx → Option OpenTx → Type 0

@@ -6,8 +6,8 @@ use Rattle.std.specs.List.{list_all}
 use Rattle.script.specs.declared.fault.LineFault.{LineFault}
 use Rattle.script.specs.declared.fault.LineFault.TheVariants.{BadLine}
 use Rattle.script.specs.Text.{script_size_limit, content_of, is_name, is_printable, parse_number, words_of}
-use Rattle.script.specs.Line.{Line, Nothing, DefineKey, DefineScript, BeginTx, AddPart, EndTx, DefineBlock, DefineRaw}
-use Rattle.script.specs.Line.{parse_line}
+use Rattle.script.specs.Line.{Line, Nothing, DefineKey, DefineSeed, DefineScript, BeginTx, AddPart, EndTx, DefineBlock}
+use Rattle.script.specs.Line.{DefineRaw, parse_line}
 use Rattle.script.specs.Names.{OpenTx, AllNames, bound_to}
 use Rattle.script.specs.Meaning.{Definition, Meaning, Defines, MeansLine, is_late, where_known}
 
@@ -43,6 +43,7 @@ parse_send peers line =
 abbrev pub is_definition : Line → Bool
 is_definition Nothing = true
 is_definition (DefineKey name bytes) = true
+is_definition (DefineSeed name bytes) = true
 is_definition (DefineScript name bytes) = true
 is_definition (BeginTx name) = true
 is_definition (AddPart part) = true

@@ -14,6 +14,7 @@ use crate::bound_names::Bound;
 use crate::building::{base_after, build};
 use crate::digits::Digits;
 use crate::fault::LineFault;
+use crate::key::Key;
 use crate::name::Name;
 use crate::name_words::NameWords;
 use crate::names::Names;
@@ -26,20 +27,20 @@ use draft::Draft;
 use timelock::Script;
 
 impl Names {
-    /// A line that defines a key. Its 32 bytes are counted before memory is asked for.
+    /// A line that defines a key, where there is one that it says. That is known before memory is asked for.
     pub(crate) fn define_key<'a>(
         &mut self,
         name: Name<'a>,
-        digits: Digits<'_>,
+        key: Option<Key>,
     ) -> Result<Request<'a>, Stop>
         ensures { (names : AllNames) → AreNamed self.old names → AsksFor names
-            (where_free (bound_to name.entry.text.now names.of_keys)
-            (built_key name.entry.text.now (said_bytes digits.entry.text.now))) false result self.new }
+            (where_free (bound_to name.entry.text.now names.of_keys) (built_key name.entry.text.now key)) false
+            result self.new }
     {
         if self.known.keys.get(name.text).is_some() {
             return Err(Stop::Fault(LineFault::NameTaken));
         }
-        let Some(key) = digits.key() else {
+        let Some(key) = key else {
             return Err(Stop::Fault(LineFault::NotBuilt));
         };
         let name = Vec::from_slice(self.alloc, name.text)?;

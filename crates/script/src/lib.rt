@@ -10,6 +10,8 @@ mod defining;
 mod digits;
 mod fault;
 mod follower_names;
+mod key;
+mod key_signer;
 mod known;
 mod line;
 mod lookup;

@@ -1,7 +1,6 @@
 //! What a line of a script says, by itself.
 
 ghost use Rattle.std.specs.Prelude.{◌≡◌, Some, option_map};
-ghost use Rattle.draft.specs.SignerView.{is_good};
 ghost use Rattle.script.specs.Line.{parse_line, said_by, said_with, form_of, word_of, where_name, parse_place};
 ghost use Rattle.script.specs.Line.{word_line, arrive_line, named_line, spend_line, pair_line, mint_line, long_line};
 ghost use Rattle.script.specs.Line.{OpenFollower, AskNext, CloseFollower, SubmitTx, BeginTx, AddPart, SignBy, Supply};
@@ -11,6 +10,7 @@ ghost use Rattle.script.specs.Line.{block_of_parts, pay_of_parts, parse_owner, p
 ghost use Rattle.script.specs.Text.{parse_number};
 ghost use Rattle.script.specs.WordsView.{words_left};
 ghost use Rattle.script.specs.LineView.{line_of};
+ghost use Rattle.script.specs.PartView.{is_good};
 
 use crate::asset_words::AssetWords;
 use crate::digits::Digits;
@@ -68,6 +68,11 @@ pub enum Line<'a> {
     Nothing,
     /// A key.
     Key {
+        name: Name<'a>,
+        digits: Digits<'a>,
+    },
+    /// A secret key.
+    Seed {
         name: Name<'a>,
         digits: Digits<'a>,
     },
@@ -348,13 +353,15 @@ fn pair_line<'a>(word: &[u8], first: &'a [u8], second: &'a [u8]) -> Option<Line<
     if word == b"balance".as_slice() {
         return balance_line(first, second);
     }
-    // `raw`, `key` and `script` have a name and digits.
+    // `raw`, `key`, `seed` and `script` have a name and digits.
     let name = Name::of_word(first)?;
     let digits = Digits::of_word(second)?;
     if word == b"raw".as_slice() {
         Some(Line::Raw { name, digits })
     } else if word == b"key".as_slice() {
         Some(Line::Key { name, digits })
+    } else if word == b"seed".as_slice() {
+        Some(Line::Seed { name, digits })
     } else if word == b"script".as_slice() {
         Some(Line::Script { name, digits })
     } else {

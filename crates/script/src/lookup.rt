@@ -19,19 +19,20 @@ use crate::name_table::NameTable;
 use crate::name_words::NameWords;
 use crate::part::Owner;
 use crate::stop::Stop;
-use genesis::Genesis;
+use genesis::{Genesis, Scheme};
 use ident::KeyHash;
 use std::alloc::Global;
 use tx::{Address, Credential, Tx};
 use value::AssetQuantity;
 
 impl Known {
-    /// Nothing yet, on the network of this genesis. Takes no memory.
-    pub fn new(alloc: Global, genesis: &Genesis) -> Known
-        ensures { AreKnown result (no_names genesis.now.params.network) }
+    /// Nothing yet, on the network of this genesis, where keys sign by this scheme. Takes no memory.
+    pub fn new(alloc: Global, genesis: &Genesis, scheme: Scheme) -> Known
+        ensures { AreKnown result (no_names scheme genesis.now.params.network) }
     {
         Known {
             alloc,
+            scheme,
             network: genesis.network(),
             keys: NameTable::new(alloc),
             scripts: NameTable::new(alloc),
@@ -48,7 +49,7 @@ impl Known {
         match owner {
             Owner::Key(name) => {
                 let key = self.keys.get(name.text)?;
-                Some(Credential::Key(KeyHash::of_key(key)))
+                Some(Credential::Key(KeyHash::of_key(key.bytes())))
             }
             Owner::Script(name) => {
                 let script = self.scripts.get(name.text)?;

@@ -14,6 +14,7 @@ ghost use Rattle.script.specs.RequestView.{AreNamed, AsksFor, AsksLine};
 ghost use Rattle.script.specs.WordsView.{words_left};
 
 use crate::fault::LineFault;
+use crate::key::Key;
 use crate::line::{Form, Line};
 use crate::name::Name;
 use crate::names::Names;
@@ -192,7 +193,11 @@ impl Names {
     {
         match line {
             Line::Nothing => Ok(Request::Nothing),
-            Line::Key { name, digits } => self.define_key(name, digits),
+            Line::Key { name, digits } => self.define_key(name, Key::in_digits(&digits)),
+            Line::Seed { name, digits } => {
+                let key = Key::secret_in_digits(self.known.scheme, &digits);
+                self.define_key(name, key)
+            }
             Line::Script { name, digits } => self.define_script(name, digits),
             Line::Tx { name } => self.begin_tx(number, name),
             Line::Block {

@@ -1,5 +1,6 @@
 //! The transaction between its line `tx` and its line `end`.
 
+use crate::key_signer::KeySigner;
 use draft::Draft;
 
 /// A transaction in the making, with its name and the number of its line `tx`.
@@ -7,5 +8,5 @@ use draft::Draft;
 pub struct OpenTx {
     pub name: Vec<u8>,
     pub line: u64,
-    pub draft: Draft,
+    pub draft: Draft<KeySigner>,
 }

@@ -99,6 +99,7 @@ fn is_definition(line: &Line<'_>) -> bool
         line,
         Line::Nothing
             | Line::Key { .. }
+            | Line::Seed { .. }
             | Line::Script { .. }
             | Line::Tx { .. }
             | Line::Part(_)

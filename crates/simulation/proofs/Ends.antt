@@ -1,6 +1,6 @@
 -- How a simulation ends, by how its script was read.
 use Rattle.std.proofs.Common.{◌≡◌, ◌⊎◌, inl, inr, ℕ, List, [], Option, None, Some, Result, Ok, Err}
-use Rattle.std.specs.Prelude.{IfOk, IfErr, IfSome, OnOk}
+use Rattle.std.specs.Prelude.{IfErr, IfSome, OnOk}
 use Rattle.inbox.specs.Arrivals.{peers}
 use Rattle.script.specs.Names.{AllNames}
 use Rattle.scenario.specs.declared.fault.ScenarioFault.{ScenarioFault}

@@ -2,7 +2,8 @@
 //!
 //! ```text
 //! let clients = Clients::new(3).expect(rt, "1 to 8 clients");
-//! sim(rt, genesis, &mut script, &mut out, clients, &OpenGate)?; // waits for all threads that it starts
+//! // Waits for all threads that it starts.
+//! sim::<TestScheme, _, _, _, _>(rt, genesis, Scheme::Test, &mut script, &mut out, clients, &OpenGate)?;
 //! ```
 #![tactic(auto)]
 

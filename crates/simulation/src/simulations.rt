@@ -11,7 +11,7 @@ use crate::clients::Clients;
 use crate::course::Course;
 use crate::summary::{Summary, put_summary};
 use crate::threads::{Client, Peer, run_adder, run_client, run_peer};
-use genesis::Genesis;
+use genesis::{Genesis, Scheme};
 use inbox::{AdderEnd, Mailroom, PEERS, PeerEnd};
 use scenario::{ScenarioFault, Sending};
 use shared::{Adder, Caller, Room, Shared};
@@ -21,7 +21,7 @@ use std::marker::Brand;
 use std::sync::Wait;
 use std::thread;
 use std::thread::{JoinHandle, Threads};
-use witness_pool::{Gate, OpenGate, Pool, TestScheme};
+use witness_pool::{Gate, OpenGate, Pool, SigScheme};
 
 /// How many places the inbox has.
 const PLACES: usize = 8;
@@ -57,16 +57,16 @@ fn deal<M: Mailroom>(peers: &mut Vec<Peer<M>>, sends: Vec<Sending>) -> Result<()
 
 /// Those who act in a simulation.
 #[derive(Drop)]
-struct Cast<B: Room, M: Mailroom> {
-    adder: Adder<TestScheme, OpenGate, B, M>,
+struct Cast<S: SigScheme, B: Room, M: Mailroom> {
+    adder: Adder<S, OpenGate, B, M>,
     peers: Vec<Peer<M>>,
     clients: Vec<Caller<B>>,
 }
 
 /// Those who have done their part.
 #[derive(Drop)]
-struct Ended<B: Room, M: Mailroom> {
-    adder: Adder<TestScheme, OpenGate, B, M>,
+struct Ended<S: SigScheme, B: Room, M: Mailroom> {
+    adder: Adder<S, OpenGate, B, M>,
     peers: Vec<PeerEnd<M>>,
     clients: Vec<Client<B>>,
 }
@@ -120,14 +120,14 @@ fn clients_of<B: Room>(
 
 /// Waits for the threads of the peers and of the clients, and answers who has done their part: all, unless the threads
 /// were told to end.
-fn all_ended<B: Room, M: Mailroom, R: Threads>(
+fn all_ended<S: SigScheme, B: Room, M: Mailroom, R: Threads>(
     rt: &R,
     alloc: Global,
     course: &Course,
-    adder: Adder<TestScheme, OpenGate, B, M>,
+    adder: Adder<S, OpenGate, B, M>,
     sending: Vec<JoinHandle<PeerEnd<M>>>,
     watching: Vec<JoinHandle<Option<Client<B>>>>,
-) -> Result<Ended<B, M>, AllocError> {
+) -> Result<Ended<S, B, M>, AllocError> {
     let peers = join_all(rt, alloc, course, sending);
     let found = join_all(rt, alloc, course, watching);
     match clients_of(alloc, found) {
@@ -142,13 +142,19 @@ fn all_ended<B: Room, M: Mailroom, R: Threads>(
 
 /// Runs all threads, the adder on this one beside the others, and answers who has done their part once they have ended.
 /// Err where a thread can't be started, or memory runs out: those that run are then told to end.
-fn run_threads<B: Room + Send + Sync, M: Mailroom + Send + Sync, R: Threads + Wait + Sync, G: Gate>(
+fn run_threads<
+    S: SigScheme + Send + Sync,
+    B: Room + Send + Sync,
+    M: Mailroom + Send + Sync,
+    R: Threads + Wait + Sync,
+    G: Gate,
+>(
     rt: &R,
     alloc: Global,
-    shared: &Shared<TestScheme, B>,
-    cast: Cast<B, M>,
+    shared: &Shared<S, B>,
+    cast: Cast<S, B, M>,
     gate: &G,
-) -> Result<Ended<B, M>, AllocError> {
+) -> Result<Ended<S, B, M>, AllocError> {
     let course = Course::new();
     let course = &course;
     let Cast {
@@ -159,7 +165,7 @@ fn run_threads<B: Room + Send + Sync, M: Mailroom + Send + Sync, R: Threads + Wa
     thread::scope(
         thread::scope_env(),
         rt,
-        move |scope| -> Result<Ended<B, M>, AllocError> {
+        move |scope| -> Result<Ended<S, B, M>, AllocError> {
             let mut sending = Vec::new(alloc);
             for (place, peer) in peers.into_iter().enumerate() {
                 let sender = scope.spawn(move || run_peer(rt, course, gate, place, peer));
@@ -179,10 +185,10 @@ fn run_threads<B: Room + Send + Sync, M: Mailroom + Send + Sync, R: Threads + Wa
 }
 
 /// The first client meets the adder, and then each of the others meets the first.
-fn meet_all<B: Room, M: Mailroom, R: Wait>(
+fn meet_all<S: SigScheme + Send, B: Room, M: Mailroom, R: Wait>(
     rt: &R,
-    shared: &Shared<TestScheme, B>,
-    adder: &mut Adder<TestScheme, OpenGate, B, M>,
+    shared: &Shared<S, B>,
+    adder: &mut Adder<S, OpenGate, B, M>,
     first: &mut Client<B>,
     others: &mut [Client<B>],
 )
@@ -195,10 +201,10 @@ fn meet_all<B: Room, M: Mailroom, R: Wait>(
 }
 
 /// Each client's follower is told all that is left. Answers how long the chains are that they were told.
-fn ask_all<B: Room, R: Wait>(
+fn ask_all<S: SigScheme, B: Room, R: Wait>(
     rt: &R,
     alloc: Global,
-    shared: &Shared<TestScheme, B>,
+    shared: &Shared<S, B>,
     first: &mut Client<B>,
     others: &mut [Client<B>],
 ) -> Result<Vec<u64>, AllocError>
@@ -216,11 +222,11 @@ fn ask_all<B: Room, R: Wait>(
 }
 
 /// What comes of it once the threads have ended: what the inbox still has is added, and the clients learn of all.
-fn summed_up<B: Room, M: Mailroom, R: Threads + Wait + Sync>(
+fn summed_up<S: SigScheme + Send, B: Room, M: Mailroom, R: Threads + Wait + Sync>(
     rt: &R,
     alloc: Global,
-    shared: &Shared<TestScheme, B>,
-    adder: &mut Adder<TestScheme, OpenGate, B, M>,
+    shared: &Shared<S, B>,
+    adder: &mut Adder<S, OpenGate, B, M>,
     peers: &mut [PeerEnd<M>; PEERS],
     first: &mut Client<B>,
     others: &mut [Client<B>],
@@ -241,11 +247,11 @@ fn summed_up<B: Room, M: Mailroom, R: Threads + Wait + Sync>(
 }
 
 /// The same of all of them, where there is a client.
-fn summary_of<B: Room, M: Mailroom, R: Threads + Wait + Sync>(
+fn summary_of<S: SigScheme + Send, B: Room, M: Mailroom, R: Threads + Wait + Sync>(
     rt: &R,
     alloc: Global,
-    shared: &Shared<TestScheme, B>,
-    ended: Ended<B, M>,
+    shared: &Shared<S, B>,
+    ended: Ended<S, B, M>,
 ) -> Result<Summary, AllocError>
     ensures { IfOk result (λ summary. length summary.told.items ≡ length ended.clients.items) }
 {
@@ -267,12 +273,12 @@ fn summary_of<B: Room, M: Mailroom, R: Threads + Wait + Sync>(
 
 /// Those who act: the callers of the core, of whom the last one is the adder, and the ends of the inbox, with what is
 /// sent.
-fn cast_of<B: Room, M: Mailroom>(
+fn cast_of<S: SigScheme + Send, B: Room, M: Mailroom>(
     alloc: Global,
     mut callers: Vec<Caller<B>>,
     ends: ([PeerEnd<M>; PEERS], AdderEnd<M>),
     sends: Vec<Sending>,
-) -> Result<Cast<B, M>, AllocError>
+) -> Result<Cast<S, B, M>, AllocError>
     requires { ends.1 ≡ no_intake }
     ensures { IfOk result (λ cast. length cast.clients.items + 1 ≡ length callers.items) }
 {
@@ -291,13 +297,14 @@ fn cast_of<B: Room, M: Mailroom>(
 
 /// Runs a simulation on a shared core with these callers, through an inbox that was opened for it.
 fn simulate_on<
+    S: SigScheme + Send + Sync,
     B: Room + Send + Sync,
     M: Mailroom + Send + Sync,
     R: Threads + Wait + Sync + AllocGlobal,
     G: Gate,
 >(
     rt: &R,
-    shared: &Shared<TestScheme, B>,
+    shared: &Shared<S, B>,
     callers: Vec<Caller<B>>,
     inbox: inbox::Opened,
     sends: Vec<Sending>,
@@ -319,9 +326,14 @@ fn simulate_on<
 
 /// Runs a simulation on a core and through an inbox that were opened for it.
 #[tactic(auto, using(crate::proofs::Newcomers::newcomers_length))]
-fn simulate<B: Room + Send + Sync, R: Threads + Wait + Sync + AllocGlobal, G: Gate>(
+fn simulate<
+    S: SigScheme + Send + Sync,
+    B: Room + Send + Sync,
+    R: Threads + Wait + Sync + AllocGlobal,
+    G: Gate,
+>(
     rt: &R,
-    core: shared::Opened<TestScheme>,
+    core: shared::Opened<S>,
     inbox: inbox::Opened,
     sends: Vec<Sending>,
     gate: &G,
@@ -331,11 +343,11 @@ fn simulate<B: Room + Send + Sync, R: Threads + Wait + Sync + AllocGlobal, G: Ga
     ensures { IfOk result (λ summary. length summary.told.items + 1 ≡ core.callers) }
 {
     let (shared, callers) = core.named::<B>()?;
-    simulate_on::<B, Brand, R, G>(rt, &shared, callers, inbox, sends, gate)
+    simulate_on::<S, B, Brand, R, G>(rt, &shared, callers, inbox, sends, gate)
 }
 
 /// Opens a core, for the clients and the adder, and an inbox, and runs a simulation on them.
-fn simulate_sends<R: Threads + Wait + Sync + AllocGlobal, G: Gate>(
+fn simulate_sends<S: SigScheme + Send + Sync, R: Threads + Wait + Sync + AllocGlobal, G: Gate>(
     rt: &R,
     genesis: Genesis,
     sends: Vec<Sending>,
@@ -348,7 +360,7 @@ fn simulate_sends<R: Threads + Wait + Sync + AllocGlobal, G: Gate>(
     let inbox = inbox::Opened::new(rt.alloc(), PLACES).map_err(|_| AllocError)?;
     // The core is made last: what has much to drop is then not dropped at another end.
     let core = shared::Opened::new(rt.alloc(), genesis, callers).map_err(|_| AllocError)?;
-    simulate::<Brand, R, G>(rt, core, inbox, sends, gate)
+    simulate::<S, Brand, R, G>(rt, core, inbox, sends, gate)
 }
 
 /// Writes what came of a simulation. Where memory runs out nothing is written.
@@ -367,7 +379,8 @@ fn print<W: Write>(alloc: Global, writer: &mut W, summary: &Summary) -> Result<(
     }
 }
 
-/// Runs the simulation that a script says, on a new core of this genesis: each peer sends what the script has it send
+/// Runs the simulation that a script says, on a new core of this genesis. Whether a signature is good the core judges by
+/// `S`, and what the script signs it signs by `scheme`: give both the same. Each peer sends what the script has it send
 /// through an inbox of 8 places, from a thread of its own; the thread that calls adds what they send to the core, with
 /// 4 workers; and each of so many clients follows the chain and reads its height, from a thread of its own. When the
 /// peers have ended, what is left in the inbox is added, and the clients learn of all. Then it is written how high the
@@ -378,9 +391,16 @@ fn print<W: Write>(alloc: Global, writer: &mut W, summary: &Summary) -> Result<(
 /// The script is read before any thread starts: its first fault is told as [`scenario::sends`] tells it. Where memory
 /// runs out, or a thread can't be started, those that run are told to end, and `OutOfMemory` is answered once they have.
 /// Waits for all threads that it starts.
-pub fn sim<R: Threads + Wait + Sync + AllocGlobal, I: BufRead, W: Write, G: Gate>(
+pub fn sim<
+    S: SigScheme + Send + Sync,
+    R: Threads + Wait + Sync + AllocGlobal,
+    I: BufRead,
+    W: Write,
+    G: Gate,
+>(
     rt: &R,
     genesis: Genesis,
+    scheme: Scheme,
     reader: &mut I,
     writer: &mut W,
     clients: Clients,
@@ -391,16 +411,16 @@ pub fn sim<R: Threads + Wait + Sync + AllocGlobal, I: BufRead, W: Write, G: Gate
         × Appends (W.contents writer.old) (W.contents writer.new) (summary_text summary)) }
     // The script has no fault then, and was read whole.
     ensures script { OnOk result (IfSome (I.remaining reader.old) (λ text.
-        IsFaultless (no_names genesis.params.network) text × (I.remaining reader.new ≡ Some []))) }
+        IsFaultless (no_names scheme genesis.params.network) text × (I.remaining reader.new ≡ Some []))) }
     // A fault is what `sends` tells: the script's first one, or that reading failed or memory ran out on the way. Or
     // the script has none and was read whole, and memory ran out then, or it couldn't be written.
     ensures fault { IfErr result (λ why. IfSome (I.remaining reader.old)
-        (λ text. IsSimFault (no_names genesis.params.network) text (I.remaining reader.new) why)) }
+        (λ text. IsSimFault (no_names scheme genesis.params.network) text (I.remaining reader.new) why)) }
     // Nothing is written, but where it is told that writing failed.
     ensures silent { IfErr result (λ why. (why ≡ ScenarioFault.WriteFailed) ⊎ (writer.new ≡ writer.old)) }
 {
-    let sends = scenario::sends(rt.alloc(), &genesis, reader, PEERS as u64)?;
-    let Ok(summary) = simulate_sends(rt, genesis, sends, clients, gate) else {
+    let sends = scenario::sends(rt.alloc(), &genesis, scheme, reader, PEERS as u64)?;
+    let Ok(summary) = simulate_sends::<S, R, G>(rt, genesis, sends, clients, gate) else {
         return Err(ScenarioFault::OutOfMemory);
     };
     print(rt.alloc(), writer, &summary)

@@ -10,7 +10,7 @@ use std::alloc::AllocError;
 use std::sync::Wait;
 use std::thread;
 use std::thread::Threads;
-use witness_pool::{Gate, OpenGate, TestScheme};
+use witness_pool::{Gate, OpenGate, SigScheme};
 
 /// The numbers under which a gate is told of the threads: the adder's, the first peer's, and the first client's.
 const ADDER: usize = 1;
@@ -27,10 +27,10 @@ const ROUNDS: u64 = 1_000;
 
 /// Takes in what is sent until the peers have ended. Where memory runs out for an arrival, which then stays with the
 /// adder, all threads are told to end.
-fn add<B: Room, M: Mailroom, R: Threads + Wait + Sync>(
+fn add<S: SigScheme + Send, B: Room, M: Mailroom, R: Threads + Wait + Sync>(
     rt: &R,
-    shared: &Shared<TestScheme, B>,
-    adder: &mut Adder<TestScheme, OpenGate, B, M>,
+    shared: &Shared<S, B>,
+    adder: &mut Adder<S, OpenGate, B, M>,
     course: &Course,
 ) {
     for _ in rt.forever() {
@@ -46,13 +46,13 @@ fn add<B: Room, M: Mailroom, R: Threads + Wait + Sync>(
 }
 
 /// What the adder's thread does.
-pub fn run_adder<B: Room, M: Mailroom, R: Threads + Wait + Sync, G: Gate>(
+pub fn run_adder<S: SigScheme + Send, B: Room, M: Mailroom, R: Threads + Wait + Sync, G: Gate>(
     rt: &R,
-    shared: &Shared<TestScheme, B>,
+    shared: &Shared<S, B>,
     course: &Course,
     gate: &G,
-    mut adder: Adder<TestScheme, OpenGate, B, M>,
-) -> Adder<TestScheme, OpenGate, B, M> {
+    mut adder: Adder<S, OpenGate, B, M>,
+) -> Adder<S, OpenGate, B, M> {
     gate.start(ADDER);
     add(rt, shared, &mut adder, course);
     gate.done(ADDER);
@@ -133,9 +133,9 @@ pub struct Client<B: Room> {
 
 impl<B: Room> Client<B> {
     /// A client with a follower of its own. Err where memory runs out.
-    fn open<R: Wait>(
+    fn open<S: SigScheme, R: Wait>(
         rt: &R,
-        shared: &Shared<TestScheme, B>,
+        shared: &Shared<S, B>,
         mut caller: Caller<B>,
     ) -> Result<Client<B>, AllocError> {
         // A new core has a number for more followers than there are clients: what is refused is memory.
@@ -162,7 +162,7 @@ impl<B: Room> Client<B> {
     }
 
     /// Reads the height.
-    pub fn read_height(&mut self, shared: &Shared<TestScheme, B>) -> u64
+    pub fn read_height<S: SigScheme>(&mut self, shared: &Shared<S, B>) -> u64
         ensures fell { IsTrue self.new.fell ↔ (IsTrue self.old.fell ⊎ (result < self.old.highest)) }
         ensures highest { (result ≤ self.new.highest) × (self.old.highest ≤ self.new.highest) }
     {
@@ -176,7 +176,11 @@ impl<B: Room> Client<B> {
     }
 
     /// Asks what the follower is told next, and answers whether it was told anything. Err where memory runs out.
-    fn ask<R: Wait>(&mut self, rt: &R, shared: &Shared<TestScheme, B>) -> Result<bool, AllocError> {
+    fn ask<S: SigScheme, R: Wait>(
+        &mut self,
+        rt: &R,
+        shared: &Shared<S, B>,
+    ) -> Result<bool, AllocError> {
         // The follower is open: what is refused is memory.
         match shared.next(rt, &mut self.caller, self.follower) {
             Ok(None) => Ok(false),
@@ -193,10 +197,10 @@ impl<B: Room> Client<B> {
     }
 
     /// Asks until the follower is told nothing more. Err where memory runs out.
-    pub fn ask_all<R: Wait>(
+    pub fn ask_all<S: SigScheme, R: Wait>(
         &mut self,
         rt: &R,
-        shared: &Shared<TestScheme, B>,
+        shared: &Shared<S, B>,
     ) -> Result<(), AllocError> {
         for _ in rt.forever() {
             if !self.ask(rt, shared)? {
@@ -207,10 +211,10 @@ impl<B: Room> Client<B> {
     }
 
     /// Asks what is next and reads the height, many times.
-    fn watch_long<R: Wait>(
+    fn watch_long<S: SigScheme, R: Wait>(
         &mut self,
         rt: &R,
-        shared: &Shared<TestScheme, B>,
+        shared: &Shared<S, B>,
         course: &Course,
     ) -> Result<(), AllocError> {
         for _ in 0..ROUNDS {
@@ -226,9 +230,9 @@ impl<B: Room> Client<B> {
 
 /// Opens a follower, and then asks what it is told next and reads the height, many times. Where memory runs out, all
 /// threads are told to end. None where it ran out before the follower was open.
-fn watch<B: Room, R: Wait>(
+fn watch<S: SigScheme, B: Room, R: Wait>(
     rt: &R,
-    shared: &Shared<TestScheme, B>,
+    shared: &Shared<S, B>,
     course: &Course,
     caller: Caller<B>,
 ) -> Option<Client<B>> {
@@ -243,9 +247,9 @@ fn watch<B: Room, R: Wait>(
 }
 
 /// What the thread of a client does. Its place among the clients is counted from 0.
-pub fn run_client<B: Room, R: Wait, G: Gate>(
+pub fn run_client<S: SigScheme, B: Room, R: Wait, G: Gate>(
     rt: &R,
-    shared: &Shared<TestScheme, B>,
+    shared: &Shared<S, B>,
     course: &Course,
     gate: &G,
     place: usize,

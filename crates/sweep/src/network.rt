@@ -1,6 +1,6 @@
 //! The network on which calls are made, with its payments and blocks by the lines of scripts.
 
-use genesis::Genesis;
+use genesis::{Genesis, Scheme};
 use ident::Point;
 use script::{LinePlace, Names};
 use std::alloc::Global;
@@ -107,7 +107,7 @@ fn obey_all(names: &mut Names) -> bool {
 /// No names, in a box, whose drop is a call.
 fn no_names(alloc: Global) -> Option<Box<Names>> {
     let genesis = genesis(alloc)?;
-    Box::new(alloc, Names::new(alloc, &genesis)).ok()
+    Box::new(alloc, Names::new(alloc, &genesis, Scheme::Test)).ok()
 }
 
 /// The names of the payments and blocks, where memory lasts.

@@ -3,8 +3,10 @@
 
 use crate::network::{genesis, shown};
 use crate::told::Told;
+use genesis::Scheme;
 use scenario::ScenarioFault;
 use std::alloc::Global;
+use witness_pool::TestScheme;
 
 /// The lines of the script, each with what its line of output begins with, and what is answered there; neither where it
 /// prints nothing.
@@ -64,7 +66,13 @@ fn try_without(alloc: Global, left_out: Option<usize>) -> Option<Run> {
     let script = script_without(alloc, left_out)?;
     let mut printed = room(alloc)?;
     let mut reader = script.as_bytes();
-    let ended = scenario::run(alloc, genesis, &mut reader, &mut printed);
+    let ended = scenario::run::<TestScheme, _, _>(
+        alloc,
+        genesis,
+        Scheme::Test,
+        &mut reader,
+        &mut printed,
+    );
     Some(Run { printed, ended })
 }
 

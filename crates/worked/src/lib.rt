@@ -22,8 +22,6 @@ mod genesis_tests;
 #[cfg(test)]
 mod ledgerdb_tests;
 #[cfg(test)]
-mod library_tests;
-#[cfg(test)]
 mod mempool_tests;
 #[cfg(test)]
 mod networks;

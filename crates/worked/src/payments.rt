@@ -3,6 +3,7 @@
 use super::fixture::{MEMORY, boxed};
 use super::networks::{OUTPUT, genesis_of};
 use block::CheckedBlock;
+use genesis::Scheme;
 use ident::BlockHash;
 use script::{LinePlace, Names};
 use std::process::Abort;
@@ -79,7 +80,7 @@ fn obey_all(rt: &impl Abort, names: &mut Names, lines: &str) {
 /// The names of the payments, and those that these lines give.
 pub fn names_of(rt: &(impl Abort + AllocGlobal), lines: &str) -> Box<Names> {
     let genesis = genesis_of(rt, OUTPUT);
-    let mut names = boxed(rt, Names::new(rt.alloc(), &genesis));
+    let mut names = boxed(rt, Names::new(rt.alloc(), &genesis, Scheme::Test));
     obey_all(rt, &mut names, PAYMENTS);
     obey_all(rt, &mut names, lines);
     names

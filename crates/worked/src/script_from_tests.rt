@@ -5,7 +5,7 @@ ghost use Rattle.std.specs.Prelude.{◌≡◌};
 use super::fixture::{MEMORY, SMALL_NETWORK};
 use super::script_tests::is_end;
 use chain_core::Core;
-use genesis::Genesis;
+use genesis::{Genesis, Scheme};
 use scenario::{LineFault, ScenarioFault, run_from};
 use std::process::Abort;
 use witness_pool::TestScheme;
@@ -46,7 +46,14 @@ fn ends_on(
     let mut reader = script.as_bytes();
     let mut out = Vec::new(rt.alloc());
     let core = Box::into_inner(core);
-    let (core, result) = run_from(rt.alloc(), genesis, core, &mut reader, &mut out);
+    let (core, result) = run_from(
+        rt.alloc(),
+        genesis,
+        Scheme::Test,
+        core,
+        &mut reader,
+        &mut out,
+    );
     is_end(rt, result, &out, want, printed.as_bytes());
     Box::new(rt.alloc(), core).expect(rt, MEMORY)
 }

@@ -1,11 +1,12 @@
 //! Scripts whose bytes a file of cases can't say.
 
 use super::fixture::{MEMORY, SMALL_NETWORK};
-use genesis::Genesis;
+use genesis::{Genesis, Scheme};
 use scenario::{LineFault, ScenarioFault, run};
 use std::alloc::Global;
 use std::io::{BufRead, Write};
 use std::process::Abort;
+use witness_pool::TestScheme;
 
 /// What the script of a reader ends with on the small network. It promises nothing, which keeps the proofs of the tests
 /// short.
@@ -18,7 +19,7 @@ pub fn run_script<R: BufRead, W: Write>(
     let Ok(genesis) = Genesis::from_toml(alloc, SMALL_NETWORK) else {
         return Err(ScenarioFault::OutOfMemory);
     };
-    run(alloc, genesis, reader, writer)
+    run::<TestScheme, _, _>(alloc, genesis, Scheme::Test, reader, writer)
 }
 
 /// A run ended as is wanted, and printed what is wanted before.

@@ -3,8 +3,9 @@
 use super::fixture::{KEY_HASH, MEMORY, ONES, POLICY, TWOS, ZEROS, boxed, check};
 use super::scripts::nested;
 use super::transactions::{PAYING_BODY, has_text};
-use super::verdicts::DIGEST;
-use draft::{Draft, DraftFault, Signing};
+use super::verdicts::{DIGEST, SIGNED_BY_ED25519};
+use draft::{Draft, DraftFault, Signer, Signing, TestSigner};
+use ed25519::SecretKey;
 use ident::{KeyHash, ScriptHash, TxId};
 use std::process::Abort;
 use tx::{Address, Credential, Input};
@@ -39,9 +40,9 @@ fn name(rt: &(impl Abort + AllocGlobal), size: usize) -> Vec<u8> {
 }
 
 /// Adds an output of 910 lovelace with assets under names of so many bytes, each with so much of it.
-fn pay(
+fn pay<K: Signer + Drop>(
     rt: &(impl Abort + AllocGlobal),
-    draft: &mut Draft,
+    draft: &mut Draft<K>,
     told: &[(usize, u64)],
 ) -> Result<(), DraftFault> {
     let key = Credential::Key(KeyHash::of_key(&[1; 32]));
@@ -65,7 +66,11 @@ fn input(transaction: u8, index: u16) -> Input {
 }
 
 /// Adds a part.
-fn add(rt: &(impl Abort + AllocGlobal), draft: &mut Draft, part: Part) -> Result<(), DraftFault> {
+fn add(
+    rt: &(impl Abort + AllocGlobal),
+    draft: &mut Draft<TestSigner>,
+    part: Part,
+) -> Result<(), DraftFault> {
     match part {
         Part::Spend(transaction, index) => draft.spend(input(transaction, index)),
         Part::Pay(told) => pay(rt, draft, told),
@@ -73,7 +78,10 @@ fn add(rt: &(impl Abort + AllocGlobal), draft: &mut Draft, part: Part) -> Result
         Part::Start(slot) => draft.set_start(slot),
         Part::End(slot) => draft.set_end(slot),
         Part::Mint(size, quantity) => draft.mint(policy(), name(rt, size), quantity),
-        Part::Sign(key, signing) => draft.sign([key; 32], signing),
+        Part::Sign(key, signing) => {
+            let key = [key; 32];
+            draft.sign(TestSigner { key, signing })
+        }
         Part::Supply(deep) => draft.supply(&nested(rt.alloc(), deep).expect(rt, "a script")),
     }
 }
@@ -117,7 +125,7 @@ const PARTS: &[(Part, bool)] = &[
 ];
 
 /// Adds a part. Whether it is added.
-fn is_added(rt: &(impl Abort + AllocGlobal), draft: &mut Draft, part: Part) -> bool {
+fn is_added(rt: &(impl Abort + AllocGlobal), draft: &mut Draft<TestSigner>, part: Part) -> bool {
     let added = add(rt, draft, part);
     check(rt, "memory", added != Err(DraftFault::OutOfMemory));
     added.is_ok()
@@ -242,4 +250,23 @@ fn faults_of_drafts_shown(rt: HostRuntime) {
     let shown = format!(in rt.alloc(); "{not_built}; {no_memory}").expect(&rt, MEMORY);
     let want = "no transaction has this part beside the others; out of memory";
     check(&rt, "faults", shown.as_str() == want);
+}
+
+// The same payment with a script, signed by Ed25519: its text has the signature that OpenSSL makes.
+#[test]
+fn drafts_signed_by_ed25519(rt: HostRuntime) {
+    let mut draft = Draft::new(rt.alloc());
+    draft.spend(input(0, 0)).expect(&rt, "an input");
+    pay(&rt, &mut draft, &[]).expect(&rt, "an output");
+    draft.set_fee(290).expect(&rt, "a fee");
+    draft
+        .supply(&nested(rt.alloc(), 1).expect(&rt, "a script"))
+        .expect(&rt, "no such script is there");
+    draft
+        .sign(SecretKey::from_seed([1; 32]))
+        .expect(&rt, "a key");
+    let again = draft.sign(SecretKey::from_seed([1; 32]));
+    check(&rt, "again", again == Err(DraftFault::NotBuilt));
+    let tx = boxed(&rt, draft.finish().expect(&rt, MEMORY));
+    has_text(&rt, &tx, SIGNED_BY_ED25519);
 }

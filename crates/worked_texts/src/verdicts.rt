@@ -118,7 +118,7 @@ const ED25519_R: &str = "d4fb30556f08117f347609fc15daced4dad4fb918d3253870dcc1b0
 const ED25519_S: &str = "712d3ecfb283f956e8caaac11373cef48f155fb7084b0b4250079f90de2dc008";
 
 /// The payment with that signature, and with the script that asks for all of none.
-const SIGNED_BY_ED25519: &[&str] = &[
+pub const SIGNED_BY_ED25519: &[&str] = &[
     "83",
     PAYING_BODY,
     "a2 0081825820",

@@ -7,7 +7,7 @@ ghost use Rattle.shared.specs.Starts.{network_from};
 
 use file_disk::FileDisk;
 use flushing::Restart;
-use genesis::Genesis;
+use genesis::{Genesis, Scheme};
 use immlog::Log;
 use inbox::{Mailroom, PEERS, PeerEnd};
 use script::{LinePlace, Names};
@@ -84,7 +84,8 @@ fn obey_all(rt: &impl Abort, names: &mut Names, lines: &str) {
 /// The names of the payments, and those that these lines give.
 pub fn names_of(rt: &(impl Abort + AllocGlobal), lines: &str) -> Box<Names> {
     let genesis = genesis_of(rt);
-    let mut names = Box::new(rt.alloc(), Names::new(rt.alloc(), &genesis)).expect(rt, MEMORY);
+    let names = Names::new(rt.alloc(), &genesis, Scheme::Test);
+    let mut names = Box::new(rt.alloc(), names).expect(rt, MEMORY);
     obey_all(rt, &mut names, PAYMENTS);
     obey_all(rt, &mut names, lines);
     names

@@ -21,11 +21,15 @@ mod gated_file;
 #[cfg(test)]
 mod kept_disk;
 #[cfg(test)]
+mod library_tests;
+#[cfg(test)]
 mod log_tests;
 #[cfg(test)]
 mod node_tests;
 #[cfg(test)]
 mod pool_tests;
+#[cfg(test)]
+mod readme;
 #[cfg(test)]
 mod resuming_tests;
 #[cfg(test)]

@@ -1,7 +1,7 @@
 //! Simulations: peers that send from threads of their own.
 
 use crate::fixture::{MEMORY, SMALL_NETWORK};
-use genesis::Genesis;
+use genesis::{Genesis, Scheme};
 use inbox::PEERS;
 use scenario::{LineFault, ScenarioFault};
 use simulation::{Clients, sim};
@@ -10,7 +10,7 @@ use std::sync::Wait;
 use std::sync::atomic::{AtomicBool, AtomicU64, Ordering};
 use std::thread;
 use std::thread::Threads;
-use witness_pool::{Gate, OpenGate};
+use witness_pool::{Gate, OpenGate, TestScheme};
 
 /// How many threads a simulation of so many clients has: the adder's, the peers', and the clients'.
 fn threads_of(clients: usize) -> usize {
@@ -141,7 +141,16 @@ fn simulates<G: Gate>(
     let clients = Clients::new(clients).expect(rt, "1 to 8 clients");
     let mut reader = script.as_bytes();
     let mut out = Vec::new(rt.alloc());
-    assert!(rt; sim(rt, genesis, &mut reader, &mut out, clients, gate) == Ok(()));
+    let ended = sim::<TestScheme, _, _, _, _>(
+        rt,
+        genesis,
+        Scheme::Test,
+        &mut reader,
+        &mut out,
+        clients,
+        gate,
+    );
+    assert!(rt; ended == Ok(()));
     assert!(rt; out.as_slice() == told.as_bytes());
 }
 
@@ -258,7 +267,16 @@ fn fault_before_any_thread(rt: HostRuntime) {
         number: 3,
         fault: LineFault::BadLine,
     };
-    assert!(&rt; sim(&rt, genesis, &mut reader, &mut out, clients, &gate) == Err(fault));
+    let ended = sim::<TestScheme, _, _, _, _>(
+        &rt,
+        genesis,
+        Scheme::Test,
+        &mut reader,
+        &mut out,
+        clients,
+        &gate,
+    );
+    assert!(&rt; ended == Err(fault));
     assert!(&rt; out.is_empty());
     assert!(&rt; !gate.is_complete());
     assert!(&rt; gate.ended.load(Ordering::SeqCst) == 0);

@@ -1,6 +1,5 @@
 use Rattle.std.proofs.Common.{◌≡◌, false, true, Result, Ok, Err, ap, ◌∙◌}
 use Rattle.std.specs.Prelude.{IsOk, OnOk}
-use Rattle.model.specs.Signature.{test_verifies}
 use Rattle.chain_core.specs.Immutable.{texts_of}
 use Rattle.flushing.proofs.ForCallers.{begins_on_opened}
 use Rattle.commands.proofs.log_runs.run_on_log.Goals as goal
@@ -8,7 +7,7 @@ use Rattle.commands.proofs.log_runs.run_on_log.Goals as goal
 pub flush-flushed-requires : goal.flush-flushed-requires
 flush-flushed-requires g c =
     let after = c.run_from-core.result.0 in
-    begins_on_opened test_verifies after c.args.log.now.blocks (ap texts_of c.run_from-core.ensures.start.opened ∙ c.requires.blocks) c.immutable-immutable.ensures.opened
+    begins_on_opened g.S.SigScheme.verifies after c.args.log.now.blocks (ap texts_of c.run_from-core.ensures.start.opened ∙ c.requires.blocks) c.immutable-immutable.ensures.opened
 
 -- where the end is Ok the flush was, and what it then ensures holds
 both_ok : {T E U F P Q : Type 0} (end : Result T E) (flushed : Result U F) → OnOk end (IsOk flushed) → OnOk flushed P → (P → Q) → OnOk end Q

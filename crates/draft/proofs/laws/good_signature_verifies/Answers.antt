@@ -1,6 +1,6 @@
 use Rattle.byte_keys.proofs.ForCallers.{bytes_self}
 use Rattle.model.specs.Signature.{test_verifies}
-use Rattle.draft.specs.Draft.{good_signature}
+use Rattle.draft.specs.Signers.{good_signature}
 use Rattle.draft.proofs.laws.good_signature_verifies.Goals as goal
 
 pub returns : goal.returns

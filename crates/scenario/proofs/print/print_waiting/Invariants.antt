@@ -3,4 +3,4 @@ use Rattle.scenario.proofs.SubmissionLines.{IsPartPrinted}
 use Rattle.scenario.proofs.print.print_waiting.Given as goal
 
 abbrev pub invariant-loop-tx : goal.invariant-loop-tx
-invariant-loop-tx l = IsPartPrinted l.names l.initial.line.items l.line.items l.fn.mempool.waiting.txs l.tx-iterator
+invariant-loop-tx g l = IsPartPrinted l.names l.initial.line.items l.line.items l.fn.mempool.waiting.txs l.tx-iterator

@@ -5,11 +5,12 @@ use Rattle.script.specs.Line.{Line}
 use Rattle.script.proofs.WordLists.{is_named, not_named}
 use Rattle.script.proofs.line.pair_line.Goals as goal
 
-none_said : (raw key script : Bool) → (let none : Option Line = None in none) ≡ cond raw None (cond key None (cond script None None))
-none_said true key script = refl
-none_said false true script = refl
-none_said false false true = refl
-none_said false false false = refl
+none_said : (raw key seed script : Bool) → (let none : Option Line = None in none) ≡ cond raw None (cond key None (cond seed None (cond script None None)))
+none_said true key seed script = refl
+none_said false true seed script = refl
+none_said false false true script = refl
+none_said false false false true = refl
+none_said false false false false = refl
 
 pub returns-in_err-name : goal.returns-in_err-name
 returns-in_err-name c =
@@ -17,7 +18,7 @@ returns-in_err-name c =
     let not_in : bytes_eq c.args.word.now (codes "in") ≡ false = cc in
     let not_forge : bytes_eq c.args.word.now (codes "forge") ≡ false = cc in
     let not_balance : bytes_eq c.args.word.now (codes "balance") ≡ false = cc in
-    rw (c.from_residual.ensures, not_in, not_forge, not_balance, unnamed) (none_said (bytes_eq c.args.word.now (codes "raw")) (bytes_eq c.args.word.now (codes "key")) (bytes_eq c.args.word.now (codes "script")))
+    rw (c.from_residual.ensures, not_in, not_forge, not_balance, unnamed) (none_said (bytes_eq c.args.word.now (codes "raw")) (bytes_eq c.args.word.now (codes "key")) (bytes_eq c.args.word.now (codes "seed")) (bytes_eq c.args.word.now (codes "script")))
 
 pub returns-in_err-digits : goal.returns-in_err-digits
 returns-in_err-digits c =
@@ -25,4 +26,4 @@ returns-in_err-digits c =
     let not_in : bytes_eq c.args.word.now (codes "in") ≡ false = cc in
     let not_forge : bytes_eq c.args.word.now (codes "forge") ≡ false = cc in
     let not_balance : bytes_eq c.args.word.now (codes "balance") ≡ false = cc in
-    rw (c.from_residual-in_err-digits.ensures, not_in, not_forge, not_balance, named.0, ← c.in_err-digits.ensures) (none_said (bytes_eq c.args.word.now (codes "raw")) (bytes_eq c.args.word.now (codes "key")) (bytes_eq c.args.word.now (codes "script")))
+    rw (c.from_residual-in_err-digits.ensures, not_in, not_forge, not_balance, named.0, ← c.in_err-digits.ensures) (none_said (bytes_eq c.args.word.now (codes "raw")) (bytes_eq c.args.word.now (codes "key")) (bytes_eq c.args.word.now (codes "seed")) (bytes_eq c.args.word.now (codes "script")))

@@ -7,14 +7,14 @@ use Rattle.draft.proofs.Finishing.{ok_as, finished}
 use Rattle.draft.proofs.draft.Draft.finish.Goals as goal
 
 pub returns-in_err-mint-clause-err : goal.returns-in_err-mint-clause-err
-returns-in_err-mint-clause-err c = on_err c.from_residual.result (λ d s. no_fault d s.sound)
+returns-in_err-mint-clause-err g c = on_err c.from_residual.result (λ d s. no_fault d s.sound)
 
 pub returns-clause-err : goal.returns-clause-err
-returns-clause-err c = on_err c.signed.result (λ d s. no_fault d s.sound)
+returns-clause-err g c = on_err c.signed.result (λ d s. no_fault d s.sound)
 
 pub returns-clause-tx : goal.returns-clause-tx
-returns-clause-tx c = λ d s.
-    ok_as _ _ c.signed.result (λ tx of. finished c.args.self d (record { inputs = c.into_items-2.result; outputs = c.args.self.outputs; fee = c.unwrap_or.result; interval = record { start = c.args.self.start; end = c.args.self.end }; mint = c.in_ok-mint.mint })
+returns-clause-tx g c = λ d s.
+    ok_as _ _ c.signed.result (λ tx of. finished g.K.Signer.signer c.args.self d (record { inputs = c.into_items-2.result; outputs = c.args.self.outputs; fee = c.unwrap_or.result; interval = record { start = c.args.self.start; end = c.args.self.end }; mint = c.in_ok-mint.mint })
     c.deref.result.now c.into_items-3.result.items s (record {
       inputs = c.into_items-2.ensures;
       outputs = refl;

@@ -1,7 +1,7 @@
 use Rattle.std.proofs.Common.{refl}
 use Rattle.chain_core.specs.Views.{close_reply_of}
 use Rattle.scenario.specs.Print.{closing_text}
-use Rattle.scenario.specs.SessionView.{core_network}
+use Rattle.chain_core.specs.Held.{network_held}
 use Rattle.scenario.proofs.NextLines.{behind_nothing, close_enough, closing_acted}
 use Rattle.model.specs.History.{Close}
 use Rattle.script.specs.Meaning.{ClosesFollower}
@@ -9,11 +9,11 @@ use Rattle.scenario.proofs.ShortLines.{it_happened}
 use Rattle.scenario.proofs.session.Session.close.Goals as goal
 
 pub returns-in-Ok-clause-obeyed : goal.returns-in-Ok-clause-obeyed
-returns-in-Ok-clause-obeyed c = λ s holds.
-    closing_acted (core_network c.args.self.now.core) s c.args.name.text.now c.args.id (close_reply_of c.close-reply.result) c.print_closing.new.line.items _
+returns-in-Ok-clause-obeyed g c = λ s holds.
+    closing_acted (network_held c.args.self.now.core g.S.SigScheme.verifies) s c.args.name.text.now c.args.id (close_reply_of c.close-reply.result) c.print_closing.new.line.items _
     (behind_nothing c.print_closing.new.line.items c.in_ok-line.line.items (closing_text c.args.name.text.now (close_reply_of c.close-reply.result)) c.in-Ok.ensures c.in_ok-line.ensures.empty)
     (close_enough c.close-reply.result) holds.names (c.close-reply.ensures.step s.state holds.stands)
 
 pub returns-in-Err-clause-obeyed : goal.returns-in-Err-clause-obeyed
-returns-in-Err-clause-obeyed c = λ s holds.
-    it_happened (core_network c.args.self.now.core) s (ClosesFollower c.args.name.text.now c.args.id) (Close c.args.id) (close_reply_of c.close-reply.result) c.close-reply.new.self refl (c.close-reply.ensures.step s.state holds.stands)
+returns-in-Err-clause-obeyed g c = λ s holds.
+    it_happened (network_held c.args.self.now.core g.S.SigScheme.verifies) s (ClosesFollower c.args.name.text.now c.args.id) (Close c.args.id) (close_reply_of c.close-reply.result) c.close-reply.new.self refl (c.close-reply.ensures.step s.state holds.stands)

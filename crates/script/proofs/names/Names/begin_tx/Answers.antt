@@ -25,7 +25,7 @@ returns c = λ names named.
           new = record names { making = Some made };
           after = refl;
           named = record {
-            known = record { network = named.known.network; of_keys = named.known.of_keys; of_scripts = named.known.of_scripts; of_txs = named.known.of_txs };
+            known = record { scheme = named.known.scheme; network = named.known.network; of_keys = named.known.of_keys; of_scripts = named.known.of_scripts; of_txs = named.known.of_txs };
             of_bytes = named.of_bytes;
             of_followers = named.of_followers;
             printed = named.printed;

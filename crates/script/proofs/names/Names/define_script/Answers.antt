@@ -44,6 +44,7 @@ returns c = λ names named.
           after = refl;
           named = record {
             known = record {
+              scheme = named.known.scheme;
               network = named.known.network;
               of_keys = named.known.of_keys;
               of_scripts = subst (λ (n : List ℕ). IsTable c.bind.new.self (names.of_scripts ++ record { name = n; bound = c.in-Ok.script } ∷ [])) c.in_ok-name.ensures.items table;

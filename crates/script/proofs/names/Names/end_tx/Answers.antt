@@ -26,6 +26,7 @@ returns c = λ names named made is.
           after = record { tx = tx; text = text_of (item_of_transaction tx); spelled = c.in_ok-tx.ensures.spelled; is_tx = c.in_ok-tx.ensures.tx made.draft making.stands; is_new = refl };
           named = record {
             known = record {
+              scheme = named.known.scheme;
               network = named.known.network;
               of_keys = named.known.of_keys;
               of_scripts = named.known.of_scripts;

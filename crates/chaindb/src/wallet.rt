@@ -1,0 +1,12 @@
+//! Transactions, and what they are made with.
+//!
+//! A [`Draft`] is a transaction in the making: its parts are added one by one, each [`Signer`] signs its identifier,
+//! and [`Draft::finish`] makes a [`Tx`] of it, whose bytes are submitted.
+
+pub use draft::{Draft, DraftFault, Signer, Signing, TestSigner};
+pub use ed25519::SecretKey;
+pub use timelock::{Interval, Script, ScriptFault, Timelock, Timelocks};
+pub use tx::{
+    Address, AddressFault, Credential, Input, KeyWitness, Output, PartsFault, Tx, TxParts,
+};
+pub use value::{Amounts, AssetFault, AssetQuantity, Mint, Value};
