@@ -4,9 +4,12 @@
 ghost use Rattle.std.specs.Prelude.{◌≡◌};
 ghost use Rattle.witness_pool.specs.Workers.{AreWorkers};
 
-use crate::networks::{FAR_BACK, genesis};
+use crate::networks::{FAR_BACK, ed25519_genesis, genesis};
 use crate::reopening::{empty_blocks, paying_blocks};
+use crate::texts::TEST_SIGNER;
 use crate::timing::{Telling, nanos_if, now, print};
+use ed25519::SecretKey;
+use genesis::Genesis;
 use inbox::{Mailroom, PEERS, PeerEnd};
 use shared::{Adder, Caller, Room, Shared};
 use std::alloc::Global;
@@ -16,7 +19,7 @@ use std::sync::Wait;
 use std::sync::atomic::{AtomicBool, Ordering};
 use std::thread::Threads;
 use std::{io, thread};
-use witness_pool::{OpenGate, Pool, TestScheme};
+use witness_pool::{Ed25519, OpenGate, Pool, SigScheme, TestScheme};
 
 /// How many places the inbox has.
 const PLACES: usize = 64;
@@ -86,10 +89,10 @@ pub fn dealt<M: Mailroom>(
 }
 
 /// Brings so many blocks, however often it has to be tried. Where memory runs out it is tried again.
-fn bring_all<B: Room, M: Mailroom, R: Threads + Wait + Sync>(
+fn bring_all<S: SigScheme + Send, B: Room, M: Mailroom, R: Threads + Wait + Sync>(
     rt: &R,
-    shared: &Shared<TestScheme, B>,
-    adder: &mut Adder<TestScheme, OpenGate, B, M>,
+    shared: &Shared<S, B>,
+    adder: &mut Adder<S, OpenGate, B, M>,
     blocks: u64,
 ) {
     let mut left = blocks;
@@ -106,10 +109,10 @@ fn bring_all<B: Room, M: Mailroom, R: Threads + Wait + Sync>(
 }
 
 /// Brings all blocks, and tells how long that took. Whoever watches is then to end.
-fn bring<B: Room, M: Mailroom, R: Threads + Wait + Clock + Sync>(
+fn bring<S: SigScheme + Send, B: Room, M: Mailroom, R: Threads + Wait + Clock + Sync>(
     rt: &R,
-    shared: &Shared<TestScheme, B>,
-    adder: &mut Adder<TestScheme, OpenGate, B, M>,
+    shared: &Shared<S, B>,
+    adder: &mut Adder<S, OpenGate, B, M>,
     blocks: u64,
     ended: &AtomicBool,
 ) -> Work {
@@ -124,11 +127,11 @@ fn bring<B: Room, M: Mailroom, R: Threads + Wait + Clock + Sync>(
 }
 
 /// The same where every thread could be started. Else those that were are to end.
-pub fn bring_if<B: Room, M: Mailroom, R: Threads + Wait + Clock + Sync>(
+pub fn bring_if<S: SigScheme + Send, B: Room, M: Mailroom, R: Threads + Wait + Clock + Sync>(
     all_started: bool,
     rt: &R,
-    shared: &Shared<TestScheme, B>,
-    adder: &mut Adder<TestScheme, OpenGate, B, M>,
+    shared: &Shared<S, B>,
+    adder: &mut Adder<S, OpenGate, B, M>,
     blocks: u64,
     ended: &AtomicBool,
 ) -> Option<Work> {
@@ -158,7 +161,12 @@ impl Question {
     }
 
     /// Asks once. What is answered goes.
-    fn ask<B: Room, R: Wait>(self, rt: &R, shared: &Shared<TestScheme, B>, caller: &mut Caller<B>) {
+    fn ask<S: SigScheme, B: Room, R: Wait>(
+        self,
+        rt: &R,
+        shared: &Shared<S, B>,
+        caller: &mut Caller<B>,
+    ) {
         match self {
             Question::Height => {
                 shared.height(caller);
@@ -174,9 +182,9 @@ impl Question {
 }
 
 /// Asks until it is told to end, and tells how often.
-fn watch_until<B: Room, R: Wait>(
+fn watch_until<S: SigScheme, B: Room, R: Wait>(
     rt: &R,
-    shared: &Shared<TestScheme, B>,
+    shared: &Shared<S, B>,
     caller: &mut Caller<B>,
     question: Question,
     ended: &AtomicBool,
@@ -193,9 +201,9 @@ fn watch_until<B: Room, R: Wait>(
 }
 
 /// Asks until it is told to end, and tells how long that took.
-fn watch<R: Clock + Wait, B: Room>(
+fn watch<S: SigScheme, R: Clock + Wait, B: Room>(
     rt: &R,
-    shared: &Shared<TestScheme, B>,
+    shared: &Shared<S, B>,
     mut caller: Caller<B>,
     question: Question,
     ended: &AtomicBool,
@@ -217,10 +225,15 @@ fn two_of<B: Room>(callers: &mut Vec<Caller<B>>) -> Option<(Caller<B>, Caller<B>
 
 /// Each peer sends from a thread of its own what this thread brings, while another asks. None where a thread couldn't
 /// be started.
-fn run_all<B: Room + Send + Sync, M: Mailroom + Send + Sync, R: Threads + Wait + Clock + Sync>(
+fn run_all<
+    S: SigScheme + Send + Sync,
+    B: Room + Send + Sync,
+    M: Mailroom + Send + Sync,
+    R: Threads + Wait + Clock + Sync,
+>(
     rt: &R,
-    shared: &Shared<TestScheme, B>,
-    adder: &mut Adder<TestScheme, OpenGate, B, M>,
+    shared: &Shared<S, B>,
+    adder: &mut Adder<S, OpenGate, B, M>,
     senders: Vec<Sender<M>>,
     watcher: Caller<B>,
     question: Question,
@@ -254,10 +267,15 @@ struct Load {
 }
 
 /// Opens the inbox under a name, and runs the measurement. None where it can't be made.
-fn run_inbox<B: Room + Send + Sync, M: Mailroom + Send + Sync, R: Threads + Wait + Clock + Sync>(
+fn run_inbox<
+    S: SigScheme + Send + Sync,
+    B: Room + Send + Sync,
+    M: Mailroom + Send + Sync,
+    R: Threads + Wait + Clock + Sync,
+>(
     rt: &R,
     alloc: Global,
-    shared: &Shared<TestScheme, B>,
+    shared: &Shared<S, B>,
     callers: &mut Vec<Caller<B>>,
     inbox: inbox::Opened,
     load: Load,
@@ -283,10 +301,10 @@ fn run_inbox<B: Room + Send + Sync, M: Mailroom + Send + Sync, R: Threads + Wait
 }
 
 /// Opens the core under a name, and runs the measurement. None where it can't be made.
-fn run_core<B: Room + Send + Sync, R: Threads + Wait + Clock + Sync>(
+fn run_core<S: SigScheme + Send + Sync, B: Room + Send + Sync, R: Threads + Wait + Clock + Sync>(
     rt: &R,
     alloc: Global,
-    opened: shared::Opened<TestScheme>,
+    opened: shared::Opened<S>,
     inbox: inbox::Opened,
     load: Load,
 ) -> Option<Measured>
@@ -295,24 +313,30 @@ fn run_core<B: Room + Send + Sync, R: Threads + Wait + Clock + Sync>(
     requires workers { AreWorkers load.workers }
 {
     let (shared, mut callers) = opened.named::<B>().ok()?;
-    run_inbox::<B, Brand, R>(rt, alloc, &shared, &mut callers, inbox, load)
+    run_inbox::<S, B, Brand, R>(rt, alloc, &shared, &mut callers, inbox, load)
 }
 
-/// Runs the measurement. None where it can't be made.
-fn time<R: Threads + Wait + Clock + Sync>(rt: &R, alloc: Global, load: Load) -> Option<Measured>
+/// Runs the measurement on a network of this genesis. None where it can't be made.
+fn time<S: SigScheme + Send + Sync, R: Threads + Wait + Clock + Sync>(
+    rt: &R,
+    alloc: Global,
+    genesis: Option<Genesis>,
+    load: Load,
+) -> Option<Measured>
     requires { AreWorkers load.workers }
 {
     let inbox = inbox::Opened::new(alloc, PLACES).ok()?;
-    let opened = shared::Opened::new(alloc, genesis(alloc, FAR_BACK)?, 2).ok()?;
-    run_core::<Brand, R>(rt, alloc, opened, inbox, load)
+    let opened = shared::Opened::new(alloc, genesis?, 2).ok()?;
+    run_core::<S, Brand, R>(rt, alloc, opened, inbox, load)
 }
 
-/// Runs the measurement, and prints its names, or what it took a block and a question.
-fn measure_load<R: Threads + Wait + Clock + Print + Sync>(
+/// Runs the measurement on a network of this genesis, and prints its names, or what it took a block and a question.
+fn measure_load<S: SigScheme + Send + Sync, R: Threads + Wait + Clock + Print + Sync>(
     rt: &R,
     alloc: Global,
     telling: Telling,
     name: &str,
+    genesis: Option<Genesis>,
     load: Load,
 ) -> io::Result<()>
     requires { AreWorkers load.workers }
@@ -323,7 +347,7 @@ fn measure_load<R: Threads + Wait + Clock + Print + Sync>(
         calls: 0,
         nanos: None,
     };
-    let (brought, watched) = match time(rt, alloc, load) {
+    let (brought, watched) = match time::<S, R>(rt, alloc, genesis, load) {
         Some(Measured { brought, watched }) => (brought, watched),
         None => (none, none),
     };
@@ -357,7 +381,8 @@ fn measure_empty<R: Threads + Wait + Clock + Print + Sync>(
             workers: 1,
             question: Question::Height,
         };
-        measure_load(rt, alloc, telling, name, load)?;
+        let genesis = genesis(alloc, FAR_BACK);
+        measure_load::<TestScheme, R>(rt, alloc, telling, name, genesis, load)?;
     }
     Ok(())
 }
@@ -373,12 +398,32 @@ fn measure_paying<R: Threads + Wait + Clock + Print + Sync>(
     requires { AreWorkers workers }
 {
     let load = Load {
-        texts: paying_blocks(alloc, 100),
+        texts: paying_blocks(alloc, &TEST_SIGNER, 100),
         peers: 4,
         workers,
         question,
     };
-    measure_load(rt, alloc, Telling::Times, name, load)
+    let genesis = genesis(alloc, FAR_BACK);
+    measure_load::<TestScheme, R>(rt, alloc, Telling::Times, name, genesis, load)
+}
+
+/// The same under Ed25519.
+fn measure_ed25519<R: Threads + Wait + Clock + Print + Sync>(
+    rt: &R,
+    alloc: Global,
+    name: &str,
+    workers: usize,
+) -> io::Result<()>
+    requires { AreWorkers workers }
+{
+    let load = Load {
+        texts: paying_blocks(alloc, &SecretKey::from_seed([1; 32]), 100),
+        peers: 4,
+        workers,
+        question: Question::Height,
+    };
+    let genesis = ed25519_genesis(alloc, FAR_BACK);
+    measure_load::<Ed25519, R>(rt, alloc, Telling::Times, name, genesis, load)
 }
 
 /// Runs each measurement, and prints what it took; where names are asked for, one of a few blocks.
@@ -394,7 +439,10 @@ pub fn measure<R: Threads + Wait + Clock + Print + Sync>(
     let question = Question::Height;
     measure_paying(rt, alloc, "Adder::run on payments, 1 worker", 1, question)?;
     measure_paying(rt, alloc, "Adder::run on payments, 2 workers", 2, question)?;
-    measure_paying(rt, alloc, "Adder::run on payments, 4 workers", 4, question)
+    measure_paying(rt, alloc, "Adder::run on payments, 4 workers", 4, question)?;
+    measure_ed25519(rt, alloc, "Adder::run on payments, Ed25519, 1 worker", 1)?;
+    measure_ed25519(rt, alloc, "Adder::run on payments, Ed25519, 2 workers", 2)?;
+    measure_ed25519(rt, alloc, "Adder::run on payments, Ed25519, 4 workers", 4)
 }
 
 /// Runs the measurement of blocks of a hundred payments with a question that waits for the lock, and prints what it

@@ -3,6 +3,7 @@
 
 use crate::networks::{FAR_BACK, genesis};
 use crate::reopening::{empty_blocks, paying_blocks};
+use crate::texts::TEST_SIGNER;
 use crate::timing::{Telling, nanos_if, now, print};
 use chain_core::{Core, Place, TxPlace};
 use ident::{BlockHash, KeyHash, TxId};
@@ -78,7 +79,7 @@ fn unknown(core: &Core<TestScheme>) -> u64 {
 
 /// How long it takes to say that none of many payments is that one.
 fn time_payments(rt: &HostRuntime) -> Option<u128> {
-    let core = core_on(rt.alloc(), &paying_blocks(rt.alloc(), 100))?;
+    let core = core_on(rt.alloc(), &paying_blocks(rt.alloc(), &TEST_SIGNER, 100))?;
     let start = now(rt);
     let unknown = unknown(&core);
     nanos_if(rt, start, unknown == ASKED_PAYMENTS)

@@ -2,9 +2,10 @@
 
 use crate::cores::{self, Act, Plan};
 use crate::networks::{FAR_BACK, genesis};
-use crate::texts::{End, Growing, MADE, put_payments};
+use crate::texts::{End, Growing, MADE, TEST_SIGNER, put_payments_by};
 use crate::timing::{Telling, nanos_if, now, print};
 use chain_core::Core;
+use draft::Signer;
 use std::alloc::Global;
 use std::io;
 use witness_pool::TestScheme;
@@ -19,14 +20,16 @@ pub fn empty_blocks(alloc: Global, blocks: u64) -> Vec<Vec<u8>> {
     texts
 }
 
-/// The texts of blocks that make outputs, a thousand each, and then of ten times as many that spend a hundred each.
-pub fn paying_blocks(alloc: Global, making: u64) -> Vec<Vec<u8>> {
+/// The texts of blocks that make outputs, a thousand each, and then of ten times as many that spend a hundred each,
+/// signed by this signer.
+pub fn paying_blocks<K: Signer>(alloc: Global, signer: &K, making: u64) -> Vec<Vec<u8>> {
     let mut texts = Vec::new(alloc);
     let mut payments: Vec<Vec<u8>> = Vec::new(alloc);
     let mut growing = Growing::genesis();
     for _ in 0..making {
-        let _ = texts.push(growing.next_text(alloc));
-        put_payments(alloc, &mut payments, growing.source, 1, MADE as u16);
+        let _ = texts.push(growing.next_text_by(alloc, signer));
+        let source = growing.source;
+        put_payments_by(alloc, signer, &mut payments, source, 1, MADE as u16);
     }
     let mut end = growing.end;
     for body in payments.chunks(PAYMENTS) {
@@ -62,5 +65,6 @@ pub fn measure(rt: &HostRuntime) -> io::Result<()> {
         "reopen on empty blocks",
         empty_blocks(rt.alloc(), 10_000),
     )?;
-    measure_both(rt, "reopen on payments", paying_blocks(rt.alloc(), 100))
+    let paying = paying_blocks(rt.alloc(), &TEST_SIGNER, 100);
+    measure_both(rt, "reopen on payments", paying)
 }

@@ -3,18 +3,19 @@
 //! Where memory runs out a text is cut short. It is then refused by what is measured, and nothing is printed of that.
 //! So no function here has a second way out, which keeps the proofs short.
 
+use draft::{Signer, Signing, TestSigner};
 use ident::{BlockHash, KeyHash, TxId};
 use std::alloc::Global;
 use std::slice;
-use witness_pool::TestScheme;
 
-/// The key to which everything is paid, and which signs.
-const KEY: [u8; 32] = [1; 32];
+/// Who signs under the scheme for tests, unless it is said otherwise. Everything is paid to who signs.
+pub const TEST_SIGNER: TestSigner = TestSigner {
+    key: [1; 32],
+    signing: Signing::Good,
+};
 
-/// What stands before a signature of it in the witnesses of a transaction.
-const WITNESS: &[u8] = b"\xa1\x00\x81\x82\x58\x20\
-\x01\x01\x01\x01\x01\x01\x01\x01\x01\x01\x01\x01\x01\x01\x01\x01\
-\x01\x01\x01\x01\x01\x01\x01\x01\x01\x01\x01\x01\x01\x01\x01\x01\x58\x40";
+/// What stands in the witnesses of a transaction before the one key.
+const WITNESS: &[u8] = b"\xa1\x00\x81\x82\x58\x20";
 
 /// How many outputs of 1 lovelace a payment makes that makes outputs.
 pub const MADE: u64 = 1_000;
@@ -53,14 +54,14 @@ pub fn put_output(out: &mut Vec<u8>, hash: &KeyHash, coin: u64) {
     let _ = cbor::write_unsigned(out, coin);
 }
 
-/// Puts what stands before the witnesses of a payment without a fee behind a text: its head, and its body.
-fn put_body(out: &mut Vec<u8>, payment: Payment) {
+/// Puts what stands before the witnesses of a payment to a key without a fee behind a text: its head, and its body.
+fn put_body(out: &mut Vec<u8>, key: &[u8; 32], payment: Payment) {
     put(out, b"\x83\xa3\x00\x81\x82\x58\x20");
     put(out, payment.source.as_bytes());
     let _ = cbor::write_unsigned(out, u64::from(payment.index));
     put(out, b"\x01");
     put_array(out, payment.ones.saturating_add(1));
-    let hash = KeyHash::of_key(&KEY);
+    let hash = KeyHash::of_key(key);
     put_output(out, &hash, payment.coin);
     for _ in 0..payment.ones {
         put_output(out, &hash, 1);
@@ -76,19 +77,34 @@ fn id_of(text: &[u8]) -> TxId {
     }
 }
 
-/// Puts the text of a payment behind another, which has nothing yet, and answers its identifier.
-fn put_payment(out: &mut Vec<u8>, payment: Payment) -> TxId {
-    put_body(out, payment);
+/// Puts the text of a payment by this signer behind another, which has nothing yet, and answers its identifier.
+fn put_payment<K: Signer>(out: &mut Vec<u8>, signer: &K, payment: Payment) -> TxId {
+    let key = signer.public_key();
+    put_body(out, &key, payment);
     let id = id_of(out);
     put(out, WITNESS);
-    put(out, &TestScheme::sign(&KEY, id.as_bytes()));
+    put(out, &key);
+    put(out, b"\x58\x40");
+    put(out, &signer.signature(id.as_bytes()));
     put(out, b"\xf6");
     id
 }
 
 /// Puts the texts of the payments that spend the outputs of a transaction behind the others, those of so many outputs
-/// from the second one on, each of this much lovelace.
+/// from the second one on, each of this much lovelace. They are signed under the scheme for tests.
 pub fn put_payments(alloc: Global, texts: &mut Vec<Vec<u8>>, source: TxId, coin: u64, count: u16) {
+    put_payments_by(alloc, &TEST_SIGNER, texts, source, coin, count);
+}
+
+/// The same, signed by this signer.
+pub fn put_payments_by<K: Signer>(
+    alloc: Global,
+    signer: &K,
+    texts: &mut Vec<Vec<u8>>,
+    source: TxId,
+    coin: u64,
+    count: u16,
+) {
     for index in 0..count {
         let payment = Payment {
             source,
@@ -97,7 +113,7 @@ pub fn put_payments(alloc: Global, texts: &mut Vec<Vec<u8>>, source: TxId, coin:
             ones: 0,
         };
         let mut text = Vec::new(alloc);
-        put_payment(&mut text, payment);
+        put_payment(&mut text, signer, payment);
         let _ = texts.push(text);
     }
 }
@@ -160,7 +176,7 @@ impl End {
         let mut body = Vec::new(alloc);
         put_array(&mut body, 1);
         let mut tx = Vec::new(alloc);
-        put_payment(&mut tx, payment);
+        put_payment(&mut tx, &TEST_SIGNER, payment);
         put(&mut body, &tx);
         let _ = texts.push(self.next_text(alloc, late, &body));
     }
@@ -193,8 +209,13 @@ impl Growing {
         }
     }
 
-    /// The text of the block that comes next.
+    /// The text of the block that comes next, signed under the scheme for tests.
     pub fn next_text(&mut self, alloc: Global) -> Vec<u8> {
+        self.next_text_by(alloc, &TEST_SIGNER)
+    }
+
+    /// The same, signed by this signer.
+    pub fn next_text_by<K: Signer>(&mut self, alloc: Global, signer: &K) -> Vec<u8> {
         self.coin = self.coin.saturating_sub(MADE);
         let payment = Payment {
             source: self.source,
@@ -203,7 +224,7 @@ impl Growing {
             ones: MADE,
         };
         let mut text = Vec::new(alloc);
-        self.source = put_payment(&mut text, payment);
+        self.source = put_payment(&mut text, signer, payment);
         self.end.next_of(alloc, slice::from_ref(&text))
     }
 }
