@@ -20,6 +20,7 @@ mod places;
 mod pools;
 mod reopening;
 mod scripts;
+mod signatures;
 mod texts;
 mod timing;
 mod waiting;
@@ -42,6 +43,7 @@ enum Asked {
     Memory,
     Reopening,
     Pools,
+    Signatures,
     Peers,
     Load,
     Calls,
@@ -68,6 +70,7 @@ fn asked_by(word: &str) -> Option<Asked> {
         "memory" => Some(Asked::Memory),
         "reopen" => Some(Asked::Reopening),
         "pools" => Some(Asked::Pools),
+        "signatures" => Some(Asked::Signatures),
         "peers" => Some(Asked::Peers),
         "load" => Some(Asked::Load),
         "calls" => Some(Asked::Calls),
@@ -108,6 +111,7 @@ fn main(rt: HostRuntime) -> io::Result<()> {
         Asked::Memory => memory::measure(&rt),
         Asked::Reopening => reopening::measure(&rt),
         Asked::Pools => pools::measure(&rt, rt.alloc(), Telling::Times),
+        Asked::Signatures => signatures::measure(&rt),
         Asked::Peers => peers::measure(&rt, rt.alloc(), Telling::Times),
         Asked::Load => load::measure(&rt, rt.alloc()),
         Asked::Calls => calls::measure(&rt),
@@ -120,8 +124,8 @@ fn main(rt: HostRuntime) -> io::Result<()> {
             peers::measure(&rt, rt.alloc(), Telling::Names)?;
             println!(rt;
                 "to measure: bench persistent_map, bench blocks, bench ledger, bench scripts, bench pools, \
-bench peers, bench questions, bench arrivals, bench hostile, bench followers, bench mempool, bench reopen, \
-bench log, bench load, bench calls, bench memory"
+bench signatures, bench peers, bench questions, bench arrivals, bench hostile, bench followers, bench mempool, \
+bench reopen, bench log, bench load, bench calls, bench memory"
             )
         }
     }

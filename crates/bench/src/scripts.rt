@@ -2,6 +2,7 @@
 
 use crate::timing::{Telling, nanos_if, now, print};
 use genesis::{Genesis, Scheme};
+use scenario::Options;
 use std::alloc::Global;
 use std::io;
 use witness_pool::TestScheme;
@@ -62,7 +63,8 @@ fn printed(alloc: Global, script: &str) -> usize {
     };
     let mut reader = script.as_bytes();
     let mut out = Vec::new(alloc);
-    match scenario::run::<TestScheme, _, _>(alloc, genesis, Scheme::Test, &mut reader, &mut out) {
+    let options = Options::plain(Scheme::Test);
+    match scenario::run::<TestScheme, _, _>(alloc, genesis, options, &mut reader, &mut out) {
         Ok(_) => out.len(),
         Err(_) => 0,
     }

@@ -36,7 +36,7 @@ fn judge_case<'a, R: Files + AllocGlobal>(
     report: &mut Report<'_>,
 ) -> Result<(), AllocError> {
     match kind {
-        Kind::Runs => runs::judge(rt, case, Way::Node, report),
+        Kind::Runs => runs::judge_run(rt, case, report),
         Kind::Rules => runs::judge(rt, case, Way::Ledger, report),
         Kind::Sends => runs::judge(rt, case, Way::Peers, report),
         Kind::Faults => faults::judge(rt, case, Way::Node, report),

@@ -5,7 +5,7 @@ use crate::network::document_named;
 use crate::report::Report;
 use crate::{rules, sends};
 use genesis::{GenesisDocument, Scheme};
-use scenario::{ScenarioFault, run};
+use scenario::{Options, ScenarioFault, run};
 use std::alloc::{AllocError, Global};
 use std::rt::Files;
 use std::str;
@@ -16,6 +16,8 @@ use witness_pool::{Ed25519, SigScheme, TestScheme};
 pub enum Way {
     /// The whole node.
     Node,
+    /// The same, and why something is refused or not selected is told.
+    Explained,
     /// The ledger alone.
     Ledger,
     /// Nothing: it says what peers send.
@@ -24,6 +26,9 @@ pub enum Way {
 
 /// What comes where the network of a case isn't there.
 const NO_NETWORK: &str = "no such genesis\n";
+
+/// The line at the head of a run in which more is told.
+const EXPLAINED: &str = "explained\n";
 
 /// Puts what was printed behind a text, and last the fault that ended the run.
 fn put_end(
@@ -42,13 +47,15 @@ fn put_end(
 fn put_run<S: SigScheme>(
     alloc: Global,
     document: GenesisDocument,
+    explain: bool,
     script: &[u8],
     came: &mut String,
 ) -> Result<(), AllocError> {
     let GenesisDocument { genesis, scheme } = document;
     let mut reader = script;
     let mut out = Vec::new(alloc);
-    let ended = run::<S, _, _>(alloc, genesis, scheme, &mut reader, &mut out);
+    let options = Options { scheme, explain };
+    let ended = run::<S, _, _>(alloc, genesis, options, &mut reader, &mut out);
     put_end(came, &out, ended)
 }
 
@@ -60,7 +67,8 @@ fn run_by<S: SigScheme>(
     report: &mut Report<'_>,
 ) -> Result<(), AllocError> {
     match way {
-        Way::Node => put_run::<S>(alloc, document, &report.script, &mut report.came),
+        Way::Node => put_run::<S>(alloc, document, false, &report.script, &mut report.came),
+        Way::Explained => put_run::<S>(alloc, document, true, &report.script, &mut report.came),
         Way::Ledger => rules::put_run::<S>(alloc, &document, &report.script, &mut report.came),
         Way::Peers => sends::put_run(alloc, &document, &report.script, &mut report.came),
     }
@@ -82,6 +90,19 @@ pub fn run_script<R: Files + AllocGlobal>(
     }
 }
 
+/// What comes of a script that is run in this way.
+fn judge_script<R: Files + AllocGlobal>(
+    rt: &R,
+    title: &str,
+    scripted: Scripted<'_>,
+    way: Way,
+    report: &mut Report<'_>,
+) -> Result<(), AllocError> {
+    report.take_script(scripted)?;
+    run_script(rt, scripted.network, way, report)?;
+    report.compare(title, "")
+}
+
 /// What comes of a case.
 pub fn judge<R: Files + AllocGlobal>(
     rt: &R,
@@ -89,8 +110,21 @@ pub fn judge<R: Files + AllocGlobal>(
     way: Way,
     report: &mut Report<'_>,
 ) -> Result<(), AllocError> {
-    let scripted = Scripted::of(case.body);
-    report.take_script(scripted)?;
-    run_script(rt, scripted.network, way, report)?;
-    report.compare(case.title, "")
+    judge_script(rt, case.title, Scripted::of(case.body), way, report)
+}
+
+/// What comes of a case that goes through the whole node.
+pub fn judge_run<R: Files + AllocGlobal>(
+    rt: &R,
+    case: Titled<'_>,
+    report: &mut Report<'_>,
+) -> Result<(), AllocError> {
+    let Scripted { network, lines } = Scripted::of(case.body);
+    match lines.strip_prefix(EXPLAINED) {
+        Some(lines) => {
+            let scripted = Scripted { network, lines };
+            judge_script(rt, case.title, scripted, Way::Explained, report)
+        }
+        None => judge(rt, case, Way::Node, report),
+    }
 }

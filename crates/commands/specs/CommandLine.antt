@@ -18,7 +18,7 @@ abbrev pub clients_rule : Rule
 clients_rule =
     record (option_rule (codes "clients")) { parser = Some (Unsigned 1 clients_limit); defaults = codes "1" ∷ [] }
 
--- the flag that asks for more to be told
+-- the flag that asks for more to be told: of what is refused or not selected, and of faults
 abbrev pub explain_rule : Rule
 explain_rule = record (new_rule (codes "explain")) { long = Some (codes "explain"); action = Some SetTrue }
 

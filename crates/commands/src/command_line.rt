@@ -48,7 +48,7 @@ fn clients_option<'a>(alloc: Global) -> Arg<'a>
         .default_value("1")
 }
 
-/// The flag that asks for more to be told.
+/// The flag that asks for more to be told: of refused transactions, blocks that aren't selected, and faults.
 fn explain_flag<'a>(alloc: Global) -> Arg<'a>
     ensures rule { rule_of result ≡ explain_rule }
     ensures local { result.global ≡ false }
@@ -56,7 +56,9 @@ fn explain_flag<'a>(alloc: Global) -> Arg<'a>
     Arg::new(alloc, "explain")
         .long("explain")
         .action(ArgAction::SetTrue)
-        .help("Say what a fault of the script or the genesis is about, and where")
+        .help(
+            "Say why a transaction is refused or a block isn't selected, and what a fault is about",
+        )
 }
 
 /// The command `run` with the options that are files.

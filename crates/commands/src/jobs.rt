@@ -6,7 +6,7 @@ use simulation::Clients;
 #[derive(Debug, Drop)]
 pub enum Job<'a> {
     /// Run the script of this file under the genesis of this one, on the log of a file if one is named. If it is to be
-    /// explained, a second line is told of a fault of either file.
+    /// explained, more is told of what is refused or not selected, and a second line of a fault of either file.
     Run {
         genesis: &'a str,
         script: &'a str,

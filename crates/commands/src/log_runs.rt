@@ -17,7 +17,7 @@ use file_disk::FileDisk;
 use flushing::{Restart, flush};
 use genesis::{Genesis, GenesisDocument};
 use immlog::{AppendFault, Disk, Log, Look, LookFault, Sink, look_at};
-use scenario::ScenarioFault;
+use scenario::{Options, ScenarioFault};
 use std::alloc::Global;
 use std::fs;
 use std::fs::{File, OpenFile, OpenOptions};
@@ -194,6 +194,7 @@ fn run_on_log<'a, S: SigScheme, D: Disk, R: Read, W: Write>(
     document: &GenesisDocument,
     core: Core<S>,
     log: &mut Log<D>,
+    explain: bool,
     reader: &mut BufReader<R>,
     out: &mut W,
 ) -> Result<(), Failure<'a>>
@@ -210,22 +211,19 @@ fn run_on_log<'a, S: SigScheme, D: Disk, R: Read, W: Write>(
         × LeavesSince (D.past log.old.disk) (D.past log.new.disk) (D.moment log.new.disk)
         (OpensToBeginning (length log.old.blocks) (immutable_texts S.verifies after)) }
 {
-    let (core, ran) = scenario::run_from(
-        alloc,
-        &document.genesis,
-        document.scheme,
-        core,
-        reader,
-        out,
-    );
+    let options = Options {
+        scheme: document.scheme,
+        explain,
+    };
+    let (core, ran) = scenario::run_from(alloc, &document.genesis, options, core, reader, out);
     // What it was opened on begins its immutable blocks: a clause of this call.
     let _immutable = core.immutable();
     let flushed = flush(log, &core);
     ended(ran, flushed)
 }
 
-/// Runs the script of a file on a core that was opened on the log's blocks. What a fault is about is told where it is
-/// to be explained.
+/// Runs the script of a file on a core that was opened on the log's blocks. Where it is explained, more is told of a
+/// transaction that is refused, a block that isn't selected, and a fault.
 fn run_script<'a, S: SigScheme, D: Disk, R: Files + AllocGlobal, W: Write>(
     rt: &R,
     document: &GenesisDocument,
@@ -250,7 +248,7 @@ fn run_script<'a, S: SigScheme, D: Disk, R: Files + AllocGlobal, W: Write>(
         return Err(Failure::Scenario(ScenarioFault::OutOfMemory));
     };
     let core = Box::into_inner(core);
-    let ran = run_on_log(rt.alloc(), document, core, log, &mut reader, out);
+    let ran = run_on_log(rt.alloc(), document, core, log, explain, &mut reader, out);
     drop(reader);
     match ran {
         Ok(()) => Ok(()),

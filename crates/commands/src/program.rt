@@ -4,7 +4,7 @@ ghost use Rattle.std.specs.Prelude.{◌≡◌, ◌≢◌, ◌≤◌, ◌⊎◌, 
 ghost use Rattle.clap.specs.Words.{kind_of};
 ghost use Rattle.model.specs.Ledger.{network_of};
 ghost use Rattle.scenario.specs.Run.{EndsWell};
-ghost use Rattle.commands.specs.Ending.{EndsBySome};
+ghost use Rattle.commands.specs.Ending.{EndsBySome, options_by};
 ghost use Rattle.commands.specs.Schemes.{verifies_by};
 
 use crate::command_line::job;
@@ -16,7 +16,7 @@ use crate::recorded::Recorded;
 use clap::Error;
 use clap::error::ErrorKind;
 use genesis::{GenesisDocument, Scheme};
-use scenario::ScenarioFault;
+use scenario::{Options, ScenarioFault};
 use simulation::{Clients, sim};
 use std::alloc::{AllocError, Global};
 use std::fs::File;
@@ -59,30 +59,35 @@ fn genesis_of_file<'a, R: Files + AllocGlobal>(
     }
 }
 
-/// Runs the script that a reader gives, read through a buffer, on a network of this genesis.
+/// Runs the script that a reader gives, read through a buffer, on a network of this genesis. Where it is explained, more
+/// is told of a transaction that is refused and a block that isn't selected.
 fn run_reader<S: SigScheme, R: Read, W: Write>(
     alloc: Global,
     document: GenesisDocument,
+    explain: bool,
     reader: &mut R,
     out: &mut W,
 ) -> Result<(), ScenarioFault>
     requires { S.verifies ≡ verifies_by document.scheme }
     // What is signed and what is judged goes by the scheme of the genesis file.
     ensures ok { OnOk result (IfSome (R.remaining reader.old)
-        (λ text. EndsWell document.scheme (network_of document.genesis (verifies_by document.scheme)) text
-        (W.contents out.old) (W.contents out.new))) }
+        (λ text. EndsWell (options_by document.scheme explain)
+        (network_of document.genesis (verifies_by document.scheme)) text (W.contents out.old) (W.contents out.new))) }
     ensures fault { IfErr result (λ why. IfSome (R.remaining reader.old)
-        (λ text. EndsBySome document.scheme (network_of document.genesis (verifies_by document.scheme)) text
-        (W.contents out.old) (W.contents out.new) why)) }
+        (λ text. EndsBySome (options_by document.scheme explain)
+        (network_of document.genesis (verifies_by document.scheme)) text (W.contents out.old) (W.contents out.new)
+        why)) }
 {
     let GenesisDocument { genesis, scheme } = document;
     let Ok(mut reader) = BufReader::new(alloc, reader) else {
         return Err(ScenarioFault::OutOfMemory);
     };
-    scenario::run::<S, _, _>(alloc, genesis, scheme, &mut reader, out)
+    let options = Options { scheme, explain };
+    scenario::run::<S, _, _>(alloc, genesis, options, &mut reader, out)
 }
 
-/// Runs the script of a file on a network of this genesis. What a fault is about is told where it is to be explained.
+/// Runs the script of a file on a network of this genesis. What is refused or not selected and what a fault is about is
+/// told where it is to be explained.
 fn run_file<'a, S: SigScheme, R: Files + AllocGlobal, W: Write>(
     rt: &R,
     document: GenesisDocument,
@@ -98,7 +103,7 @@ fn run_file<'a, S: SigScheme, R: Files + AllocGlobal, W: Write>(
     // One byte more than a script may have makes its line a bad one, so a line without end takes no more memory.
     let script = file.take(scenario::MAX_SCRIPT_SIZE + 1);
     let mut script = Recorded::new(rt.alloc(), script, explain);
-    match run_reader::<S, _, _>(rt.alloc(), document, &mut script, out) {
+    match run_reader::<S, _, _>(rt.alloc(), document, explain, &mut script, out) {
         Ok(()) => Ok(()),
         Err(fault) => Err(Failure::Scenario(fault).explained(rt.alloc(), script.kept())),
     }

@@ -6,9 +6,9 @@ use Rattle.ed25519.specs.Signing.{signature}
 use Rattle.model.specs.Limits.{signature_size}
 use Rattle.draft.specs.Draft.{Signer}
 
--- ---- the test scheme
+-- ---- keys of the test scheme
 
--- its one good signature: the digest of the key followed by the message, twice
+-- a key's one good signature of a message: the digest of the key followed by the message, twice
 abbrev pub good_signature : (key message : List ℕ) → List ℕ
 good_signature key message = sha256 (key ++ message) ++ sha256 (key ++ message)
 
@@ -16,7 +16,7 @@ good_signature key message = sha256 (key ++ message) ++ sha256 (key ++ message)
 abbrev pub good_signer : (key : List ℕ) → Signer
 good_signer key = record { key = key; signs = good_signature key }
 
--- a key in whose place stand 64 zero bytes, whatever the message is
+-- a key for which 64 zero bytes stand in place of a signature, whatever the message is
 abbrev pub bad_signer : (key : List ℕ) → Signer
 bad_signer key = record { key = key; signs = λ message. replicate signature_size 0 }
 

@@ -30,7 +30,7 @@ pub trait Signer {
 pub enum Signing {
     /// By its good signature.
     Good,
-    /// By 64 zero bytes, which sign nothing.
+    /// By 64 zero bytes in the signature's place.
     Bad,
 }
 

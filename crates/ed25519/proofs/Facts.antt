@@ -4,7 +4,8 @@ use Rattle.std.proofs.Common.{cond, ◌==◌, arith}
 use Rattle.std.proofs.Math.Nat.{pow-suc, pow-zero}
 use Rattle.std.proofs.lemmas.Bool.Decides.{eqb_tells}
 use Rattle.ed25519.specs.Arithmetic.{prime, plus, minus, times, power, root_of_minus_one}
-use Rattle.ed25519.specs.Points.{curve_d, base_point, point_at, order, added, doubled, multiple, neutral, same_point}
+use Rattle.ed25519.specs.Points.{curve_d, base_point, point_at, order, added, doubled, small_multiple}
+use Rattle.ed25519.specs.Points.{multiple, neutral, same_point}
 use Rattle.ed25519.proofs.Powers.{power_sum, more_power}
 
 -- a power by squaring, which the logic computes
@@ -80,6 +81,6 @@ unfolding base_point point_at prime curve_d
 base_on_curve = refl
 
 -- [L]B is the neutral point
-pub base_order : same_point (multiple 256 order base_point) neutral ≡ true
-unfolding base_point point_at prime curve_d order added doubled multiple same_point
+pub base_order : same_point (multiple 64 order base_point) neutral ≡ true
+unfolding base_point point_at prime curve_d order added doubled small_multiple multiple same_point
 base_order = refl

@@ -1,12 +1,12 @@
-use Rattle.std.proofs.Common.{inl, inr, ◌≡◌, ◌≢◌, ℕ, suc, ◌+◌, ◌*◌, ◌/◌, ◌-◌, ◌^◌, ◌%◌, ◌<◌, true, false, eqb, sym}
-use Rattle.std.proofs.Common.{refl, ap, ◌∙◌, arith}
+use Rattle.std.proofs.Common.{inl, inr, ◌≡◌, ℕ, suc, ◌+◌, ◌*◌, ◌/◌, ◌-◌, ◌^◌, ◌%◌, ◌<◌, Some, List, length}
+use Rattle.std.proofs.Common.{slice_get, slice_set, refl, ap, ◌∙◌, arith}
 use Rattle.std.proofs.Math.Nat.{div-eq_of_lt}
-use Rattle.std.proofs.lemmas.Nat.{pow-add, shr-shr, and_mask}
-use Rattle.std.proofs.lemmas.Bool.{eq-eqb}
+use Rattle.std.proofs.lemmas.Nat.{pow-add, shr-shr}
+use Rattle.std.proofs.lemmas.List.{length-set, get_or-set_same, get_or-set_other}
 use Rattle.std.proofs.lemmas.Bool.Decides.{eqb_tells}
-use Rattle.std.specs.Int.Bits.{bit_and}
+use Rattle.std.proofs.lemmas.Option.{slice_get-get_or, get_or_from_slice_get}
 use Rattle.ed25519.specs.Arithmetic.{plus, prime, times}
-use Rattle.ed25519.specs.Points.{added, doubled, multiple, neutral}
+use Rattle.ed25519.specs.Points.{added, doubled, multiple, neutral, small_multiple}
 use Rattle.ed25519.specs.Inside.{words}
 use Rattle.ed25519.specs.declared.point.Point.{Point}
 
@@ -14,87 +14,104 @@ use Rattle.ed25519.specs.declared.point.Point.{Point}
 pub twice : (x : ℕ) → plus x x ≡ times 2 x
 twice x = let e : x + x ≡ 2 * x = omega arith in ap (λ (n : ℕ). n % prime) e
 
-two_left : 2 * 1 % prime ≡ 2
-unfolding prime
-two_left = refl
+-- the next of the small multiples
+pub one_more : (i : ℕ) (p s : Point) → 0 < i → s ≡ small_multiple (i - 1) p → added s p ≡ small_multiple i p
+unfolding small_multiple
+one_more i p s h e =
+    let c : i ≡ suc (i - 1) = omega arith in
+    rw c (ap (λ (v : Point). added v p) e)
 
--- z + z is z times 2 times 1
-pub twice_of_one : (z q : ℕ) → q ≡ 1 → plus z z ≡ times z (times 2 q)
-twice_of_one z q h =
-    let e : z + z ≡ z * 2 = omega arith in
-    let t : times 2 q ≡ 2 = ap (λ (n : ℕ). times 2 n) h ∙ two_left in
-    ap (λ (n : ℕ). n % prime) e ∙ ap (λ (n : ℕ). times z n) (sym t)
+written_here : {X : Type 0} (xs : List X) (i : ℕ) (v : X) → i < length xs → slice_get (slice_set xs i v) i ≡ Some v
+written_here xs i v h =
+    let b : i < length (slice_set xs i v) = rw (length-set xs i v) h in
+    slice_get-get_or (slice_set xs i v) i v b ∙ ap Some (get_or-set_same xs i v v h)
 
--- no bit of the word read
+kept_before : {X : Type 0} (xs : List X) (i n : ℕ) (v w : X) → i < length xs → n < i → slice_get xs n ≡ Some w →
+    slice_get (slice_set xs i v) n ≡ Some w
+kept_before xs i n v w h l e =
+    let b : n < length (slice_set xs i v) = rw (length-set xs i v) (omega arith) in
+    slice_get-get_or (slice_set xs i v) n v b ∙ ap Some (get_or-set_other xs i n v v (omega arith))
+    ∙ ap Some (get_or_from_slice_get xs n w v e)
+
+-- one more place of a table is filled
+pub one_more_place : {X : Type 0} (f : ℕ → X) (xs : List X) (i : ℕ) (v : X) → i < length xs → v ≡ f i →
+    ((n : ℕ) → n < i → slice_get xs n ≡ Some (f n)) → (n : ℕ) → n < i + 1 → slice_get (slice_set xs i v) n ≡ Some (f n)
+one_more_place f xs i v h e before n l =
+    elim (eqb_tells n i) [
+      | inl same ↦ rw same.1 (written_here xs i v h ∙ ap Some e)
+      | inr other ↦ kept_before xs i n v (f n) h (omega (arith, other.1)) (before n (omega (arith, other.1)))
+    ]
+
+-- no digit of the word read
 pub none_read : (k m w : ℕ) (p : Point) → w < 2 ^ 64 → multiple k m p ≡ multiple (k + 0)
-    (m * 2 ^ 0 + w / 2 ^ (64 - 0)) p
+    (m * 2 ^ (4 * 0) + w / 2 ^ (64 - 4 * 0)) p
 none_read k m w p h =
     let e : k ≡ k + 0 = omega arith in
     let d : w / 2 ^ 64 ≡ 0 = div-eq_of_lt h in
-    let f : m ≡ m * 2 ^ 0 + w / 2 ^ (64 - 0) = omega arith in
+    let f : m ≡ m * 2 ^ (4 * 0) + w / 2 ^ (64 - 4 * 0) = omega arith in
     ap (λ (v : ℕ). multiple v m p) e ∙ ap (λ (v : ℕ). multiple (k + 0) v p) f
 
-halves_from : (a b c d : ℕ) → a ≡ 2 * b → c / 2 ≡ d → (a + c) / 2 ≡ b + d
-halves_from a b c d u t = omega arith
+-- the number before it, 16 times
+sixteen_times : (m i : ℕ) → m * 2 ^ (4 * (i + 1)) ≡ 16 * (m * 2 ^ (4 * i))
+sixteen_times m i =
+    let e : 4 * (i + 1) ≡ 4 * i + 4 = omega arith in
+    let u : m * 2 ^ (4 * i + 4) ≡ 16 * (m * 2 ^ (4 * i)) =
+    omega (arith, ap (λ (v : ℕ). m * v) (pow-add 2 (4 * i) 4)) in
+    ap (λ (v : ℕ). m * 2 ^ v) e ∙ u
 
--- the number that one more bit ends
-halves : (m w i : ℕ) → i < 64 → (m * 2 ^ (i + 1) + w / 2 ^ (64 - (i + 1))) / 2 ≡ m * 2 ^ i + w / 2 ^ (64 - i)
-halves m w i h =
-    let s : w / 2 ^ (64 - (i + 1)) / 2 ^ 1 ≡ w / 2 ^ (64 - (i + 1) + 1) = shr-shr w (64 - (i + 1)) 1 in
-    let e : 64 - (i + 1) + 1 ≡ 64 - i = omega arith in
-    let t : w / 2 ^ (64 - (i + 1)) / 2 ≡ w / 2 ^ (64 - i) = s ∙ ap (λ (v : ℕ). w / 2 ^ v) e in
-    let u : m * 2 ^ (i + 1) ≡ 2 * (m * 2 ^ i) = omega (arith, ap (λ (v : ℕ). m * v) (pow-add 2 i 1)) in
-    halves_from (m * 2 ^ (i + 1)) (m * 2 ^ i) (w / 2 ^ (64 - (i + 1))) (w / 2 ^ (64 - i)) u t
+higher_from : (a b c d : ℕ) → a ≡ 16 * b → c / 16 ≡ d → (a + c) / 16 ≡ b + d
+higher_from a b c d u t = omega arith
 
-ends_from : (a b c d e : ℕ) → a ≡ 2 * b → c ≡ d → e ≡ d % 2 → (a + c) % 2 ≡ e
-ends_from a b c d e u f g = omega arith
+-- the number that one more digit ends
+higher : (m w i : ℕ) → i < 16 →
+    (m * 2 ^ (4 * (i + 1)) + w / 2 ^ (64 - 4 * (i + 1))) / 16 ≡ m * 2 ^ (4 * i) + w / 2 ^ (64 - 4 * i)
+higher m w i h =
+    let s : w / 2 ^ (64 - 4 * (i + 1)) / 2 ^ 4 ≡ w / 2 ^ (64 - 4 * (i + 1) + 4) = shr-shr w (64 - 4 * (i + 1)) 4 in
+    let e : 64 - 4 * (i + 1) + 4 ≡ 64 - 4 * i = omega arith in
+    let t : w / 2 ^ (64 - 4 * (i + 1)) / 16 ≡ w / 2 ^ (64 - 4 * i) = s ∙ ap (λ (v : ℕ). w / 2 ^ v) e in
+    higher_from (m * 2 ^ (4 * (i + 1))) (m * 2 ^ (4 * i)) (w / 2 ^ (64 - 4 * (i + 1))) (w / 2 ^ (64 - 4 * i))
+    (sixteen_times m i) t
 
-ends : (m w i : ℕ) → (m * 2 ^ (i + 1) + w / 2 ^ (64 - (i + 1))) % 2 ≡ bit_and (w / 2 ^ (63 - i)) 1
-ends m w i =
-    let u : m * 2 ^ (i + 1) ≡ 2 * (m * 2 ^ i) = omega (arith, ap (λ (v : ℕ). m * v) (pow-add 2 i 1)) in
-    let e : 64 - (i + 1) ≡ 63 - i = omega arith in
-    let f : w / 2 ^ (64 - (i + 1)) ≡ w / 2 ^ (63 - i) = ap (λ (v : ℕ). w / 2 ^ v) e in
-    ends_from (m * 2 ^ (i + 1)) (m * 2 ^ i) (w / 2 ^ (64 - (i + 1))) (w / 2 ^ (63 - i)) (bit_and (w / 2 ^ (63 - i)) 1)
-    u f
-    (and_mask (w / 2 ^ (63 - i)) 1)
+lowest_from : (a b c d : ℕ) → a ≡ 16 * b → c ≡ d → (a + c) % 16 ≡ d % 16
+lowest_from a b c d u f = omega arith
 
-pub next_odd : (k m w i : ℕ) (p s : Point) → i < 64 → s ≡ multiple (k + i) (m * 2 ^ i + w / 2 ^ (64 - i)) p →
-    bit_and (w / 2 ^ (63 - i)) 1 ≡ 1 → added (doubled s) p ≡ multiple (k + (i + 1))
-    (m * 2 ^ (i + 1) + w / 2 ^ (64 - (i + 1))) p
+-- the digit that ends it
+lowest : (m w i : ℕ) → (m * 2 ^ (4 * (i + 1)) + w / 2 ^ (64 - 4 * (i + 1))) % 16 ≡ w / 2 ^ (60 - 4 * i) % 16
+lowest m w i =
+    let e : 64 - 4 * (i + 1) ≡ 60 - 4 * i = omega arith in
+    lowest_from (m * 2 ^ (4 * (i + 1))) (m * 2 ^ (4 * i)) (w / 2 ^ (64 - 4 * (i + 1))) (w / 2 ^ (60 - 4 * i))
+    (sixteen_times m i) (ap (λ (v : ℕ). w / 2 ^ v) e)
+
+-- one more digit of the word read
+pub next_digit : (k m w i : ℕ) (p s : Point) → i < 16 →
+    s ≡ multiple (k + i) (m * 2 ^ (4 * i) + w / 2 ^ (64 - 4 * i)) p →
+    added (doubled (doubled (doubled (doubled s)))) (small_multiple (w / 2 ^ (60 - 4 * i) % 16) p)
+    ≡ multiple (k + (i + 1)) (m * 2 ^ (4 * (i + 1)) + w / 2 ^ (64 - 4 * (i + 1))) p
 unfolding multiple
-next_odd k m w i p s h e b =
+next_digit k m w i p s h e =
     let c : k + (i + 1) ≡ suc (k + i) = omega arith in
-    let o : eqb ((m * 2 ^ (i + 1) + w / 2 ^ (64 - (i + 1))) % 2) 1 ≡ true = eq-eqb _ _ (ends m w i ∙ b) in
-    rw (c, o, halves m w i h) (ap (λ (v : Point). added (doubled v) p) e)
+    rw (c, lowest m w i, higher m w i h)
+    (ap
+    (λ (v : Point). added (doubled (doubled (doubled (doubled v)))) (small_multiple (w / 2 ^ (60 - 4 * i) % 16) p))
+    e)
 
-not_one : (n : ℕ) → n ≢ 1 → eqb n 1 ≡ false
-not_one n h = elim (eqb_tells n 1) [ inl w ↦ absurd (h w.1) | inr w ↦ w.0 ]
-
-pub next_even : (k m w i : ℕ) (p s : Point) → i < 64 → s ≡ multiple (k + i) (m * 2 ^ i + w / 2 ^ (64 - i)) p →
-    bit_and (w / 2 ^ (63 - i)) 1 ≢ 1 → doubled s ≡ multiple (k + (i + 1)) (m * 2 ^ (i + 1) + w / 2 ^ (64 - (i + 1))) p
-unfolding multiple
-next_even k m w i p s h e b =
-    let c : k + (i + 1) ≡ suc (k + i) = omega arith in
-    let o : eqb ((m * 2 ^ (i + 1) + w / 2 ^ (64 - (i + 1))) % 2) 1 ≡ false =
-    not_one _ (λ g. b (sym (ends m w i) ∙ g)) in
-    rw (c, o, halves m w i h) (ap (λ (v : Point). doubled v) e)
-
-pub all_read : (k m w : ℕ) (p : Point) → multiple (k + 64) (m * 2 ^ 64 + w / 2 ^ (64 - 64)) p ≡ multiple (k + 64)
-    (m * 2 ^ 64 + w) p
-all_read k m w p = let e : w / 2 ^ (64 - 64) ≡ w = omega arith in ap (λ (v : ℕ). multiple (k + 64) (m * 2 ^ 64 + v) p) e
+pub all_read : (k m w : ℕ) (p : Point) → multiple (k + 16) (m * 2 ^ (4 * 16) + w / 2 ^ (64 - 4 * 16)) p
+    ≡ multiple (k + 16) (m * 2 ^ 64 + w) p
+all_read k m w p =
+    let e : w / 2 ^ (64 - 4 * 16) ≡ w = omega arith in ap (λ (v : ℕ). multiple (k + 16) (m * 2 ^ 64 + v) p) e
 
 none_yet : (p : Point) → neutral ≡ multiple 0 0 p
 unfolding multiple
 none_yet p = refl
 
 pub four_words : (w0 w1 w2 w3 : ℕ) (p q0 : Point) → q0 ≡ neutral → (q1 q2 q3 q4 : Point) →
-    ((k m : ℕ) → q0 ≡ multiple k m p → q1 ≡ multiple (k + 64) (m * 2 ^ 64 + w3) p) →
-    ((k m : ℕ) → q1 ≡ multiple k m p → q2 ≡ multiple (k + 64) (m * 2 ^ 64 + w2) p) →
-    ((k m : ℕ) → q2 ≡ multiple k m p → q3 ≡ multiple (k + 64) (m * 2 ^ 64 + w1) p) →
-    ((k m : ℕ) → q3 ≡ multiple k m p → q4 ≡ multiple (k + 64) (m * 2 ^ 64 + w0) p) →
-    q4 ≡ multiple 256 (words w0 w1 w2 w3) p
+    ((k m : ℕ) → q0 ≡ multiple k m p → q1 ≡ multiple (k + 16) (m * 2 ^ 64 + w3) p) →
+    ((k m : ℕ) → q1 ≡ multiple k m p → q2 ≡ multiple (k + 16) (m * 2 ^ 64 + w2) p) →
+    ((k m : ℕ) → q2 ≡ multiple k m p → q3 ≡ multiple (k + 16) (m * 2 ^ 64 + w1) p) →
+    ((k m : ℕ) → q3 ≡ multiple k m p → q4 ≡ multiple (k + 16) (m * 2 ^ 64 + w0) p) →
+    q4 ≡ multiple 64 (words w0 w1 w2 w3) p
 unfolding words
 four_words w0 w1 w2 w3 p q0 e q1 q2 q3 q4 h3 h2 h1 h0 =
     let n : ((((0 * 2 ^ 64 + w3) * 2 ^ 64 + w2) * 2 ^ 64 + w1) * 2 ^ 64 + w0) ≡ w0 + 2 ^ 64 * w1 + 2 ^ 128 * w2 + 2 ^
     192 * w3 = omega arith in
-    h0 192 _ (h1 128 _ (h2 64 _ (h3 0 0 (e ∙ none_yet p)))) ∙ ap (λ (v : ℕ). multiple 256 v p) n
+    h0 48 _ (h1 32 _ (h2 16 _ (h3 0 0 (e ∙ none_yet p)))) ∙ ap (λ (v : ℕ). multiple 64 v p) n

@@ -14,4 +14,4 @@ secret_scalar seed = pruned (little_endian (take 32 (sha512 seed)))
 
 -- A: the bytes of [s]B (steps 3 and 4)
 unfoldable pub public_key : List ℕ → List ℕ
-public_key seed = encoded (multiple 256 (secret_scalar seed) base_point)
+public_key seed = encoded (multiple 64 (secret_scalar seed) base_point)

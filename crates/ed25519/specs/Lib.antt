@@ -6,3 +6,4 @@ pub mod Keys
 pub mod Signing
 pub mod Verifying
 pub mod Inside
+pub mod Addends

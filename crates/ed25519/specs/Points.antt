@@ -1,7 +1,7 @@
 -- The curve edwards25519, its points and their sums (RFC 8032, 5.1 and 5.1.4).
 --
 -- A point is kept in extended coordinates: it is (x / z, y / z), and t / z is the product of the two.
-use Rattle.std.specs.Prelude.{ℕ, ◌+◌, zero, suc, ◌/◌, ◌%◌, ◌^◌, Bool, cond, ◌==◌, ◌&&◌}
+use Rattle.std.specs.Prelude.{ℕ, ◌+◌, zero, suc, ◌/◌, ◌%◌, ◌^◌, Bool, ◌==◌, ◌&&◌}
 use Rattle.ed25519.specs.Arithmetic.{plus, minus, times}
 use Rattle.ed25519.specs.declared.point.Point.{Point}
 
@@ -55,12 +55,22 @@ doubled p =
     let f = plus c g in
     of_factors e f g h
 
--- [n]P (2) for n < 2 ^ k, by doubling and adding: twice [n / 2]P, plus P where n is odd
+-- [n]P for a small n: P added n times (2), the first time to the neutral point
+unfoldable pub small_multiple : ℕ → Point → Point
+small_multiple zero p = neutral
+small_multiple (suc n) p = added (small_multiple n p) p
+
+-- [16]P, by four doublings
+abbrev pub sixteen_times : Point → Point
+sixteen_times p = doubled (doubled (doubled (doubled p)))
+
+-- [n]P for n < 16 ^ k, by digits of four bits: 16 times [n / 16]P, plus [n % 16]P. 64 digits are 256 bits, and no number
+-- here has more. The standard leaves open by which sums a multiple is made; that all come to the same point is a law of
+-- the group, which isn't used here. The formulas are complete (5.1.4), so to add or to double the neutral point is no
+-- case apart.
 unfoldable pub multiple : ℕ → ℕ → Point → Point
 multiple zero n p = neutral
-multiple (suc k) n p =
-    let twice = doubled (multiple k (n / 2) p) in
-    cond (n % 2 == 1) (added twice p) twice
+multiple (suc k) n p = added (sixteen_times (multiple k (n / 16) p)) (small_multiple (n % 16) p)
 
 -- whether two points, neither of which has 0 for its z, are the same: x1 / z1 = x2 / z2 and y1 / z1 = y2 / z2 (as in 6)
 unfoldable pub same_point : Point → Point → Bool

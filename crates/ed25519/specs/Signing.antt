@@ -15,7 +15,7 @@ nonce seed message = little_endian (sha512 (secret_prefix seed ++ message)) % or
 
 -- R: the bytes of [r]B (step 3)
 unfoldable pub commitment : List ℕ → List ℕ → List ℕ
-commitment seed message = encoded (multiple 256 (nonce seed message) base_point)
+commitment seed message = encoded (multiple 64 (nonce seed message) base_point)
 
 -- k: the digest of R, A and the message, as a number, modulo L (steps 4 and 5)
 unfoldable pub challenge : List ℕ → List ℕ → List ℕ → ℕ

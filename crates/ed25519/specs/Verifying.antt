@@ -13,7 +13,7 @@ is_admissible a r s = nat_lt s order && not (has_small_order a) && not (has_smal
 
 -- [S]B = R + [k]A, which step 3 lets stand for the same with each side taken 8 times
 unfoldable pub equation_holds : Point → Point → ℕ → ℕ → Bool
-equation_holds a r s k = same_point (multiple 256 s base_point) (added r (multiple 256 k a))
+equation_holds a r s k = same_point (multiple 64 s base_point) (added r (multiple 64 k a))
 
 -- whether A and R, if both decode, and S and k are those of a good signature (steps 1 and 3)
 abbrev pub judged : Option Point → Option Point → ℕ → ℕ → Bool

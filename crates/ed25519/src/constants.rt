@@ -13,5 +13,5 @@ pub fn curve_constants()
     ensures base_x { base_point.x % 2 ≡ 0 }
     ensures on_curve { minus (times base_point.y base_point.y) (times base_point.x base_point.x)
         ≡ plus 1 (times curve_d (times (times base_point.x base_point.x) (times base_point.y base_point.y))) }
-    ensures order { same_point (multiple 256 order base_point) neutral ≡ true }
+    ensures order { same_point (multiple 64 order base_point) neutral ≡ true }
 {}

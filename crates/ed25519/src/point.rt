@@ -1,16 +1,19 @@
 //! Points of the curve (RFC 8032, 5.1.2 to 5.1.4).
 
-ghost use Rattle.std.specs.Prelude.{◌≡◌, IfSome, ℕ, ◌+◌, ◌*◌, ◌^◌};
+ghost use Rattle.std.specs.Prelude.{◌≡◌, ℕ, ◌+◌, ◌*◌, ◌^◌};
 ghost use Rattle.ed25519.specs.Arithmetic.{root_of_minus_one, times};
 ghost use Rattle.ed25519.specs.Points.{added, base_point, curve_d, doubled, has_small_order, multiple, neutral};
 ghost use Rattle.ed25519.specs.Points.{point_at, same_point};
+ghost use Rattle.ed25519.specs.declared.point.Point.{Point};
 ghost use Rattle.ed25519.specs.Encoding.{encoded};
 ghost use Rattle.ed25519.specs.Decoding.{decoded, root_of_ratio, with_sign, x_of};
+ghost use Rattle.ed25519.specs.Addends.{AreSmallMultiples, addend_of};
 
 use crate::addend::Addend;
 use crate::factors::Factors;
 use crate::field_element::FieldElement;
 use crate::scalar::Scalar;
+use std::array;
 
 /// A point in extended coordinates: it is (x / z, y / z), and t / z is the product of the two.
 #[derive(Drop)]
@@ -118,8 +121,7 @@ impl Point {
 
     /// The point (x, y).
     fn at(x: FieldElement, y: FieldElement) -> Point
-        ensures value { result ≡ point_at x y }
-        ensures plain { result.z ≡ 1 }
+        ensures { result ≡ point_at x y }
     {
         let t = x.times(&y);
         Point {
@@ -132,8 +134,7 @@ impl Point {
 
     /// The base point.
     pub fn base() -> Point
-        ensures value { result ≡ base_point }
-        ensures plain { result.z ≡ 1 }
+        ensures { result ≡ base_point }
     {
         Point::at(
             FieldElement::from_digits(
@@ -153,18 +154,6 @@ impl Point {
         )
     }
 
-    /// A copy.
-    pub fn copy(&self) -> Point
-        ensures { result ≡ self.now }
-    {
-        Point {
-            x: self.x.copy(),
-            y: self.y.copy(),
-            z: self.z.copy(),
-            t: self.t.copy(),
-        }
-    }
-
     /// The sum.
     pub fn plus(&self, other: &Point) -> Factors
         ensures { result ≡ added self.now other.now }
@@ -176,15 +165,30 @@ impl Point {
         Factors::of_products(&a, &b, &c, &d)
     }
 
-    /// The same, by two products less.
+    /// The same, with a product and three sums of coordinates less to make.
     fn plus_addend(&self, other: &Addend) -> Factors
-        ensures { result ≡ added self.now other.now }
+        ensures { (p : Point) → other.now ≡ addend_of p → result ≡ added self.now p }
     {
         let a = self.y.minus(&self.x).times(&other.y_minus_x);
         let b = self.y.plus(&self.x).times(&other.y_plus_x);
         let c = self.t.times(&other.twice_d_t);
-        let d = self.z.plus(&self.z);
+        let d = self.z.times(&other.twice_z);
         Factors::of_products(&a, &b, &c, &d)
+    }
+
+    /// The multiples by 0 to 15: the neutral point, and then each the sum of the one before and the point.
+    fn small_multiples(&self) -> [Addend; 16]
+        ensures { AreSmallMultiples result self.now }
+    {
+        let once = Addend::of(self);
+        let mut sum = Point::neutral();
+        let mut multiples = array::from_fn(|_i| Addend::unset());
+        multiples[0] = Addend::of(&sum);
+        for i in 1..16 {
+            sum = sum.plus_addend(&once).to_point();
+            multiples[i] = Addend::of(&sum);
+        }
+        multiples
     }
 
     /// Whether the point is of small order, which is at most 8.
@@ -196,17 +200,17 @@ impl Point {
         eight_times.equals(&Point::neutral())
     }
 
-    /// The multiple of a point with z = 1: its cost is that of 256 doublings, and of a sum for each bit that is set.
+    /// The multiple: its cost is that of 256 doublings and 79 sums, whatever the number is; which memory is read hangs on
+    /// the number's digits.
     pub fn multiple(&self, scalar: &Scalar) -> Point
-        requires { self.now.z ≡ 1 }
-        ensures { result ≡ multiple 256 scalar.now self.now }
+        ensures { result ≡ multiple 64 scalar.now self.now }
     {
-        let point = Addend::of(self);
+        let multiples = self.small_multiples();
         let (w0, w1, w2, w3) = scalar.parts();
-        let sum = through_word(Factors::neutral(), w3, &point);
-        let sum = through_word(sum, w2, &point);
-        let sum = through_word(sum, w1, &point);
-        through_word(sum, w0, &point).to_point()
+        let sum = through_word(Factors::neutral(), w3, &multiples);
+        let sum = through_word(sum, w2, &multiples);
+        let sum = through_word(sum, w1, &multiples);
+        through_word(sum, w0, &multiples).to_point()
     }
 
     /// Whether two points are the same.
@@ -229,8 +233,7 @@ impl Point {
 
     /// The point of bytes, if they are those of one (RFC 8032, 5.1.3).
     pub fn decode(bytes: &[u8; 32]) -> Option<Point>
-        ensures value { result ≡ decoded bytes.now }
-        ensures plain { IfSome result (λ p. p.z ≡ 1) }
+        ensures { result ≡ decoded bytes.now }
     {
         let number = Scalar::from_bytes(bytes);
         let (w0, w1, w2, w3) = number.parts();
@@ -261,16 +264,17 @@ pub fn doubled(x: &FieldElement, y: &FieldElement, z: &FieldElement) -> Factors
     Factors { e, f, g, h }
 }
 
-/// The multiple of a number that goes on by one more word, where `start` is that of the number before it.
-fn through_word(start: Factors, word: u64, point: &Addend) -> Factors
-    ensures { (k m : ℕ) → start ≡ multiple k m point.now → result ≡ multiple (k + 64) (m * 2 ^ 64 + word) point.now }
+/// The multiple of a number that goes on by one more word, where `start` is that of the number before it, and
+/// `multiples` are those of the point by 0 to 15. The word's digits of four bits are read from the highest one on.
+fn through_word(start: Factors, word: u64, multiples: &[Addend; 16]) -> Factors
+    ensures { (p : Point) → AreSmallMultiples multiples.now p → (k m : ℕ) → start ≡ multiple k m p
+        → result ≡ multiple (k + 16) (m * 2 ^ 64 + word) p }
 {
     let mut sum = start;
-    for i in 0..64u32 {
-        sum = sum.doubled();
-        if (word >> (63 - i)) & 1 == 1 {
-            sum = sum.to_point().plus_addend(point);
-        }
+    for i in 0..16u32 {
+        let digit = (word >> (60 - 4 * i)) % 16;
+        let sixteen_times = sum.doubled().doubled().doubled().doubled().to_point();
+        sum = sixteen_times.plus_addend(&multiples[digit as usize]);
     }
     sum
 }

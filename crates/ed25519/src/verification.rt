@@ -43,7 +43,6 @@ fn is_admissible(a: &Point, r: &Point, s: &Scalar) -> bool
 
 /// Whether [S]B = R + [k]A.
 fn equation_holds(a: &Point, r: &Point, s: &Scalar, k: &Scalar) -> bool
-    requires { a.now.z ≡ 1 }
     ensures { result ≡ equation_holds a.now r.now s.now k.now }
 {
     let left = Point::base().multiple(s);

@@ -6,7 +6,7 @@ use crate::network::{ASKING, DEFINING, genesis};
 use crate::random::Random;
 use crate::tally::Tally;
 use genesis::Scheme;
-use scenario::ScenarioFault;
+use scenario::{Options, ScenarioFault};
 use std::alloc::Global;
 use witness_pool::TestScheme;
 
@@ -25,7 +25,7 @@ fn run_of(alloc: Global, script: &[u8]) -> Option<Ran> {
     let ended = scenario::run::<TestScheme, _, _>(
         alloc,
         genesis,
-        Scheme::Test,
+        Options::plain(Scheme::Test),
         &mut reader,
         &mut printed,
     );

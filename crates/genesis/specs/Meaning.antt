@@ -142,7 +142,8 @@ abbrev pub IsSchemeAt : Option Data → Scheme → Type 0
 IsSchemeAt None scheme = scheme ≡ schemes.Test
 IsSchemeAt (Some value) scheme = as_str value ≡ Some (scheme_name scheme)
 
--- the text is a document, whose key `scheme` says so by which signatures are judged
+-- the text is a document, and signatures are judged by this scheme: the one that its key `scheme` names, or the tests'
+-- where it has none
 pub record NamesScheme (text : List ℕ) (scheme : Scheme) : Type 0 where
   pub document : Members
   pub parsed : parse_document text ≡ Some document

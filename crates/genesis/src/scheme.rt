@@ -1,14 +1,14 @@
-//! By which scheme the signatures of a network are judged.
+//! The scheme by which the signatures of a network are judged.
 
 ghost use Rattle.std.specs.Prelude.{◌≡◌};
 ghost use Rattle.genesis.specs.Document.{scheme_of};
 
-/// By which signatures are judged.
+/// The scheme by which signatures are judged.
 #[derive(Clone, Copy, Debug, PartialEq, Eq)]
 pub enum Scheme {
-    /// By the tests' scheme, by which who knows a key can sign.
+    /// The scheme for tests, under which whoever knows a public key can sign for it.
     Test,
-    /// By Ed25519.
+    /// Ed25519 (RFC 8032).
     Ed25519,
 }
 

@@ -1,4 +1,4 @@
-//! Faults of a script and of a genesis file that are explained.
+//! Faults of a script and of a genesis file that are explained, and what is refused or not selected.
 
 use super::start_tests::{
     GENESIS, MEMORY, OTHER_NUMBERS, OUTPUT, ends, own_folder, remove, write_file,
@@ -77,6 +77,54 @@ says a secret key, where the scheme has none",
         ),
     ),
     (
+        "block A1 01 1\n",
+        (
+            "",
+            "line 1: BadLine\n",
+            "line 1, column 10: \"01\" is not a name or genesis",
+        ),
+    ),
+    (
+        "tx T\nmint S - x\n",
+        (
+            "",
+            "line 2: BadLine\n",
+            "line 2, column 10: \"x\" is not a number below 2^64 without a zero in front, or one behind a sign",
+        ),
+    ),
+    (
+        "raw A 8\n",
+        (
+            "",
+            "line 1: BadLine\n",
+            "line 1, column 7: \"8\" is not hexadecimal digits of whole bytes",
+        ),
+    ),
+    (
+        "tx T\nmint S 8 5\n",
+        (
+            "",
+            "line 2: BadLine\n",
+            "line 2, column 8: \"8\" is not hexadecimal digits of whole bytes or -",
+        ),
+    ),
+    (
+        "tx T\nout K 1\n",
+        (
+            "",
+            "line 2: BadLine\n",
+            "line 2, column 5: \"K\" is not key or script",
+        ),
+    ),
+    (
+        "balance key K\n",
+        (
+            "",
+            "line 1: BadLine\n",
+            "line 1, column 9: \"key\" is not script",
+        ),
+    ),
+    (
         "arrive A  B\n",
         (
             "",
@@ -141,11 +189,27 @@ says a secret key, where the scheme has none",
         ),
     ),
     (
+        "raw A1 80\nwhy A1\n",
+        (
+            "",
+            "line 2: UnknownName\n",
+            "line 2, column 5: \"A1\" is bound to nothing of the kind that is asked for",
+        ),
+    ),
+    (
         "forge A1 9223372036854775808\narrive A1\n",
         (
             "forge A1: refused 2 OutOfRange\n",
             "line 2: UnknownName\n",
             "line 2, column 8: \"A1\" is bound to nothing of the kind that is asked for",
+        ),
+    ),
+    (
+        "open F\nforge A1 9223372036854775808\nforward F A1\n",
+        (
+            "open F: ok\nforge A1: refused 2 OutOfRange\n",
+            "line 3: UnknownName\n",
+            "line 3, column 9: \"F\" is bound to nothing of the kind that is asked for, or a name behind it is",
         ),
     ),
     (
@@ -198,6 +262,38 @@ fn faults_of_scripts(rt: HostRuntime) {
         let script = write_file(&rt, &folder, "some.script", &[*text]);
         explains(&rt, &genesis, &script, *end);
     }
+    remove(&rt, &folder);
+}
+
+/// A line of 98 bytes.
+const COMMENT: &str =
+    "# a script of which every line but the last one is this comment, in 98 bytes \
+with its line feed .\n";
+
+/// A text that has this part so many times.
+fn many(rt: &(impl Abort + AllocGlobal), part: &str, count: u32) -> String {
+    let mut text = String::new(rt.alloc());
+    for _ in 0..count {
+        text.push_str(part).expect(rt, MEMORY);
+    }
+    text
+}
+
+// The last byte of `tip` is the one that is too many.
+#[test]
+fn a_script_that_is_too_long(rt: HostRuntime) {
+    let folder = own_folder(&rt);
+    let genesis = write_file(&rt, &folder, "genesis.toml", GENESIS);
+    let comments = many(&rt, COMMENT, 42_799);
+    assert!(rt; comments.len() == 4_194_302);
+    let parts = [comments.as_str(), "tip"];
+    let script = write_file(&rt, &folder, "some.script", parts.as_slice());
+    let end = (
+        "",
+        "line 42800: BadLine\n",
+        "line 42800, column 1: \"tip\" begins a line that goes on past the greatest length of a script",
+    );
+    explains(&rt, &genesis, &script, end);
     remove(&rt, &folder);
 }
 
@@ -267,6 +363,25 @@ const DOCUMENTS: &[(&[&str], &str, &str)] = &[
         ],
         "genesis: 2 BadShape\n",
         "line 15, column 1: \"address\" of output 1 stands beside a key",
+    ),
+    (
+        &["network = 0\nk = 2\n", OTHER_NUMBERS, "output = 1\n"],
+        "genesis: 2 BadShape\n",
+        "line 10, column 1: \"output\" is no array",
+    ),
+    (
+        &["network = 0\nk = 2\n", OTHER_NUMBERS, "output = [1]\n"],
+        "genesis: 2 BadShape\n",
+        "line 10, column 1: \"output\" has no table at place 0",
+    ),
+    (
+        &[
+            "network = 0\nk = 2\n",
+            OTHER_NUMBERS,
+            "output = [{ address = \"\", coin = 1 }, 1]\n",
+        ],
+        "genesis: 2 BadShape\n",
+        "line 10, column 1: \"output\" has no table at place 1",
     ),
     (
         &["network = 0\nk = 0\n", OTHER_NUMBERS, OUTPUT],
@@ -339,6 +454,21 @@ fn faults_of_the_genesis(rt: HostRuntime) {
     remove(&rt, &folder);
 }
 
+#[test]
+fn a_genesis_with_too_many_outputs(rt: HostRuntime) {
+    let folder = own_folder(&rt);
+    let outputs = many(&rt, OUTPUT, 10_001);
+    let parts = ["network = 0\nk = 2\n", OTHER_NUMBERS, outputs.as_str()];
+    let genesis = write_file(&rt, &folder, "genesis.toml", parts.as_slice());
+    let end = (
+        "",
+        "genesis: 6 BadOutputs\n",
+        "line 10, column 1: \"output\" has more than 10000 tables",
+    );
+    explains(&rt, &genesis, "no/such.script", end);
+    remove(&rt, &folder);
+}
+
 // A fault of a script is explained on a log too, and nothing is told where there is none.
 #[test]
 fn a_script_on_a_log(rt: HostRuntime) {
@@ -372,5 +502,75 @@ fn a_script_on_a_log(rt: HostRuntime) {
         "--explain",
     ];
     ends(&rt, words.as_slice(), 0, "tip: 0 genesis\n", "");
+    remove(&rt, &folder);
+}
+
+/// A script of whose lines two are explained, what they print, and what the notes are.
+const REFUSED: (&str, &str, &str) = (
+    "tx T\nend\nsubmit T\nblock B1 genesis 2\nblock B2 B1 3\narrive B2\narrive B1\n",
+    "submit T: refused 2 NoInputs
+arrive B2: kept back 0 added 0
+arrive B1: kept back 0 added 2
+",
+    "submit T: refused 2 NoInputs
+# no inputs
+arrive B2: kept back 0 added 0
+# waits for B1
+arrive B1: kept back 0 added 2
+",
+);
+
+// What is refused and what isn't selected is explained with the flag alone, on a new core and on a log.
+#[test]
+fn what_is_refused_or_not_selected(rt: HostRuntime) {
+    let (lines, plain, told) = REFUSED;
+    let folder = own_folder(&rt);
+    let genesis = write_file(&rt, &folder, "genesis.toml", GENESIS);
+    let script = write_file(&rt, &folder, "some.script", &[lines]);
+    let log = format!(in rt.alloc(); "{folder}/log").expect(&rt, MEMORY);
+    let words = [
+        "node",
+        "run",
+        "--genesis",
+        genesis.as_str(),
+        "--script",
+        script.as_str(),
+        "--explain",
+        "--log",
+        log.as_str(),
+    ];
+    let (without, _) = words.split_at(6);
+    ends(&rt, without, 0, plain, "");
+    let (new_core, _) = words.split_at(7);
+    ends(&rt, new_core, 0, told, "");
+    ends(&rt, words.as_slice(), 0, told, "");
+    remove(&rt, &folder);
+}
+
+// What was printed before a fault stands, and so does what was told of it.
+#[test]
+fn a_note_before_a_fault(rt: HostRuntime) {
+    let folder = own_folder(&rt);
+    let genesis = write_file(&rt, &folder, "genesis.toml", GENESIS);
+    let script = write_file(
+        &rt,
+        &folder,
+        "some.script",
+        &["tx T\nend\nsubmit T\narrive T\n"],
+    );
+    let words = [
+        "node",
+        "run",
+        "--explain",
+        "--genesis",
+        genesis.as_str(),
+        "--script",
+        script.as_str(),
+    ];
+    let told = "line 4: UnknownName
+# line 4, column 8: \"T\" is bound to nothing of the kind that is asked for
+";
+    let printed = "submit T: refused 2 NoInputs\n# no inputs\n";
+    ends(&rt, words.as_slice(), 1, printed, told);
     remove(&rt, &folder);
 }

@@ -1,5 +1,5 @@
 -- A line in which bytes arrive.
-use Rattle.std.proofs.Common.{◌≡◌, ℕ, List, refl}
+use Rattle.std.proofs.Common.{◌≡◌, ℕ, Bool, List, [], ◌++◌, refl, ap, ◌∙◌}
 use Rattle.model.specs.Ledger.{Network}
 use Rattle.model.specs.History.{State, Arrive, Reply, Step}
 use Rattle.chain_core.specs.Held.{Stands}
@@ -9,14 +9,23 @@ use Rattle.script.specs.RequestView.{AreNamed}
 use Rattle.script.specs.Meaning.{Arrives, formed}
 use Rattle.scenario.specs.Print.{arrival_text}
 use Rattle.scenario.specs.Run.{Scene, entry}
-use Rattle.scenario.specs.SessionView.{Done}
+use Rattle.scenario.specs.Notes.{IsNote}
+use Rattle.scenario.specs.NoteView.{AppendsNote}
+use Rattle.scenario.specs.SessionView.{Told}
 
-pub arrival_acted : {S : Type 0} (network : Network) (s : Scene) (form : Form) (name bytes : List ℕ) (reply : Reply) (out : List ℕ) (new : Session S) → out ≡ arrival_text form name reply → AreNamed new.names s.names
-    → (t : State) × Step network s.state (Arrive (formed form bytes)) reply t × Stands new.core t
-    → Done network s (Arrives form name bytes) out new
-arrival_acted network s form name bytes reply out new printed names (t, step, stands) = record {
-  entries = entry (Arrive (formed form bytes)) reply;
-  scene = record { state = t; names = s.names };
-  acts = (reply, record { step = step; names = refl }, printed, refl);
-  holds = record { stands = stands; names = names };
+pub arrival_told : {S : Type 0} (network : Network) (explain : Bool) (s : Scene) (form : Form) (name bytes : List ℕ) (reply : Reply) (old out : List ℕ) (new : Session S) → old ≡ [] → AreNamed new.names s.names
+    → (step : (t : State) × Step network s.state (Arrive (formed form bytes)) reply t × Stands new.core t)
+    → AppendsNote (old ++ arrival_text form name reply) out (IsNote network explain s.names.of_bytes s.state (entry (Arrive (formed form bytes)) reply) step.0)
+    → Told network explain s (Arrives form name bytes) out new
+arrival_told network explain s form name bytes reply old out new empty names (t, step, stands) noted = record {
+  text = arrival_text form name reply;
+  done = record {
+    entries = entry (Arrive (formed form bytes)) reply;
+    scene = record { state = t; names = s.names };
+    acts = (reply, record { step = step; names = refl }, refl, refl);
+    holds = record { stands = stands; names = names };
+  };
+  note = noted.note;
+  is_note = noted.is_note;
+  printed = noted.behind ∙ ap (λ (bs : List ℕ). (bs ++ arrival_text form name reply) ++ noted.note) empty;
 }

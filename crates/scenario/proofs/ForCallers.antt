@@ -4,7 +4,7 @@ use Rattle.std.specs.Prelude.{IfSome}
 use Rattle.model.specs.Ledger.{Network}
 use Rattle.model.specs.Chain.{IsOpening}
 use Rattle.model.specs.History.{opening}
-use Rattle.genesis.specs.declared.scheme.Scheme.{Scheme}
+use Rattle.scenario.specs.declared.options.Options.{Options}
 use Rattle.scenario.specs.declared.fault.ScenarioFault.TheVariants.{OutOfMemory}
 use Rattle.script.specs.Text.{lines_of}
 use Rattle.scenario.specs.Run.{opening_scene, EndsBy}
@@ -17,8 +17,8 @@ none_ends [] e = cc
 none_ends (x ∷ xs) e = cc
 
 -- memory ran out before anything was read
-pub not_begun : (scheme : Scheme) (network : Network) → IsOpening network → (text : List ℕ) (written : Option (List ℕ)) → EndsBy scheme network text (Some text) written written OutOfMemory
-not_begun scheme network opens text written = record {
+pub not_begun : (options : Options) (network : Network) → IsOpening network → (text : List ℕ) (written : Option (List ℕ)) → EndsBy options network text (Some text) written written OutOfMemory
+not_begun options network opens text written = record {
   opens = opens;
   end = opening network;
   ends = record {
@@ -27,7 +27,7 @@ not_begun scheme network opens text written = record {
     out = [];
     written = appends_none written;
     is_fault = record {
-      broken = record { lines = []; after = lines_of text; begins = refl; more = []; piece = line_stops []; read = refl; obeyed = obeyed scheme network (opening network) [] [] [] (opening_scene scheme network) (refl, refl, refl) };
+      broken = record { lines = []; after = lines_of text; begins = refl; more = []; piece = line_stops []; read = refl; obeyed = obeyed options network (opening network) [] [] [] (opening_scene options.scheme network) (refl, refl, refl) };
       has_no_fault = λ content whole. absurd (none_ends content whole);
       is_end = inl refl;
     };
@@ -35,6 +35,6 @@ not_begun scheme network opens text written = record {
 }
 
 -- the same of a reader's text, where it is known
-pub none_begun : (scheme : Scheme) (network : Network) → IsOpening network → (text written : Option (List ℕ)) → IfSome text (λ t. EndsBy scheme network t text written written OutOfMemory)
-none_begun scheme network opens None written = tt
-none_begun scheme network opens (Some t) written = not_begun scheme network opens t written
+pub none_begun : (options : Options) (network : Network) → IsOpening network → (text written : Option (List ℕ)) → IfSome text (λ t. EndsBy options network t text written written OutOfMemory)
+none_begun options network opens None written = tt
+none_begun options network opens (Some t) written = not_begun options network opens t written

@@ -1,9 +1,9 @@
 -- Lines that were obeyed are a legal history, of which the chain theorem holds.
-use Rattle.std.proofs.Common.{◌≡◌, ℕ, ◌+◌, List, [], ◌∷◌, ◌++◌, length, refl, sym, ap, subst}
+use Rattle.std.proofs.Common.{◌≡◌, ℕ, Bool, ◌+◌, List, [], ◌∷◌, ◌++◌, length, refl, sym, ap, subst}
 use Rattle.model.specs.Ledger.{Network}
 use Rattle.model.specs.History.{State, opening, Event, Reply, Entry, Step, IsRun}
 use Rattle.model.proofs.ToldChains.{theorem_of_legal}
-use Rattle.genesis.specs.declared.scheme.Scheme.{Scheme}
+use Rattle.scenario.specs.declared.options.Options.{Options}
 use Rattle.script.specs.Meaning.{Meaning, Defines, Arrives, SubmitsTx, ForgesBlock, OpensFollower, TellsFollower, ForwardsFollower, ClosesFollower, PrintsTip, PrintsMempool, PrintsUtxo, PrintsWhy, PrintsWhere, PrintsBalance}
 use Rattle.scenario.specs.Run.{Scene, first_scene, Acts, Prints, AreObeyed, entry}
 
@@ -36,19 +36,19 @@ acts_run network s (PrintsWhy name hash) out entries t (why, is_why, printed, no
 acts_run network s (PrintsWhere name id) out entries t (place, is_place, printed, none, same) = still network s.state t.state entries none (ap (λ (x : Scene). x.state) same)
 acts_run network s (PrintsBalance owner address) out entries t (ledger, folded, printed, none, same) = still network s.state t.state entries none (ap (λ (x : Scene). x.state) same)
 
-pub prints_run : (network : Network) (number before : ℕ) (s : Scene) (lines : List (List ℕ)) (out : List ℕ) (history : List Entry) (t : Scene) → Prints network number before s lines out history t → IsRun network s.state history t.state
-prints_run network number before s [] out history t (printed, none, same) = still network s.state t.state history none (ap (λ (x : Scene). x.state) same)
-prints_run network number before s (line ∷ lines) out history t (first, rest, entries, later, mid, obeys, prints, printed, is) =
+pub prints_run : (network : Network) (explain : Bool) (number before : ℕ) (s : Scene) (lines : List (List ℕ)) (out : List ℕ) (history : List Entry) (t : Scene) → Prints network explain number before s lines out history t → IsRun network s.state history t.state
+prints_run network explain number before s [] out history t (printed, none, same) = still network s.state t.state history none (ap (λ (x : Scene). x.state) same)
+prints_run network explain number before s (line ∷ lines) out history t (first, rest, entries, later, mid, obeys, prints, printed, is) =
     subst (λ (es : List Entry). IsRun network s.state es t.state) (sym is)
-    (runs_both network s.state entries mid.state later t.state (acts_run network s obeys.meaning first entries mid obeys.acts) (prints_run network (number + 1) (before + length line) mid lines rest later t prints))
+    (runs_both network s.state entries mid.state later t.state (acts_run network s obeys.meaning obeys.text entries mid obeys.acts) (prints_run network explain (number + 1) (before + length line) mid lines rest later t prints))
 
 -- the chain theorem of a script
-abbrev pub obeyed : (scheme : Scheme) (network : Network) (start : State) (lines : List (List ℕ)) (out : List ℕ) (history : List Entry) (scene : Scene) → Prints network 1 0 (first_scene scheme network start) lines out history scene → AreObeyed scheme network start lines out
-obeyed scheme network start lines out history scene prints = record {
+abbrev pub obeyed : (options : Options) (network : Network) (start : State) (lines : List (List ℕ)) (out : List ℕ) (history : List Entry) (scene : Scene) → Prints network options.explain 1 0 (first_scene options.scheme network start) lines out history scene → AreObeyed options network start lines out
+obeyed options network start lines out history scene prints = record {
   scene = scene;
   history = history;
   prints = prints;
-  run = prints_run network 1 0 (first_scene scheme network start) lines out history scene prints;
+  run = prints_run network options.explain 1 0 (first_scene options.scheme network start) lines out history scene prints;
   theorem = λ opens past legal. theorem_of_legal network (past ++ history) scene.state opens
-      (runs_both network (opening network) past start history scene.state legal (prints_run network 1 0 (first_scene scheme network start) lines out history scene prints));
+      (runs_both network (opening network) past start history scene.state legal (prints_run network options.explain 1 0 (first_scene options.scheme network start) lines out history scene prints));
 }

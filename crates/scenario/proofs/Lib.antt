@@ -11,6 +11,7 @@ pub mod SendRuns
 pub mod ForCallers
 pub mod SubmissionLines
 pub mod ShortLines
+pub mod NoteLines
 pub mod AssetLines
 pub mod AnswerLines
 pub mod BalanceSums

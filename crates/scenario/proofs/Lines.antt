@@ -56,31 +56,31 @@ line_and_rest [] = refl
 line_and_rest (x ∷ xs) = rest_bit x xs (nat_eq x 10) (line_and_rest xs)
 
 -- no line is read yet
-at_start : (network : Network) (number before : ℕ) (s t : Scene) (line first : List ℕ) (entries : List Entry) (u : Scene) → t ≡ s → Obeys network (number + 0) (before + 0) t line first entries u → Obeys network number before s line first entries u
-at_start network number before s t line first entries u same obeys =
-    let there : Obeys network (number + 0) (before + 0) s line first entries u = subst (λ (x : Scene). Obeys network (number + 0) (before + 0) x line first entries u) same obeys in
-    let counted : Obeys network number (before + 0) s line first entries u = subst (λ (n : ℕ). Obeys network n (before + 0) s line first entries u) (omega arith) there in
-    subst (λ (n : ℕ). Obeys network number n s line first entries u) (omega arith) counted
+at_start : (network : Network) (explain : Bool) (number before : ℕ) (s t : Scene) (line first : List ℕ) (entries : List Entry) (u : Scene) → t ≡ s → Obeys network explain (number + 0) (before + 0) t line first entries u → Obeys network explain number before s line first entries u
+at_start network explain number before s t line first entries u same obeys =
+    let there : Obeys network explain (number + 0) (before + 0) s line first entries u = subst (λ (x : Scene). Obeys network explain (number + 0) (before + 0) x line first entries u) same obeys in
+    let counted : Obeys network explain number (before + 0) s line first entries u = subst (λ (n : ℕ). Obeys network explain n (before + 0) s line first entries u) (omega arith) there in
+    subst (λ (n : ℕ). Obeys network explain number n s line first entries u) (omega arith) counted
 
 -- bytes before the last line, counted with those of the first
 size_of_first : (before : ℕ) (l : List ℕ) (ls : List (List ℕ)) → before + length (concat (l ∷ ls)) ≡ (before + length l) + length (concat ls)
 size_of_first before l ls = omega (arith, length-append l (concat ls))
 
 -- one more line
-pub prints_more : (network : Network) (number before : ℕ) (s : Scene) (lines : List (List ℕ)) (out : List ℕ) (history : List Entry) (t : Scene) (line first : List ℕ) (entries : List Entry) (u : Scene) → Prints network number before s lines out history t
-    → Obeys network (number + length lines) (before + length (concat lines)) t line first entries u → Prints network number before s (lines ++ line ∷ []) (out ++ first) (history ++ entries) u
-prints_more network number before s [] out history t line first entries u (empty, none, same) obeys =
-    (first, [], entries, [], u, at_start network number before s t line first entries u same obeys, (refl, refl, refl), ap (λ (l : List ℕ). l ++ first) empty ∙ sym (append-nil first), ap (λ (l : List Entry). l ++ entries) none ∙ sym (append-nil entries))
-prints_more network number before s (l ∷ ls) out history t line first entries u (one, rest, told, later, mid, obeys_one, prints, is, all) obeys =
-    let sized : Obeys network (number + length (l ∷ ls)) ((before + length l) + length (concat ls)) t line first entries u = subst (λ (n : ℕ). Obeys network (number + length (l ∷ ls)) n t line first entries u) (size_of_first before l ls) obeys in
-    let after : Obeys network ((number + 1) + length ls) ((before + length l) + length (concat ls)) t line first entries u = subst (λ (n : ℕ). Obeys network n ((before + length l) + length (concat ls)) t line first entries u) (omega arith) sized in (
+pub prints_more : (network : Network) (explain : Bool) (number before : ℕ) (s : Scene) (lines : List (List ℕ)) (out : List ℕ) (history : List Entry) (t : Scene) (line first : List ℕ) (entries : List Entry) (u : Scene) → Prints network explain number before s lines out history t
+    → Obeys network explain (number + length lines) (before + length (concat lines)) t line first entries u → Prints network explain number before s (lines ++ line ∷ []) (out ++ first) (history ++ entries) u
+prints_more network explain number before s [] out history t line first entries u (empty, none, same) obeys =
+    (first, [], entries, [], u, at_start network explain number before s t line first entries u same obeys, (refl, refl, refl), ap (λ (l : List ℕ). l ++ first) empty ∙ sym (append-nil first), ap (λ (l : List Entry). l ++ entries) none ∙ sym (append-nil entries))
+prints_more network explain number before s (l ∷ ls) out history t line first entries u (one, rest, told, later, mid, obeys_one, prints, is, all) obeys =
+    let sized : Obeys network explain (number + length (l ∷ ls)) ((before + length l) + length (concat ls)) t line first entries u = subst (λ (n : ℕ). Obeys network explain (number + length (l ∷ ls)) n t line first entries u) (size_of_first before l ls) obeys in
+    let after : Obeys network explain ((number + 1) + length ls) ((before + length l) + length (concat ls)) t line first entries u = subst (λ (n : ℕ). Obeys network explain n ((before + length l) + length (concat ls)) t line first entries u) (omega arith) sized in (
       one,
       rest ++ first,
       told,
       later ++ entries,
       mid,
       obeys_one,
-      prints_more network (number + 1) (before + length l) mid ls rest later t line first entries u prints after,
+      prints_more network explain (number + 1) (before + length l) mid ls rest later t line first entries u prints after,
       ap (λ (l : List ℕ). l ++ first) is ∙ append_assoc one rest first,
       ap (λ (l : List Entry). l ++ entries) all ∙ append_assoc told later entries,
     )

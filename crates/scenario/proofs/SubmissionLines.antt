@@ -1,5 +1,5 @@
 -- Lines in which a transaction is submitted, a block is forged, and the mempool is printed.
-use Rattle.std.proofs.Common.{◌≡◌, ℕ, List, [], ◌∷◌, ◌++◌, map, Option, Some, Result, Ok, Err, length, refl, sym, ap, subst, ◌∙◌, append_assoc, append-nil}
+use Rattle.std.proofs.Common.{◌≡◌, ℕ, Bool, List, [], ◌∷◌, ◌++◌, map, Option, Some, Result, Ok, Err, length, refl, sym, ap, subst, ◌∙◌, append_assoc, append-nil}
 use Rattle.std.specs.Prelude.{decimal, codes}
 use Rattle.std.specs.Arc.{arc_value}
 use Rattle.std.specs.declared.alloc.Global.{Global}
@@ -25,18 +25,27 @@ use Rattle.scenario.specs.declared.session.Session.{Session}
 use Rattle.scenario.specs.Print.{submission_text, ForgedBlock, NoBlock, NoMemory, forging_text, tx_names_text, mempool_text}
 use Rattle.scenario.specs.ForgeView.{code_answer_text}
 use Rattle.scenario.specs.Run.{Scene, names_forged, entry}
-use Rattle.scenario.specs.SessionView.{Holds, Done, Forges}
+use Rattle.scenario.specs.Notes.{IsNote}
+use Rattle.scenario.specs.NoteView.{AppendsNote}
+use Rattle.scenario.specs.SessionView.{Holds, Done, Told, Forges}
 
 -- ---- submissions
 
-pub submission_acted : {S : Type 0} (network : Network) (s : Scene) (name : List ℕ) (tx : Transaction) (reply : Reply) (out : List ℕ) (new : Session S) → out ≡ submission_text name reply → AreNamed new.names s.names
-    → (t : State) × Step network s.state (Submit (text_of (item_of_transaction tx))) reply t × Stands new.core t
-    → Done network s (SubmitsTx name tx) out new
-submission_acted network s name tx reply out new printed names (t, step, stands) = record {
-  entries = entry (Submit (text_of (item_of_transaction tx))) reply;
-  scene = record { state = t; names = s.names };
-  acts = (reply, record { step = step; names = refl }, printed, refl);
-  holds = record { stands = stands; names = names };
+pub submission_told : {S : Type 0} (network : Network) (explain : Bool) (s : Scene) (name : List ℕ) (tx : Transaction) (reply : Reply) (old out : List ℕ) (new : Session S) → old ≡ [] → AreNamed new.names s.names
+    → (step : (t : State) × Step network s.state (Submit (text_of (item_of_transaction tx))) reply t × Stands new.core t)
+    → AppendsNote (old ++ submission_text name reply) out (IsNote network explain s.names.of_bytes s.state (entry (Submit (text_of (item_of_transaction tx))) reply) step.0)
+    → Told network explain s (SubmitsTx name tx) out new
+submission_told network explain s name tx reply old out new empty names (t, step, stands) noted = record {
+  text = submission_text name reply;
+  done = record {
+    entries = entry (Submit (text_of (item_of_transaction tx))) reply;
+    scene = record { state = t; names = s.names };
+    acts = (reply, record { step = step; names = refl }, refl, refl);
+    holds = record { stands = stands; names = names };
+  };
+  note = noted.note;
+  is_note = noted.is_note;
+  printed = noted.behind ∙ ap (λ (bs : List ℕ). (bs ++ submission_text name reply) ++ noted.note) empty;
 }
 
 -- the text of the transaction was submitted

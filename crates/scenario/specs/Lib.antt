@@ -2,6 +2,8 @@ pub mod Pieces
 pub mod Print
 pub mod ForgeView
 pub mod Answers
+pub mod Notes
+pub mod NoteView
 pub mod Balances
 pub mod Gathered
 pub mod Run

@@ -1,6 +1,6 @@
 -- What a script prints, and how its run ends.
-use Rattle.std.specs.Prelude.{◌≡◌, ◌≢◌, ◌⊎◌, ℕ, ◌+◌, ◌<◌, List, [], ◌∷◌, ◌++◌, length, Option, Some, None, Result, Ok}
-use Rattle.std.specs.Prelude.{Err}
+use Rattle.std.specs.Prelude.{◌≡◌, ◌≢◌, ◌⊎◌, ℕ, Bool, ◌+◌, ◌<◌, List, [], ◌∷◌, ◌++◌, length, Option, Some, None}
+use Rattle.std.specs.Prelude.{Result, Ok, Err}
 use Rattle.std.specs.List.{concat}
 use Rattle.std.specs.Io.KnownBytes.{Appends}
 use Rattle.model.specs.Cbor.{text_of}
@@ -19,6 +19,7 @@ use Rattle.script.specs.declared.fault.LineFault.{LineFault}
 use Rattle.script.specs.declared.fault.LineFault.TheVariants.{BadLine}
 use Rattle.script.specs.declared.stop.Stop.{Stop}
 use Rattle.script.specs.declared.stop.Stop.TheVariants as stop
+use Rattle.scenario.specs.declared.options.Options.{Options}
 use Rattle.scenario.specs.declared.fault.ScenarioFault.{ScenarioFault}
 use Rattle.scenario.specs.declared.fault.ScenarioFault.TheVariants as fault
 use Rattle.script.specs.Text.{lines_of}
@@ -31,6 +32,7 @@ use Rattle.scenario.specs.Print.{arrival_text, submission_text, ForgeAnswer, For
 use Rattle.scenario.specs.Print.{forge_answer_text, forging_text, mempool_text, open_text, tip_text, utxo_text}
 use Rattle.scenario.specs.Print.{IsNextText, forwarding_text, closing_text}
 use Rattle.scenario.specs.Answers.{why_text, where_text}
+use Rattle.scenario.specs.Notes.{IsNote}
 use Rattle.scenario.specs.Balances.{outputs_of_address, IsBalanceText}
 
 -- the node's state with the names that are bound
@@ -145,21 +147,27 @@ Acts network s (PrintsBalance owner address) out entries t = (ledger : Ledger)
     × (ledger_of network s.state.chain ≡ Some ledger)
     × IsBalanceText (outputs_of_address address ledger.utxo) owner out × (entries ≡ []) × (t ≡ s)
 
--- a line of this number after so many bytes has no fault, and prints so
-pub record Obeys (network : Network) (number before : ℕ) (s : Scene) (line out : List ℕ) (entries : List Entry)
-    (t : Scene) : Type 0 where
+-- a line of this number after so many bytes has no fault, and prints so: its text, and behind it the note on its event,
+-- if the script is explained
+pub record Obeys (network : Network) (explain : Bool) (number before : ℕ) (s : Scene) (line out : List ℕ)
+    (entries : List Entry) (t : Scene) : Type 0 where
   pub meaning : Meaning
   pub is_meant : Means number before s.names line (Ok meaning)
-  pub acts : Acts network s meaning out entries t
+  pub text : List ℕ
+  pub acts : Acts network s meaning text entries t
+  pub note : List ℕ
+  pub is_note : IsNote network explain t.names.of_bytes s.state entries t.state note
+  pub printed : out ≡ text ++ note
 
 -- lines from this number on, after so many bytes, print so, one after the other, and this is the history of their
 -- events with the replies that are printed
-abbrev pub Prints : Network → (number before : ℕ) → Scene → List (List ℕ) → List ℕ → List Entry → Scene → Type 0
-Prints network number before s [] out history t = (out ≡ []) × (history ≡ []) × (t ≡ s)
-Prints network number before s (line ∷ lines) out history t = (first rest : List ℕ) × (entries later : List Entry)
-    × (mid : Scene)
-    × Obeys network number before s line first entries mid
-    × Prints network (number + 1) (before + length line) mid lines rest later t
+abbrev pub Prints : Network → (explain : Bool) → (number before : ℕ) → Scene → List (List ℕ) → List ℕ → List Entry
+    → Scene → Type 0
+Prints network explain number before s [] out history t = (out ≡ []) × (history ≡ []) × (t ≡ s)
+Prints network explain number before s (line ∷ lines) out history t =
+    (first rest : List ℕ) × (entries later : List Entry) × (mid : Scene)
+    × Obeys network explain number before s line first entries mid
+    × Prints network explain (number + 1) (before + length line) mid lines rest later t
     × (out ≡ first ++ rest) × (history ≡ entries ++ later)
 
 -- Lines from the beginning of a script, which finds the node in this state, are obeyed and print so. Their events with
@@ -167,11 +175,11 @@ Prints network number before s (line ∷ lines) out history t = (first rest : Li
 -- the node was opened on a valid chain, the chain theorem holds of every legal history that led to the state with these
 -- behind it: that is a legal history, the selected chain is valid, and none is longer, the mempool is valid on it, and
 -- each follower follows it.
-pub record AreObeyed (scheme : Scheme) (network : Network) (start : State) (lines : List (List ℕ)) (out : List ℕ)
+pub record AreObeyed (options : Options) (network : Network) (start : State) (lines : List (List ℕ)) (out : List ℕ)
     : Type 0 where
   pub scene : Scene
   pub history : List Entry
-  pub prints : Prints network 1 0 (first_scene scheme network start) lines out history scene
+  pub prints : Prints network options.explain 1 0 (first_scene options.scheme network start) lines out history scene
   pub run : IsRun network start history scene.state
   pub theorem : IsOpening network → (past : List Entry) → IsLegal network past start
       → ChainTheorem network (past ++ history) scene.state
@@ -202,7 +210,7 @@ IsLeftBy network s means t = (t ≡ s) ⊎ ((meaning : Meaning) × means (Ok mea
 -- ---- ends of a script that finds the node in one state, and leaves it in another
 
 -- the line of this number is the first one with a fault, the lines before it print so, and what comes after it is left
-pub record StopsAt (scheme : Scheme) (network : Network) (start : State) (text left : List ℕ) (number : ℕ)
+pub record StopsAt (options : Options) (network : Network) (start : State) (text left : List ℕ) (number : ℕ)
     (fault : LineFault) (out : List ℕ) (end : State) : Type 0 where
   pub before : List (List ℕ)
   pub line : List ℕ
@@ -210,14 +218,14 @@ pub record StopsAt (scheme : Scheme) (network : Network) (start : State) (text l
   pub lines : lines_of text ≡ before ++ line ∷ after
   pub read : text ≡ concat before ++ (line ++ left)
   pub counted : length before + 1 ≡ number
-  pub obeyed : AreObeyed scheme network start before out
+  pub obeyed : AreObeyed options network start before out
   pub is_fault : Means number (length (concat before)) obeyed.scene.names line (Err fault)
   pub is_end : end ≡ obeyed.scene.state
 
 -- all lines print so, and they leave a transaction without its end, which was begun in the line of this number
-pub record IsUnended (scheme : Scheme) (network : Network) (start : State) (text : List ℕ) (number : ℕ) (out : List ℕ)
+pub record IsUnended (options : Options) (network : Network) (start : State) (text : List ℕ) (number : ℕ) (out : List ℕ)
     (end : State) : Type 0 where
-  pub obeyed : AreObeyed scheme network start (lines_of text) out
+  pub obeyed : AreObeyed options network start (lines_of text) out
   pub made : OpenTx
   pub is_made : obeyed.scene.names.making ≡ Some made
   pub line : made.line ≡ number
@@ -225,34 +233,34 @@ pub record IsUnended (scheme : Scheme) (network : Network) (start : State) (text
 
 -- Some first lines of the text were read, and then a piece of the next one, or none; `left` is what is left of the
 -- text. What was written is exactly what the lines print.
-pub record BreaksOff (scheme : Scheme) (network : Network) (start : State) (text left out : List ℕ) : Type 0 where
+pub record BreaksOff (options : Options) (network : Network) (start : State) (text left out : List ℕ) : Type 0 where
   pub lines : List (List ℕ)
   pub after : List (List ℕ)
   pub begins : lines_of text ≡ lines ++ after
   pub more : List ℕ
   pub piece : IsPiece more
   pub read : text ≡ concat lines ++ (more ++ left)
-  pub obeyed : AreObeyed scheme network start lines out
+  pub obeyed : AreObeyed options network start lines out
 
 -- The same where no more was read: the state is the one that the lines leave.
-pub record StopsReading (scheme : Scheme) (network : Network) (start : State) (text left out : List ℕ) (end : State)
+pub record StopsReading (options : Options) (network : Network) (start : State) (text left out : List ℕ) (end : State)
     : Type 0 where
-  pub broken : BreaksOff scheme network start text left out
+  pub broken : BreaksOff options network start text left out
   pub is_end : end ≡ broken.obeyed.scene.state
 
 -- The same where memory ran out: if the bytes more are a line with its line feed, that line has no fault, but that it
 -- may not be built where only memory tells. The state is the one that the lines before it leave, or its event did
 -- happen, and nothing that it prints was written.
-pub record RunsShort (scheme : Scheme) (network : Network) (start : State) (text left out : List ℕ) (end : State)
+pub record RunsShort (options : Options) (network : Network) (start : State) (text left out : List ℕ) (end : State)
     : Type 0 where
-  pub broken : BreaksOff scheme network start text left out
+  pub broken : BreaksOff options network start text left out
   pub has_no_fault : (content : List ℕ) → broken.more ≡ content ++ 10 ∷ []
       → HasNoFault (length broken.lines + 1) (length (concat broken.lines)) broken.obeyed.scene.names broken.more
   pub is_end : IsLeftBy network broken.obeyed.scene.state
       (Means (length broken.lines + 1) (length (concat broken.lines)) broken.obeyed.scene.names broken.more) end
 
 -- of what the last line prints that was read a part was written, and not all; of those before it all
-pub record StopsWriting (scheme : Scheme) (network : Network) (start : State) (text left out : List ℕ) (end : State)
+pub record StopsWriting (options : Options) (network : Network) (start : State) (text left out : List ℕ) (end : State)
     : Type 0 where
   pub lines : List (List ℕ)
   pub line : List ℕ
@@ -261,8 +269,8 @@ pub record StopsWriting (scheme : Scheme) (network : Network) (start : State) (t
   pub read : text ≡ concat lines ++ (line ++ left)
   pub before : List ℕ
   pub printed : List ℕ
-  pub obeyed_before : AreObeyed scheme network start lines before
-  pub obeyed : AreObeyed scheme network start (lines ++ line ∷ []) (before ++ printed)
+  pub obeyed_before : AreObeyed options network start lines before
+  pub obeyed : AreObeyed options network start (lines ++ line ∷ []) (before ++ printed)
   pub part : List ℕ
   pub unwritten : List ℕ
   pub parts : printed ≡ part ++ unwritten
@@ -271,46 +279,48 @@ pub record StopsWriting (scheme : Scheme) (network : Network) (start : State) (t
   pub is_end : end ≡ obeyed.scene.state
 
 -- the end of a run without fault: what all lines of the text print was written, and no transaction is without its end
-pub record EndsWellFrom (scheme : Scheme) (network : Network) (start : State) (text : List ℕ)
+pub record EndsWellFrom (options : Options) (network : Network) (start : State) (text : List ℕ)
     (old new : Option (List ℕ)) (end : State) : Type 0 where
   pub out : List ℕ
   pub written : Appends old new out
-  pub obeyed : AreObeyed scheme network start (lines_of text) out
+  pub obeyed : AreObeyed options network start (lines_of text) out
   pub ended : obeyed.scene.names.making ≡ None
   pub is_end : end ≡ obeyed.scene.state
 
 -- what was written at a fault, where this is left of the text
-abbrev pub IsFaultOf : Scheme → Network → State → (text left out : List ℕ) → ScenarioFault → State → Type 0
-IsFaultOf scheme network start text left out (fault.Line number why) end =
-    StopsAt scheme network start text left number why out end
-    ⊎ ((why ≡ BadLine) × (left ≡ []) × IsUnended scheme network start text number out end)
-IsFaultOf scheme network start text left out fault.ReadFailed end = StopsReading scheme network start text left out end
-IsFaultOf scheme network start text left out fault.WriteFailed end = StopsWriting scheme network start text left out end
-IsFaultOf scheme network start text left out fault.OutOfMemory end = RunsShort scheme network start text left out end
+abbrev pub IsFaultOf : Options → Network → State → (text left out : List ℕ) → ScenarioFault → State → Type 0
+IsFaultOf options network start text left out (fault.Line number why) end =
+    StopsAt options network start text left number why out end
+    ⊎ ((why ≡ BadLine) × (left ≡ []) × IsUnended options network start text number out end)
+IsFaultOf options network start text left out fault.ReadFailed end =
+    StopsReading options network start text left out end
+IsFaultOf options network start text left out fault.WriteFailed end =
+    StopsWriting options network start text left out end
+IsFaultOf options network start text left out fault.OutOfMemory end = RunsShort options network start text left out end
 
 -- the end of a run by a fault
-pub record EndsByFrom (scheme : Scheme) (network : Network) (start : State) (text : List ℕ)
+pub record EndsByFrom (options : Options) (network : Network) (start : State) (text : List ℕ)
     (remaining old new : Option (List ℕ)) (why : ScenarioFault) (end : State) : Type 0 where
   pub left : List ℕ
   pub remains : remaining ≡ Some left
   pub out : List ℕ
   pub written : Appends old new out
-  pub is_fault : IsFaultOf scheme network start text left out why end
+  pub is_fault : IsFaultOf options network start text left out why end
 
 -- ---- ends of a script that finds a node to which nothing came since it was opened, on a valid chain
 
 -- the end of a run without fault
-pub record EndsWell (scheme : Scheme) (network : Network) (text : List ℕ) (old new : Option (List ℕ)) : Type 0 where
+pub record EndsWell (options : Options) (network : Network) (text : List ℕ) (old new : Option (List ℕ)) : Type 0 where
   pub opens : IsOpening network
   pub end : State
-  pub ends : EndsWellFrom scheme network (opening network) text old new end
+  pub ends : EndsWellFrom options network (opening network) text old new end
 
 -- the end of a run by a fault
-pub record EndsBy (scheme : Scheme) (network : Network) (text : List ℕ) (remaining old new : Option (List ℕ))
+pub record EndsBy (options : Options) (network : Network) (text : List ℕ) (remaining old new : Option (List ℕ))
     (why : ScenarioFault) : Type 0 where
   pub opens : IsOpening network
   pub end : State
-  pub ends : EndsByFrom scheme network (opening network) text remaining old new why end
+  pub ends : EndsByFrom options network (opening network) text remaining old new why end
 
 -- why the line of this number was not run
 abbrev pub fault_of : ℕ → Stop → ScenarioFault

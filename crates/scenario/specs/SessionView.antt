@@ -1,5 +1,5 @@
 -- Which scenes of the definitions a session stands for, and what it answers to a line.
-use Rattle.std.specs.Prelude.{◌≡◌, ℕ, Bool, List, Result, Ok, Err}
+use Rattle.std.specs.Prelude.{◌≡◌, ℕ, Bool, List, ◌++◌, Result, Ok, Err}
 use Rattle.std.specs.Global.{Vec}
 use Rattle.model.specs.Ledger.{Network}
 use Rattle.model.specs.History.{State, Entry}
@@ -14,6 +14,7 @@ use Rattle.script.specs.Meaning.{Meaning}
 use Rattle.chain_core.specs.declared.forging.ForgeFault.{ForgeFault}
 use Rattle.scenario.specs.Print.{ForgeAnswer, forge_answer_text}
 use Rattle.scenario.specs.ForgeView.{code_answer_text}
+use Rattle.scenario.specs.Notes.{IsNote}
 use Rattle.scenario.specs.Run.{Scene, IsForgeAnswer, names_forged, Acts, IsLeftBy}
 
 -- the core stands for the state, and the names for the names
@@ -50,17 +51,33 @@ IsDone network s meaning (Ok out) new = Done network s meaning out.items new
 IsDone network s meaning (Err (Fault fault)) new = ⊥
 IsDone network s meaning (Err OutOfMemory) new = IsShort network s.state (λ m. m ≡ Ok meaning) new.core
 
--- a line was obeyed as it means
-pub record Acted {S : Type 0} (network : Network) (s : Scene) (means : Result Meaning LineFault → Type 0) (out : List ℕ)
+-- what is meant was done, and printed so, with the note on its event behind it, if it is explained
+pub record Told {S : Type 0} (network : Network) (explain : Bool) (s : Scene) (meaning : Meaning) (out : List ℕ)
     (new : Session S) : Type 0 where
+  pub text : List ℕ
+  pub done : Done network s meaning text new
+  pub note : List ℕ
+  pub is_note : IsNote network explain done.scene.names.of_bytes s.state done.entries done.scene.state note
+  pub printed : out ≡ text ++ note
+
+-- the same of a request of which more may be told
+abbrev pub IsTold : {S : Type 0} → Network → (explain : Bool) → Scene → Meaning → Result (Vec ℕ) Stop → Session S
+    → Type 0
+IsTold network explain s meaning (Ok out) new = Told network explain s meaning out.items new
+IsTold network explain s meaning (Err (Fault fault)) new = ⊥
+IsTold network explain s meaning (Err OutOfMemory) new = IsShort network s.state (λ m. m ≡ Ok meaning) new.core
+
+-- a line was obeyed as it means
+pub record Acted {S : Type 0} (network : Network) (explain : Bool) (s : Scene)
+    (means : Result Meaning LineFault → Type 0) (out : List ℕ) (new : Session S) : Type 0 where
   pub meaning : Meaning
   pub is_meant : means (Ok meaning)
-  pub done : Done network s meaning out new
+  pub told : Told network explain s meaning out new
 
 -- What was answered to a line that means this: what it prints; its fault, where nothing happened to the core; or that
 -- memory ran out, which says that it has no fault but one that only memory tells.
-abbrev pub IsObeyed : {S : Type 0} → Network → Scene → (Result Meaning LineFault → Type 0) → (late : Bool)
-    → Result (Vec ℕ) Stop → Session S → Type 0
-IsObeyed network s means late (Ok out) new = Acted network s means out.items new
-IsObeyed network s means late (Err (Fault fault)) new = means (Err fault) × Stands new.core s.state
-IsObeyed network s means late (Err OutOfMemory) new = Lacks means late × IsShort network s.state means new.core
+abbrev pub IsObeyed : {S : Type 0} → Network → (explain : Bool) → Scene → (Result Meaning LineFault → Type 0)
+    → (late : Bool) → Result (Vec ℕ) Stop → Session S → Type 0
+IsObeyed network explain s means late (Ok out) new = Acted network explain s means out.items new
+IsObeyed network explain s means late (Err (Fault fault)) new = means (Err fault) × Stands new.core s.state
+IsObeyed network explain s means late (Err OutOfMemory) new = Lacks means late × IsShort network s.state means new.core

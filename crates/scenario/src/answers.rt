@@ -54,7 +54,7 @@ fn print_invalid(
 }
 
 /// Appends why a block isn't selected.
-fn print_reason(line: &mut Vec<u8>, names: &Names, why: &Why) -> Result<(), AllocError>
+pub fn print_reason(line: &mut Vec<u8>, names: &Names, why: &Why) -> Result<(), AllocError>
     ensures { OnOk result ((all : AllNames) → AreNamed names.now all
         → line.new.items ≡ line.old.items ++ why_answer_text all.of_bytes (why_of why.now)) }
 {

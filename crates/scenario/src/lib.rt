@@ -1,9 +1,13 @@
-//! Scripts run on a node: each event and each question of a script prints one line, and a balance more.
+//! Scripts run on a node: each event and each question of a script prints one line, and a balance more. Where that is
+//! asked for, a line more tells why something was refused or isn't selected.
 #![tactic(auto)]
 
 mod answers;
 mod balance;
 mod fault;
+mod form;
+mod notes;
+mod options;
 mod output;
 mod print;
 mod runner;
@@ -12,6 +16,7 @@ mod sending;
 mod session;
 
 pub use fault::ScenarioFault;
+pub use options::Options;
 pub use runner::{run, run_from};
 pub use script::{LineFault, MAX_SCRIPT_SIZE};
 pub use send_lines::sends;

@@ -11,10 +11,11 @@ ghost use Rattle.scenario.specs.Handed.{RunsWell, RunsInto, HasRun};
 ghost use Rattle.script.specs.declared.fault.LineFault.TheVariants.{BadLine};
 
 use crate::fault::ScenarioFault;
+use crate::options::Options;
 use crate::output::{WriteStopped, write_all};
 use crate::session::Session;
 use chain_core::Core;
-use genesis::{Genesis, Scheme};
+use genesis::Genesis;
 use script::{LineFault, LinePlace, Stop};
 use std::alloc::Global;
 use std::io::{BufRead, Error, ErrorKind, Write};
@@ -57,21 +58,21 @@ pub fn unended(number: u64) -> ScenarioFault
     }
 }
 
-/// Runs the lines of a script in a session before the first one, which was begun for this scheme.
+/// Runs the lines of a script in a session before the first one, which was begun for the scheme of these options.
 fn run_lines<S: SigScheme, R: BufRead, W: Write>(
     alloc: Global,
-    scheme: Scheme,
+    options: Options,
     session: &mut Session<S>,
     reader: &mut R,
     writer: &mut W,
 ) -> Result<(), ScenarioFault>
-    requires { AreNamed session.now.names (no_names scheme session.now.core.genesis.params.network) }
+    requires { AreNamed session.now.names (no_names options.scheme session.now.core.genesis.params.network) }
     ensures ok { OnOk result (IfSome (R.remaining reader.old)
-        (λ text. RunsWell scheme S.verifies session.old.core session.new.core text (W.contents writer.old)
+        (λ text. RunsWell options S.verifies session.old.core session.new.core text (W.contents writer.old)
         (W.contents writer.new))) }
     ensures rest { OnOk result (IfSome (R.remaining reader.old) (λ _. R.remaining reader.new ≡ Some [])) }
     ensures fault { IfErr result (λ why. IfSome (R.remaining reader.old)
-        (λ text. RunsInto scheme S.verifies session.old.core session.new.core text (R.remaining reader.new)
+        (λ text. RunsInto options S.verifies session.old.core session.new.core text (R.remaining reader.new)
         (W.contents writer.old) (W.contents writer.new) why)) }
     ensures run { HasRun S.verifies session.old.core session.new.core }
     ensures network { network_held session.new.core S.verifies ≡ network_held session.old.core S.verifies }
@@ -88,7 +89,7 @@ fn run_lines<S: SigScheme, R: BufRead, W: Write>(
             }
             return Ok(());
         }
-        let printed = match session.obey(LinePlace { number, before }, &line) {
+        let printed = match session.obey(LinePlace { number, before }, &line, options.explain) {
             Ok(printed) => printed,
             Err(stop) => return Err(line_fault(number, stop)),
         };
@@ -102,14 +103,16 @@ fn run_lines<S: SigScheme, R: BufRead, W: Write>(
 }
 
 /// Runs a script line by line on a new network of this genesis. Whether a signature is good the core judges by `S`, and
-/// what the script signs it signs by `scheme`: give both the same, unless a script is to be run that signs by another.
+/// what the script signs it signs by the scheme of the options: give both the same, unless a script is to be run that
+/// signs by another.
 /// What each line prints is written before the next line is read, and the first fault ends the run; what was written
 /// before stands. Where there is no memory for the outputs of the genesis, nothing is read.
 ///
 /// ```text
 /// let mut script = b"block A1 genesis 1\narrive A1\ntip\n".as_slice();
 /// let mut out = Vec::new(alloc);
-/// scenario::run::<TestScheme, _, _>(alloc, genesis, Scheme::Test, &mut script, &mut out)?;
+/// let options = Options::plain(Scheme::Test);
+/// scenario::run::<TestScheme, _, _>(alloc, genesis, options, &mut script, &mut out)?;
 /// // arrive A1: kept back 0 added 1, and then tip: 1 A1
 /// ```
 ///
@@ -119,27 +122,27 @@ fn run_lines<S: SigScheme, R: BufRead, W: Write>(
 pub fn run<S: SigScheme, R: BufRead, W: Write>(
     alloc: Global,
     genesis: Genesis,
-    scheme: Scheme,
+    options: Options,
     reader: &mut R,
     writer: &mut W,
 ) -> Result<(), ScenarioFault>
     // Without a fault, what was written is what all lines of the text print, and the chain theorem holds of their
     // events.
     ensures ok { OnOk result (IfSome (R.remaining reader.old)
-        (λ text. EndsWell scheme (network_of genesis S.verifies) text (W.contents writer.old)
+        (λ text. EndsWell options (network_of genesis S.verifies) text (W.contents writer.old)
         (W.contents writer.new))) }
     // The whole text was then read.
     ensures rest { OnOk result (IfSome (R.remaining reader.old) (λ _. R.remaining reader.new ≡ Some [])) }
     // At a fault of the script it is the first one, and what comes after its line is left in the reader. In each case
     // the chain theorem holds of the lines that were obeyed.
     ensures fault { IfErr result (λ why. IfSome (R.remaining reader.old)
-        (λ text. EndsBy scheme (network_of genesis S.verifies) text (R.remaining reader.new) (W.contents writer.old)
+        (λ text. EndsBy options (network_of genesis S.verifies) text (R.remaining reader.new) (W.contents writer.old)
         (W.contents writer.new) why)) }
 {
-    let Ok(mut session) = Session::<S>::new(alloc, genesis, scheme) else {
+    let Ok(mut session) = Session::<S>::new(alloc, genesis, options.scheme) else {
         return Err(ScenarioFault::OutOfMemory);
     };
-    run_lines(alloc, scheme, &mut session, reader, writer)
+    run_lines(alloc, options, &mut session, reader, writer)
 }
 
 /// Runs a script line by line, as [`run`] does, on a core of this genesis to which something may have come before.
@@ -150,12 +153,12 @@ pub fn run<S: SigScheme, R: BufRead, W: Write>(
 ///
 /// ```text
 /// let mut more = b"block A2 genesis 2\narrive A2\n".as_slice();
-/// let (core, result) = scenario::run_from(alloc, &genesis, Scheme::Test, core, &mut more, &mut out);
+/// let (core, result) = scenario::run_from(alloc, &genesis, options, core, &mut more, &mut out);
 /// ```
 pub fn run_from<S: SigScheme, R: BufRead, W: Write>(
     alloc: Global,
     genesis: &Genesis,
-    scheme: Scheme,
+    options: Options,
     core: Core<S>,
     reader: &mut R,
     writer: &mut W,
@@ -164,20 +167,20 @@ pub fn run_from<S: SigScheme, R: BufRead, W: Write>(
     // Without a fault, from every state of the definitions that the core stood for on: what was written is what all
     // lines of the text print there, and the core stands for the state in which that ends.
     ensures ok { OnOk result.1 (IfSome (R.remaining reader.old)
-        (λ text. RunsWell scheme S.verifies core result.0 text (W.contents writer.old) (W.contents writer.new))) }
+        (λ text. RunsWell options S.verifies core result.0 text (W.contents writer.old) (W.contents writer.new))) }
     // The whole text was then read.
     ensures rest { OnOk result.1 (IfSome (R.remaining reader.old) (λ _. R.remaining reader.new ≡ Some [])) }
     // At a fault of the script it is the first one, and what comes after its line is left in the reader. The core
     // stands for the state that the lines before it left, and where memory ran out in a line, for that state or the one
     // after the line's event.
     ensures fault { IfErr result.1 (λ why. IfSome (R.remaining reader.old)
-        (λ text. RunsInto scheme S.verifies core result.0 text (R.remaining reader.new) (W.contents writer.old)
+        (λ text. RunsInto options S.verifies core result.0 text (R.remaining reader.new) (W.contents writer.old)
         (W.contents writer.new) why)) }
     // Whatever was read, the definitions' steps lead to the core that is given back.
     ensures run { HasRun S.verifies core result.0 }
     ensures start { KeepsStart core result.0 }
 {
-    let mut session = Session::on(alloc, genesis, scheme, core);
-    let result = run_lines(alloc, scheme, &mut session, reader, writer);
+    let mut session = Session::on(alloc, genesis, options.scheme, core);
+    let result = run_lines(alloc, options, &mut session, reader, writer);
     (session.into_core(), result)
 }

@@ -1,9 +1,9 @@
 //! The node with the names of a script.
 
-ghost use Rattle.std.specs.Prelude.{◌≡◌, ◌+◌, ◌≤◌, [], None, Some, IfOk, IfErr, OnOk, length, map, option_map};
+ghost use Rattle.std.specs.Prelude.{◌≡◌, ◌+◌, ◌≤◌, [], ◌++◌, None, Some, IfOk, IfErr, OnOk, length, map, option_map};
 ghost use Rattle.model.specs.Cbor.{text_of};
 ghost use Rattle.model.specs.Transaction.{Transaction, item_of_transaction};
-ghost use Rattle.model.specs.History.{Arrive, Submit};
+ghost use Rattle.model.specs.History.{State, Arrive, Submit, Step};
 ghost use Rattle.model.specs.Ledger.{network_of};
 ghost use Rattle.chain_core.specs.Held.{Stands, network_held};
 ghost use Rattle.chain_core.specs.Steps.{Steps, KeepsStart};
@@ -18,11 +18,16 @@ ghost use Rattle.tx.specs.View.{address_of};
 ghost use Rattle.script.specs.Meaning.{formed, is_late_line, Means, parse_within};
 ghost use Rattle.script.specs.RequestView.{AreNamed, HasFollowerRoom};
 ghost use Rattle.script.specs.Text.{script_size_limit};
-ghost use Rattle.scenario.specs.Run.{Scene, opening_scene};
-ghost use Rattle.scenario.specs.SessionView.{Forges, Holds, IsDone, IsObeyed};
+ghost use Rattle.scenario.specs.Print.{arrival_text, submission_text};
+ghost use Rattle.scenario.specs.Notes.{IsNote};
+ghost use Rattle.scenario.specs.NoteView.{AppendsNote};
+ghost use Rattle.scenario.specs.Run.{Scene, entry, opening_scene};
+ghost use Rattle.scenario.specs.SessionView.{Forges, Holds, IsDone, IsObeyed, IsTold};
 
 use crate::answers::{print_where, print_why};
 use crate::balance::balance_lines;
+use crate::form::formed;
+use crate::notes::{note_arrival, note_submission};
 use crate::print::{
     print_arrival, print_closing, print_forging, print_forwarding, print_mempool, print_next,
     print_open, print_submission, print_tip, print_utxo,
@@ -36,8 +41,8 @@ use std::alloc::{AllocError, Global};
 use tx::Address;
 use witness_pool::SigScheme;
 
-/// What a line prints is at most its own name longer than this, whose numbers are the greatest ones. A name that a
-/// follower is told has at most 16 letters, and is shorter than these numbers.
+/// What a line prints, a note aside, is at most its own name longer than this, whose numbers are the greatest ones. A
+/// name that a follower is told has at most 16 letters, and is shorter than these numbers.
 const LONGEST_LINE: &[u8] =
     b"arrive-ext : kept back 18446744073709551615 added 18446744073709551615\n";
 
@@ -56,21 +61,6 @@ impl<S: SigScheme> Drop for Session<S> {
             core: _,
             names: _,
         } = self;
-    }
-}
-
-/// The bytes that arrive.
-fn formed(alloc: Global, form: Form, bytes: &[u8]) -> Result<Vec<u8>, AllocError>
-    ensures { IfOk result (λ b. b.items ≡ formed form bytes.now) }
-{
-    match form {
-        Form::Whole => Vec::from_slice(alloc, bytes),
-        Form::Cut => Vec::from_slice(alloc, &bytes[..bytes.len().saturating_sub(1)]),
-        Form::Extended => {
-            let mut extended = Vec::from_slice(alloc, bytes)?;
-            extended.push(0)?;
-            Ok(extended)
-        }
     }
 }
 
@@ -186,33 +176,92 @@ impl<S: SigScheme> Session<S> {
         core
     }
 
-    /// The bytes of a name arrive. The room for what it prints is taken first.
-    fn arrive(&mut self, form: Form, name: Name<'_>) -> Result<Vec<u8>, Stop>
+    /// Appends what the arrival of the bytes of a name prints, with the note on it where it is explained.
+    fn print_arrived(
+        &self,
+        line: &mut Vec<u8>,
+        form: Form,
+        name: &[u8],
+        reply: Result<ArriveReply, AllocError>,
+        explain: bool,
+    ) -> Result<(), AllocError>
+        ensures { OnOk result ((all : AllNames) → AreNamed self.now.names all → (bound : Bound)
+            → bound_to name.now all.of_bytes ≡ Some bound → (s t : State) → Stands self.now.core t
+            → Step (network_held self.now.core S.verifies) s (Arrive (formed form bound.bytes)) (arrive_reply_of reply)
+            t → AppendsNote (line.old.items ++ arrival_text form name.now (arrive_reply_of reply)) line.new.items
+            (IsNote (network_held self.now.core S.verifies) explain all.of_bytes s
+            (entry (Arrive (formed form bound.bytes)) (arrive_reply_of reply)) t)) }
+    {
+        print_arrival(line, form, name, reply)?;
+        if explain {
+            let bytes = bytes_named(&self.names, name);
+            note_arrival(
+                self.alloc,
+                line,
+                &self.core,
+                &self.names,
+                form,
+                bytes,
+                reply,
+            )
+        } else {
+            Ok(())
+        }
+    }
+
+    /// The bytes of a name arrive. The room for its line is taken first; a note takes its own, behind the event.
+    fn arrive(&mut self, form: Form, name: Name<'_>, explain: bool) -> Result<Vec<u8>, Stop>
         ensures obeyed { (s : Scene) → Holds self.old s → (bound : Bound)
             → bound_to name.entry.text.now s.names.of_bytes ≡ Some bound
-            → IsDone (network_held self.old.core S.verifies) s (Arrives form name.entry.text.now bound.bytes)
+            → IsTold (network_held self.old.core S.verifies) explain s (Arrives form name.entry.text.now bound.bytes)
             result self.new }
         ensures start { KeepsStart self.old.core self.new.core }
     {
         let mut line = line_room(self.alloc, name)?;
         let bytes = bytes_named(&self.names, name.text);
         let reply = arrive(self.alloc, &mut self.core, form, bytes);
-        match print_arrival(&mut line, form, name.text, reply) {
+        match self.print_arrived(&mut line, form, name.text, reply, explain) {
             Ok(()) => Ok(line),
             Err(AllocError) => Err(Stop::OutOfMemory),
         }
     }
 
-    /// The transaction of a name is submitted. The room for what it prints is taken first.
-    fn submit(&mut self, name: Name<'_>) -> Result<Vec<u8>, Stop>
+    /// Appends what the submission of the transaction of a name prints, with the note on it where it is explained.
+    fn print_submitted(
+        &self,
+        line: &mut Vec<u8>,
+        name: &[u8],
+        reply: Result<SubmitReply, AllocError>,
+        explain: bool,
+    ) -> Result<(), AllocError>
+        ensures { OnOk result ((all : AllNames) → AreNamed self.now.names all → (tx : Transaction)
+            → bound_to name.now all.of_txs ≡ Some tx → (s t : State) → Stands self.now.core t
+            → Step (network_held self.now.core S.verifies) s (Submit (text_of (item_of_transaction tx)))
+            (submit_reply_of reply) t
+            → AppendsNote (line.old.items ++ submission_text name.now (submit_reply_of reply)) line.new.items
+            (IsNote (network_held self.now.core S.verifies) explain all.of_bytes s
+            (entry (Submit (text_of (item_of_transaction tx))) (submit_reply_of reply)) t)) }
+    {
+        print_submission(line, name, reply)?;
+        if explain {
+            note_submission(line, &self.core, &self.names, name, reply)
+        } else {
+            Ok(())
+        }
+    }
+
+    /// The transaction of a name is submitted. The room for its line is taken first; a note takes its own, behind the
+    /// event.
+    fn submit(&mut self, name: Name<'_>, explain: bool) -> Result<Vec<u8>, Stop>
         ensures obeyed { (s : Scene) → Holds self.old s → (tx : Transaction)
             → bound_to name.entry.text.now s.names.of_txs ≡ Some tx
-            → IsDone (network_held self.old.core S.verifies) s (SubmitsTx name.entry.text.now tx) result self.new }
+            → IsTold (network_held self.old.core S.verifies) explain s (SubmitsTx name.entry.text.now tx) result
+            self.new }
         ensures start { KeepsStart self.old.core self.new.core }
     {
         let mut line = line_room(self.alloc, name)?;
         let reply = submit(&mut self.core, &self.names, name.text);
-        match print_submission(&mut line, name.text, reply) {
+        match self.print_submitted(&mut line, name.text, reply, explain) {
             Ok(()) => Ok(line),
             Err(AllocError) => Err(Stop::OutOfMemory),
         }
@@ -381,9 +430,10 @@ impl<S: SigScheme> Session<S> {
         self.names.open_line()
     }
 
-    /// Obeys a line that stands here in its script, and answers what it prints.
-    pub fn obey(&mut self, at: LinePlace, line: &[u8]) -> Result<Vec<u8>, Stop>
-        ensures obeyed { (s : Scene) → Holds self.old s → IsObeyed (network_held self.old.core S.verifies) s
+    /// Obeys a line that stands here in its script, and answers what it prints, with a note behind it where it is
+    /// explained.
+    pub fn obey(&mut self, at: LinePlace, line: &[u8], explain: bool) -> Result<Vec<u8>, Stop>
+        ensures obeyed { (s : Scene) → Holds self.old s → IsObeyed (network_held self.old.core S.verifies) explain s
             (Means at.number at.before s.names line.now) (is_late_line (parse_within at.before line.now)) result
             self.new }
         ensures start { KeepsStart self.old.core self.new.core }
@@ -391,8 +441,8 @@ impl<S: SigScheme> Session<S> {
     {
         match self.names.obey(at, line) {
             Ok(Request::Nothing) => Ok(Vec::new(self.alloc)),
-            Ok(Request::Arrive { form, name }) => self.arrive(form, name),
-            Ok(Request::Submit { name }) => self.submit(name),
+            Ok(Request::Arrive { form, name }) => self.arrive(form, name, explain),
+            Ok(Request::Submit { name }) => self.submit(name, explain),
             Ok(Request::Forge { name, slot }) => self.forge(name, slot),
             Ok(Request::Open { name }) => self.open(name),
             Ok(Request::Next { name, id }) => self.next(name, id),

@@ -4,7 +4,7 @@
 use crate::network::{genesis, shown};
 use crate::told::Told;
 use genesis::Scheme;
-use scenario::ScenarioFault;
+use scenario::{Options, ScenarioFault};
 use std::alloc::Global;
 use witness_pool::TestScheme;
 
@@ -69,7 +69,7 @@ fn try_without(alloc: Global, left_out: Option<usize>) -> Option<Run> {
     let ended = scenario::run::<TestScheme, _, _>(
         alloc,
         genesis,
-        Scheme::Test,
+        Options::plain(Scheme::Test),
         &mut reader,
         &mut printed,
     );

@@ -6,4 +6,5 @@ pub mod Entries
 pub mod Check
 pub mod Texts
 pub mod DetailView
+pub mod Sentences
 pub mod Unbalanced

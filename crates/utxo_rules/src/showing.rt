@@ -1,6 +1,11 @@
 //! The parts of a detail as they are shown.
 
+ghost use Rattle.std.specs.Prelude.{Some};
+ghost use Rattle.utxo_rules.specs.DetailView.{asset_of};
+ghost use Rattle.utxo_rules.specs.Sentences.{asset_text, interval_text};
+
 use crate::detail::AssetId;
+use ident::Hex;
 use std::fmt;
 
 /// The slots in which a transaction holds.
@@ -11,26 +16,15 @@ pub struct Span {
 }
 
 impl fmt::Display for Span {
-    fn fmt<W: fmt::Write>(&self, f: &mut fmt::Formatter<W>) -> Result<(), fmt::Error> {
+    ghost output = { λ span. Some (interval_text span.start span.end) };
+
+    fn fmt<W: fmt::Write>(&self, f: &mut fmt::Formatter<W>) -> fmt::Result {
         match (self.start, self.end) {
             (Some(start), Some(end)) => write!(f, "from slot {start} on and before slot {end}"),
             (Some(start), None) => write!(f, "from slot {start} on"),
             (None, Some(end)) => write!(f, "before slot {end}"),
             (None, None) => f.write_str("all slots"),
         }
-    }
-}
-
-/// Bytes, in lower case hexadecimal.
-#[derive(Drop)]
-pub struct Bytes<'a>(pub &'a [u8]);
-
-impl<'a> fmt::Display for Bytes<'a> {
-    fn fmt<W: fmt::Write>(&self, f: &mut fmt::Formatter<W>) -> Result<(), fmt::Error> {
-        for byte in self.0 {
-            write!(f, "{byte:02x}")?;
-        }
-        Ok(())
     }
 }
 
@@ -41,11 +35,19 @@ pub struct Name<'a> {
 }
 
 impl<'a> fmt::Display for Name<'a> {
-    fn fmt<W: fmt::Write>(&self, f: &mut fmt::Formatter<W>) -> Result<(), fmt::Error> {
+    ghost output = { λ name. Some (asset_text (asset_of name.asset.now)) };
+
+    fn fmt<W: fmt::Write>(&self, f: &mut fmt::Formatter<W>) -> fmt::Result {
         match self.asset {
             None => f.write_str("ada"),
-            Some(asset) if asset.name.is_empty() => write!(f, "{}", asset.policy),
-            Some(asset) => write!(f, "{}.{}", asset.policy, Bytes(&asset.name)),
+            Some(asset) => {
+                let policy = asset.policy;
+                if asset.name.is_empty() {
+                    return write!(f, "{policy}");
+                }
+                let name = Hex(&asset.name);
+                write!(f, "{policy}.{name}")
+            }
         }
     }
 }

@@ -6,7 +6,7 @@ use super::fixture::{MEMORY, SMALL_NETWORK};
 use super::script_tests::is_end;
 use chain_core::Core;
 use genesis::{Genesis, Scheme};
-use scenario::{LineFault, ScenarioFault, run_from};
+use scenario::{LineFault, Options, ScenarioFault, run_from};
 use std::process::Abort;
 use witness_pool::TestScheme;
 
@@ -49,7 +49,7 @@ fn ends_on(
     let (core, result) = run_from(
         rt.alloc(),
         genesis,
-        Scheme::Test,
+        Options::plain(Scheme::Test),
         core,
         &mut reader,
         &mut out,

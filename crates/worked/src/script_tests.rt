@@ -2,7 +2,7 @@
 
 use super::fixture::{MEMORY, SMALL_NETWORK};
 use genesis::{Genesis, Scheme};
-use scenario::{LineFault, ScenarioFault, run};
+use scenario::{LineFault, Options, ScenarioFault, run};
 use std::alloc::Global;
 use std::io::{BufRead, Write};
 use std::process::Abort;
@@ -19,7 +19,7 @@ pub fn run_script<R: BufRead, W: Write>(
     let Ok(genesis) = Genesis::from_toml(alloc, SMALL_NETWORK) else {
         return Err(ScenarioFault::OutOfMemory);
     };
-    run::<TestScheme, _, _>(alloc, genesis, Scheme::Test, reader, writer)
+    run::<TestScheme, _, _>(alloc, genesis, Options::plain(Scheme::Test), reader, writer)
 }
 
 /// A run ended as is wanted, and printed what is wanted before.

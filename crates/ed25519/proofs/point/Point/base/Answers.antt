@@ -3,6 +3,6 @@ use Rattle.ed25519.specs.Points.{base_point}
 use Rattle.ed25519.specs.Inside.{limbs}
 use Rattle.ed25519.proofs.point.Point.base.Goals as goal
 
-pub returns-clause-value : goal.returns-clause-value
+pub returns : goal.returns
 unfolding base_point prime limbs
-returns-clause-value c = cc
+returns c = cc

@@ -5,13 +5,13 @@ use Rattle.ed25519.proofs.Words.{top_bit}
 use Rattle.ed25519.proofs.Roots.{decoded_none, decoded_some}
 use Rattle.ed25519.proofs.point.Point.decode.Goals as goal
 
-pub returns-else-is_below_prime-clause-value : goal.returns-else-is_below_prime-clause-value
-returns-else-is_below_prime-clause-value c =
+pub returns-else-is_below_prime : goal.returns-else-is_below_prime
+returns-else-is_below_prime c =
     decoded_none c.args.bytes.now c.from_bytes-number.result c.from_bytes-number.ensures (sym c.is_below_prime.ensures
     ∙ c.if-is_below_prime.false)
 
-pub returns-in-Some-clause-value : goal.returns-in-Some-clause-value
-returns-in-Some-clause-value c =
+pub returns-in-Some : goal.returns-in-Some
+returns-in-Some c =
     let p = c.parts-w0.ensures in
     let y : c.from_words-y.result ≡ c.from_bytes-number.result % 2 ^ 255 % prime =
     c.from_words-y.ensures ∙ ap (λ (n : ℕ). n % 2 ^ 255 % prime) (sym p.value) in
@@ -20,10 +20,10 @@ returns-in-Some-clause-value c =
     decoded_some c.args.bytes.now c.from_bytes-number.result c.from_words-y.result (c.parts-w0.result.3 / 2 ^ 63)
     (Some c.in-Some.x) _
     c.from_bytes-number.ensures (sym c.is_below_prime.ensures ∙ c.if-is_below_prime.true) y s (cc)
-    (ap (λ (v : Point). Some v) c.at.ensures.value)
+    (ap (λ (v : Point). Some v) c.at.ensures)
 
-pub returns-in-None-clause-value : goal.returns-in-None-clause-value
-returns-in-None-clause-value c =
+pub returns-in-None : goal.returns-in-None
+returns-in-None c =
     let p = c.parts-w0.ensures in
     let y : c.from_words-y.result ≡ c.from_bytes-number.result % 2 ^ 255 % prime =
     c.from_words-y.ensures ∙ ap (λ (n : ℕ). n % 2 ^ 255 % prime) (sym p.value) in
