@@ -3,6 +3,7 @@
 use crate::networks::{FAR_BACK, FURTHEST_BACK, genesis};
 use crate::timing::{Telling, nanos_if, now, print};
 use chain_core::{ArriveReply, Core, FollowerId};
+use ident::BlockHash;
 use std::alloc::Global;
 use std::io;
 use witness_pool::TestScheme;
@@ -18,6 +19,8 @@ pub enum Act {
     Forge,
     /// What the first follower is told.
     Tell,
+    /// The discards of blocks.
+    Discard,
 }
 
 /// How many blocks may be rolled back.
@@ -55,7 +58,7 @@ pub struct Plan {
     pub waiting: Vec<Vec<u8>>,
     /// How many blocks the first follower is told before.
     pub told: u64,
-    /// The texts of what comes while it is measured.
+    /// The texts of what comes while it is measured, or the hashes of the blocks that are discarded then.
     pub measured: Vec<Vec<u8>>,
     /// How high the chain is to be in the end.
     pub height: u64,
@@ -150,6 +153,18 @@ fn are_told(core: &mut Core<TestScheme>, blocks: u64) -> bool {
     all
 }
 
+/// Discards the blocks of these hashes, and answers whether all were beside the chain.
+fn are_discarded(core: &mut Core<TestScheme>, hashes: &[Vec<u8>]) -> bool {
+    let mut all = true;
+    for hash in hashes {
+        all &= match BlockHash::try_from(hash.as_slice()) {
+            Ok(hash) => core.discard(hash).is_ok(),
+            Err(_) => false,
+        };
+    }
+    all
+}
+
 /// Does what is measured, and answers whether it could be done.
 fn is_done(core: &mut Core<TestScheme>, plan: &Plan) -> bool {
     match plan.act {
@@ -157,6 +172,7 @@ fn is_done(core: &mut Core<TestScheme>, plan: &Plan) -> bool {
         Act::Submit => are_submitted(core, &plan.measured),
         Act::Forge => are_forged(core, plan.calls),
         Act::Tell => are_told(core, plan.calls),
+        Act::Discard => are_discarded(core, &plan.measured),
     }
 }
 

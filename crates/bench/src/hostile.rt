@@ -2,7 +2,7 @@
 //! or all come in the order that asks most.
 
 use crate::cores::{self, Act, Depth, Plan};
-use crate::texts::End;
+use crate::texts::{End, put_hash};
 use std::alloc::Global;
 use std::io;
 
@@ -54,6 +54,20 @@ fn without_first(alloc: Global, blocks: u64) -> Plan {
     let mut end = End::genesis();
     end.put_next(alloc, &mut none, 0);
     end.put_chain(alloc, &mut plan.measured, blocks);
+    plan
+}
+
+/// The discards of those of a chain of so many whose first block never came.
+fn discards(alloc: Global, blocks: u64) -> Plan {
+    let mut plan = arrivals(alloc, blocks);
+    plan.act = Act::Discard;
+    let mut none = Vec::new(alloc);
+    let mut end = End::genesis();
+    end.put_next(alloc, &mut none, 0);
+    end.put_chain(alloc, &mut plan.blocks, blocks);
+    for text in &plan.blocks {
+        put_hash(alloc, &mut plan.measured, text);
+    }
     plan
 }
 
@@ -138,6 +152,10 @@ pub fn measure(rt: &HostRuntime) -> io::Result<()> {
     for blocks in [1_000, 4_000, 16_000, 64_000] {
         let plan = without_first(rt.alloc(), blocks);
         cores::measure(rt, "without its first block", blocks, plan)?;
+    }
+    for blocks in [1_000, 4_000, 16_000, 64_000] {
+        let plan = discards(rt.alloc(), blocks);
+        cores::measure(rt, "discards of such blocks", blocks, plan)?;
     }
     for blocks in [1_000, 4_000, 16_000, 64_000] {
         cores::measure(

@@ -32,6 +32,15 @@ pub struct Payment {
     pub ones: u64,
 }
 
+/// Puts the hash of the block of this text behind others.
+pub fn put_hash(alloc: Global, hashes: &mut Vec<Vec<u8>>, text: &[u8]) {
+    if let Ok(Ok(found)) = block::look(alloc, text) {
+        let mut hash = Vec::new(alloc);
+        put(&mut hash, found.point().hash.as_bytes());
+        let _ = hashes.push(hash);
+    }
+}
+
 /// The identifier under which the outputs of the genesis are spent.
 pub fn genesis_id() -> TxId {
     TxId::from_bytes([0; 32])

@@ -1,18 +1,24 @@
 -- What crates above cite of this one's proofs, and no other file: the reasons of a store are those of each state whose
 -- live blocks it holds.
-use Rattle.std.proofs.Common.{◌≡◌, ◌≢◌, ◌↔◌, ◌⊎◌, ℕ, ◌≤◌, List, length, Contains, sym, ap, ◌∙◌, arith, inl, inr}
-use Rattle.model.specs.Block.{Block, SpellsBlock, block_text, block_hash_of}
+use Rattle.std.proofs.Common.{◌≡◌, ◌≢◌, ◌↔◌, ◌⊎◌, ℕ, ◌+◌, ◌≤◌, List, length, Contains, sym, ap, subst, ◌∙◌, arith, inl, inr}
+use Rattle.std.proofs.lemmas.List.{length-map}
+use Rattle.model.specs.Block.{Block, SpellsBlock, block_text, block_hash_of, bytes_in}
+use Rattle.model.specs.Genesis.{IsOver}
+use Rattle.model.specs.Chain.{HaveDistinctHashes}
+use Rattle.model.proofs.Sets.{distinct_by_count, same_sum}
 use Rattle.model.specs.Ledger.{Network}
-use Rattle.model.specs.History.{State, live_of, Known, Clash, VolatileFull, Applies}
+use Rattle.model.specs.History.{State, live_of, IsFullFor, Known, Clash, VolatileFull, Applies}
 use Rattle.model.proofs.BlockTexts.{one_block, block_text_is}
-use Rattle.blockstore.specs.Stored.{Store}
+use Rattle.blockstore.specs.Stored.{Stored, Store, blocks_of, capacity_of}
 use Rattle.blockstore.specs.Insertion.{IsKnown, IsClash, IsFull}
+use Rattle.blockstore.specs.declared.capacity.Capacity.{Capacity}
 use Rattle.blockstore.specs.Live.{HoldsLive}
 
 -- a store that holds the live blocks of a state, as many as the genesis lets it
 pub record HoldsState (network : Network) (s : State) (store : Store) : Type 0 where
   pub live : HoldsLive network s.kept s.chain store
-  pub capacity : store.capacity ≡ network.genesis.max_volatile
+  pub capacity : store.capacity ≡ capacity_of network.genesis
+  pub distinct : HaveDistinctHashes (blocks_of store)
 
 pub known_over : (network : Network) (s : State) (store : Store) (b : Block) (bytes : List ℕ) → HoldsState network s store → SpellsBlock b bytes → IsKnown store b ↔ Applies network s bytes Known
 known_over network s store b bytes holds spells =
@@ -44,10 +50,17 @@ clash_over network s store b bytes holds spells = (to, back)
           | inr there ↦ inr (c, there, hash, λ same. applies.2.3 (same ∙ text))
         ]
 
-pub full_over : (network : Network) (s : State) (store : Store) (bytes : List ℕ) → HoldsState network s store → IsFull store ↔ Applies network s bytes VolatileFull
-full_over network s store bytes holds =
-    let count = holds.live.count in
-    let capacity = holds.capacity in (
-      (λ full. let most : store.capacity ≤ length store.blocks = full in omega arith),
-      (λ applies. let most : network.genesis.max_volatile ≤ length (live_of network s) = applies in omega arith),
-    )
+-- the live blocks have as many bytes as those of the store
+pub bytes_over : (network : Network) (s : State) (store : Store) → HoldsState network s store → bytes_in (blocks_of store) ≡ bytes_in (live_of network s)
+bytes_over network s store holds =
+    let there : (b : Block) → Contains (blocks_of store) b → Contains (live_of network s) b = λ b. (holds.live.members b).0 in
+    let back : (b : Block) → Contains (live_of network s) b → Contains (blocks_of store) b = λ b. (holds.live.members b).1 in
+    let distinct : HaveDistinctHashes (live_of network s) = distinct_by_count (blocks_of store) (live_of network s) holds.distinct there back
+    (let count = holds.live.count in omega (arith, length-map store.blocks (λ (x : Stored). x.block))) in
+    same_sum (λ b. length (block_text b)) (blocks_of store) (live_of network s) holds.distinct distinct there back
+
+pub full_over : (network : Network) (s : State) (store : Store) (bytes : List ℕ) → HoldsState network s store → IsFull store (length bytes) ↔ Applies network s bytes VolatileFull
+full_over network s store bytes holds = (subst (λ (A : Type 0). IsFull store (length bytes) → A) same (λ full. full), subst (λ (A : Type 0). A → IsFull store (length bytes)) same (λ full. full))
+  where
+    same : IsFull store (length bytes) ≡ IsFullFor network s (length bytes)
+    same = λ i. (ap (λ (c : Capacity). c.blocks) holds.capacity i ≤ holds.live.count i) ⊎ IsOver (ap (λ (c : Capacity). c.bytes) holds.capacity i) (bytes_over network s store holds i + length bytes)

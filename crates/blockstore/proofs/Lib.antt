@@ -3,9 +3,12 @@ pub mod KeySets
 pub mod Shelves
 pub mod LinkRanges
 pub mod Lists
+pub mod Sizes
 pub mod Tests
 pub mod Stores
 pub mod Sames
 pub mod ForCallers
 pub mod Noting
 pub mod Rising
+pub mod Leaving
+pub mod Clearing

@@ -6,13 +6,14 @@ use Rattle.std.proofs.lemmas.List.{length-map}
 use Rattle.block.specs.Read.{IsRead}
 use Rattle.model.specs.Block.{Block, block_hash_of, block_text}
 use Rattle.model.specs.Ledger.{Network}
+use Rattle.model.specs.History.{without_hash}
 use Rattle.model.proofs.Lists.{all_of_member, all_from_members}
 use Rattle.model.proofs.MappedLists.{contains_map, contains_before}
 use Rattle.model.proofs.Sets.{distinct_by_count}
 use Rattle.blockstore.specs.Stored.{Stored, Store, IsSet}
 use Rattle.blockstore.specs.Insertion.{IsInserted}
 use Rattle.blockstore.specs.Answers.{HasNoneAt, IsAt, AreSuccessors, IsMarkSet, IsCutTo}
-use Rattle.blockstore.specs.Live.{HoldsLive, GainsLive, FollowsChain, KeepsLive}
+use Rattle.blockstore.specs.Live.{HoldsLive, GainsLive, LosesLive, FollowsChain, KeepsLive}
 use Rattle.blockstore.specs.Shelves.{IsSame, HasNone, AreAfter}
 use Rattle.blockstore.proofs.Stores.{block_of, AreRead, with_blocks}
 
@@ -55,6 +56,9 @@ module _ (store : Store) (xs ys : List Stored) (same : IsSame xs ys) where
     members = λ x. ((λ member. (is.members x).0 ((same.members x).0 member)), (λ there. (same.members x).1 ((is.members x).1 there)));
     count = same.count ∙ is.count;
   }
+
+  pub loses_same : (hash : List ℕ) → LosesLive store hash (with_blocks store ys) → LosesLive store hash (with_blocks store xs)
+  loses_same hash loses network kept chain live = live_same network (without_hash hash kept) chain (loses network kept chain live)
 
   pub cut_same : (number : ℕ) → IsCutTo store number (with_blocks store ys) → IsCutTo store number (with_blocks store xs)
   cut_same number is = record {

@@ -56,6 +56,9 @@ none_placed (Some p) none = absurd (none_some p.stored (sym none))
 pub unchanged_at : (m n : BTreeMap (List ℕ) Placed) → n.entries ≡ m.entries → (q : List ℕ) → stored_at n q ≡ stored_at m q
 unchanged_at m n same q = ap (λ (es : List (List ℕ × Placed)). option_map (λ (p : Placed). p.stored) (lookup (is_at (hash_cmp q)) es)) same
 
+pub blocks_unchanged : (m n : BTreeMap (List ℕ) Placed) → n.entries ≡ m.entries → blocks_in n ≡ blocks_in m
+blocks_unchanged m n same = ap (λ (es : List (List ℕ × Placed)). map (λ (p : Placed). p.stored) (map (λ (e : List ℕ × Placed). e.1) es)) same
+
 pub value_at : (m : BTreeMap (List ℕ) Placed) (hash : List ℕ) (x : Stored) → stored_at m hash ≡ Some x → Contains (blocks_in m) x
 value_at m hash x there =
     let p = placed_at (get hash_cmp m hash) x there in
@@ -226,10 +229,10 @@ module _ (m p : BTreeMap (List ℕ) Placed) (hash : List ℕ) (took : BecomesAt 
 
 -- ---- a mark
 
-unmarked_at : (hash : List ℕ) (y : Stored) → block_hash_of y.block ≢ hash → marked_at hash y ≡ y
+pub unmarked_at : (hash : List ℕ) (y : Stored) → block_hash_of y.block ≢ hash → marked_at hash y ≡ y
 unmarked_at hash y other = ap (λ (t : Bool). cond t (marked y) y) (false_from_ne_true (has_hash hash y) (λ same. other ((bytes_eq-Decides (block_hash_of y.block) hash).0 same)))
 
-marked_there : (hash : List ℕ) (y : Stored) → block_hash_of y.block ≡ hash → marked_at hash y ≡ marked y
+pub marked_there : (hash : List ℕ) (y : Stored) → block_hash_of y.block ≡ hash → marked_at hash y ≡ marked y
 marked_there hash y same = ap (λ (t : Bool). cond t (marked y) y) ((bytes_eq-Decides (block_hash_of y.block) hash).1 same)
 
 module _ (m p : BTreeMap (List ℕ) Placed) (hash : List ℕ) (x : Stored) (there : stored_at m hash ≡ Some x) (wrote : BecomesAt (stored_at m) (stored_at p) hash (Some (marked x))) (keyed : IsKeyed m) where

@@ -1,7 +1,7 @@
 -- What a scan finds in a store, and what becomes of a store and of the live blocks that it holds.
-use Rattle.std.proofs.Common.{◌≡◌, ◌≢◌, ◌↔◌, ℕ, ◌<◌, ◌≤◌, Bool, true, cond, List, [], ◌∷◌, ◌++◌, length, map, Contains, refl, sym, ap, subst, ◌∙◌, arith, inl, inr}
+use Rattle.std.proofs.Common.{◌≡◌, ◌≢◌, ◌↔◌, ℕ, ◌<◌, ◌≤◌, Bool, true, false, cond, List, [], ◌∷◌, ◌++◌, length, map, Contains, refl, sym, ap, subst, ◌∙◌, arith, inl, inr}
 use Rattle.std.specs.List.{AllByRecursion, filter}
-use Rattle.std.specs.Prelude.{nat_lt}
+use Rattle.std.specs.Prelude.{nat_lt, not, bytes_eq}
 use Rattle.std.proofs.lemmas.Bool.{cases_lt, lt-ltb, ltb-true}
 use Rattle.std.proofs.lemmas.List.{length-map, length-append}
 use Rattle.std.proofs.lemmas.List.Elements.{Contains-append_left, Contains-push, Contains-push_cases}
@@ -9,19 +9,24 @@ use Rattle.block.specs.Read.{IsRead}
 use Rattle.model.specs.Block.{Block, SpellsBlock, block_hash_of, block_text}
 use Rattle.model.specs.Ledger.{Network}
 use Rattle.model.specs.Chain.{HaveDistinctHashes, live_blocks, immutable_length}
+use Rattle.model.specs.History.{without_hash}
+use Rattle.model.proofs.Discarding.{distinct_passing}
 use Rattle.model.proofs.Lists.{all_of_member, all_from_members, all_push, all_weaker, contains_first, contains_later, contains_cases, contains_filter}
 use Rattle.model.proofs.MappedLists.{contains_map, contains_before, filter_member}
 use Rattle.model.proofs.Chains.{one_with_hash}
 use Rattle.model.proofs.LegalHistories.{narrower_distinct}
 use Rattle.model.proofs.BlockTexts.{one_block, block_text_is}
 use Rattle.blockstore.specs.Stored.{Stored, Store, unmarked, blocks_of, HasBlock, IsSet}
-use Rattle.blockstore.specs.Tests.{is_past, marked_at}
+use Rattle.blockstore.specs.Tests.{is_past, lacks_hash, marked_at}
 use Rattle.blockstore.specs.Insertion.{IsKnown, IsClash, IsFull, IsInserted}
-use Rattle.blockstore.specs.Answers.{HasNoneAt, IsAt, IsMarkedAt, IsMarkSet, IsCutTo}
-use Rattle.blockstore.specs.Live.{HoldsLive, GainsLive, FollowsChain, KeepsLive}
+use Rattle.blockstore.specs.Answers.{HasNoneAt, IsAt, IsMarkedAt, IsMarkSet, IsRid, IsCutTo}
+use Rattle.blockstore.specs.Live.{HoldsLive, GainsLive, LosesLive, FollowsChain, KeepsLive}
 use Rattle.blockstore.proofs.Lists.{map_filter, map_same, map_push, all_filter, all_map, distinct_filter, distinct_push, no_longer}
 use Rattle.model.proofs.Sets.{same_count, distinct_by_count}
 use Rattle.blockstore.proofs.Tests.{is_marked, marked_is, same_block}
+use Rattle.blockstore.specs.Shelves.{IsSame}
+use Rattle.blockstore.proofs.Leaving.{left_members}
+use Rattle.blockstore.proofs.Clearing.{bare_of}
 
 abbrev pub block_of : Stored → Block
 block_of s = s.block
@@ -147,6 +152,100 @@ pub live_cut : (store : Store) (number : ℕ) (blocks : List Stored) → blocks 
 live_cut store number blocks is is_set network kept old new live grows at =
     subst (λ (xs : List Stored). HoldsLive network kept new (with_blocks store xs)) (sym is) (live_left store number network kept old new is_set live grows at)
 
+-- ---- a block that is discarded
+
+left_blocks : (hash : List ℕ) (blocks : List Stored) → map block_of (filter (lacks_hash hash) blocks) ≡ filter (λ b. not (bytes_eq (block_hash_of b) hash)) (map block_of blocks)
+left_blocks hash blocks = map_filter block_of (λ b. not (bytes_eq (block_hash_of b) hash)) blocks
+
+-- the blocks of the store, without the one of the hash
+rid_blocks : (store : Store) (hash : List ℕ) (xs : List Stored) → IsSame xs (filter (lacks_hash hash) store.blocks) → (b : Block) → Contains (map block_of xs) b ↔ (HasBlock store b × (block_hash_of b ≢ hash))
+rid_blocks store hash xs same b = (
+  (λ member.
+      let x = contains_before block_of xs b member in
+      let there = (left_members hash store.blocks x.0).0 ((same.members x.0).0 x.1) in
+      (subst (HasBlock store) x.2 (contains_map block_of store.blocks x.0 there.0), λ at. there.1 (ap block_hash_of x.2 ∙ at))),
+  (λ there.
+      let x = contains_before block_of store.blocks b there.0 in
+      subst (Contains (map block_of xs)) x.2 (contains_map block_of xs x.0 ((same.members x.0).1 ((left_members hash store.blocks x.0).1 (x.1, λ at. there.1 (ap block_hash_of (sym x.2) ∙ at)))))),
+)
+
+pub rid_of : (store : Store) (hash : List ℕ) (xs : List Stored) → IsSame xs (filter (lacks_hash hash) store.blocks) → ((x : Stored) → Contains xs x → x.invalid ≡ false) → IsRid store hash (with_blocks store xs)
+rid_of store hash xs same bare = record { capacity = refl; root = refl; blocks = rid_blocks store hash xs same; unmarked = bare }
+
+same_bare : (xs : List Stored) → map block_of (map bare_of xs) ≡ map block_of xs
+same_bare xs = map_same block_of bare_of xs (λ s. refl)
+
+pub rid_bare : (store : Store) (hash : List ℕ) (xs : List Stored) → IsSame xs (filter (lacks_hash hash) store.blocks) → IsRid store hash (with_blocks store (map bare_of xs))
+rid_bare store hash xs same = record {
+  capacity = refl;
+  root = refl;
+  blocks = λ b. subst (λ (bs : List Block). Contains bs b ↔ (HasBlock store b × (block_hash_of b ≢ hash))) (sym (same_bare xs)) (rid_blocks store hash xs same b);
+  unmarked = λ x member. let y = contains_before bare_of xs x member in ap (λ (s : Stored). s.invalid) (sym y.2);
+}
+
+pub set_bare : (store : Store) (xs : List Stored) → IsSet (with_blocks store xs) → IsSet (with_blocks store (map bare_of xs))
+set_bare store xs is_set = record {
+  distinct = subst HaveDistinctHashes (sym (same_bare xs)) is_set.distinct;
+  few = let few = is_set.few in omega (arith, length-map xs bare_of);
+}
+
+pub read_bare : (xs : List Stored) → AreRead xs → AreRead (map bare_of xs)
+read_bare xs read = all_map (λ x. IsRead x.block (block_text x.block)) bare_of xs read
+
+pub live_bare : (store : Store) (hash : List ℕ) (xs : List Stored) → LosesLive store hash (with_blocks store xs) → LosesLive store hash (with_blocks store (map bare_of xs))
+live_bare store hash xs loses network kept chain live =
+    let holds = loses network kept chain live in
+    record {
+      members = λ b. subst (λ (bs : List Block). Contains bs b ↔ Contains (live_blocks network (without_hash hash kept) chain) b) (sym (same_bare xs)) (holds.members b);
+      count = length-map xs bare_of ∙ holds.count;
+    }
+
+pub set_left : (store : Store) (hash : List ℕ) → IsSet store → IsSet (with_blocks store (filter (lacks_hash hash) store.blocks))
+set_left store hash is_set = record {
+  distinct = subst HaveDistinctHashes (sym (left_blocks hash store.blocks)) (distinct_filter (λ b. not (bytes_eq (block_hash_of b) hash)) (blocks_of store) is_set.distinct);
+  few = let few = is_set.few in omega (arith, no_longer (lacks_hash hash) store.blocks);
+}
+
+pub read_left : (store : Store) (hash : List ℕ) → AreRead store.blocks → AreRead (filter (lacks_hash hash) store.blocks)
+read_left store hash read = all_filter (λ x. IsRead x.block (block_text x.block)) (lacks_hash hash) store.blocks read
+
+-- where the store holds the live blocks, what is left of them is live where those of the hash are kept no more
+pub live_without : (store : Store) (hash : List ℕ) → IsSet store → LosesLive store hash (with_blocks store (filter (lacks_hash hash) store.blocks))
+live_without store hash is_set network kept chain live = record {
+  members = λ b. subst (λ (bs : List Block). Contains bs b ↔ Contains fewer b) (sym (left_blocks hash store.blocks)) (out b, back b);
+  count = sym (length-map (filter (lacks_hash hash) store.blocks) block_of) ∙ (ap length (left_blocks hash store.blocks)
+      ∙ same_count left fewer (distinct_filter other (blocks_of store) is_set.distinct) distinct out back);
+}
+  where
+    other : Block → Bool
+    other b = not (bytes_eq (block_hash_of b) hash)
+
+    past : Block → Bool
+    past b = nat_lt (immutable_length network chain) b.header.number
+
+    left : List Block
+    left = filter other (blocks_of store)
+
+    fewer : List Block
+    fewer = live_blocks network (without_hash hash kept) chain
+
+    out : (b : Block) → Contains left b → Contains fewer b
+    out b member =
+        let there = filter_member other (blocks_of store) b member in
+        let was = filter_member past kept b ((live.members b).0 there.0) in
+        contains_filter past (without_hash hash kept) b (contains_filter other kept b was.0 there.1) was.1
+
+    back : (b : Block) → Contains fewer b → Contains left b
+    back b member =
+        let there = filter_member past (without_hash hash kept) b member in
+        let was = filter_member other kept b there.0 in
+        contains_filter other (blocks_of store) b ((live.members b).1 (contains_filter past kept b was.0 there.1)) was.1
+
+    distinct : HaveDistinctHashes fewer
+    distinct = distinct_passing past other kept
+        (distinct_by_count (blocks_of store) (live_blocks network kept chain) is_set.distinct (λ b. (live.members b).0) (λ b. (live.members b).1)
+        (let count = live.count in omega (arith, length-map store.blocks block_of)))
+
 -- ---- a block that comes
 
 one_text : (a b : Block) → IsRead a (block_text a) → IsRead b (block_text b) → block_text a ≡ block_text b → a ≡ b
@@ -199,15 +298,15 @@ inserted store b blocks is =
       count = length-append store.blocks (unmarked b ∷ []);
     })
 
-pub set_with : (store : Store) (b : Block) (blocks : List Stored) → blocks ≡ store.blocks ++ unmarked b ∷ [] → IsSet store → HasNoneAt store (block_hash_of b) → (IsFull store → ⊥) → IsSet (with_blocks store blocks)
+pub set_with : (store : Store) (b : Block) (blocks : List Stored) → blocks ≡ store.blocks ++ unmarked b ∷ [] → IsSet store → HasNoneAt store (block_hash_of b) → (IsFull store (length (block_text b)) → ⊥) → IsSet (with_blocks store blocks)
 set_with store b blocks is is_set none room =
     subst (λ (xs : List Stored). IsSet (with_blocks store xs)) (sym is)
     (record {
       distinct = subst HaveDistinctHashes (sym (map_push block_of store.blocks (unmarked b)))
           (distinct_push (blocks_of store) b is_set.distinct (all_from_members (λ c. block_hash_of c ≢ block_hash_of b) (blocks_of store) none));
-      few = elim (cases_lt (length store.blocks) store.capacity) [
+      few = elim (cases_lt (length store.blocks) store.capacity.blocks) [
         | inl below ↦ omega (arith, length-append store.blocks (unmarked b ∷ []))
-        | inr full ↦ absurd (room full)
+        | inr full ↦ absurd (room (inl full))
       ];
     })
 

@@ -1,5 +1,5 @@
 -- What a store is asked, and how else it changes.
-use Rattle.std.specs.Prelude.{◌≡◌, ◌≢◌, ◌↔◌, ℕ, ◌<◌, List, length, map, filter, Contains, Option, true}
+use Rattle.std.specs.Prelude.{◌≡◌, ◌≢◌, ◌↔◌, ℕ, ◌<◌, List, length, map, filter, Contains, Option, true, false}
 use Rattle.model.specs.Block.{Block, block_hash_of}
 use Rattle.model.specs.Chain.{HaveDistinctHashes}
 use Rattle.blockstore.specs.Stored.{Stored, Store, HasBlock}
@@ -39,6 +39,13 @@ pub record IsMarkSet (old : Store) (hash : List ℕ) (new : Store) : Type 0 wher
   pub root : new.root ≡ old.root
   pub members : (x : Stored) → Contains new.blocks x ↔ ((y : Stored) × Contains old.blocks y × IsMarkedAt hash y x)
   pub count : length new.blocks ≡ length old.blocks
+
+-- the block of this hash is gone, and the others have no marks
+pub record IsRid (old : Store) (hash : List ℕ) (new : Store) : Type 0 where
+  pub capacity : new.capacity ≡ old.capacity
+  pub root : new.root ≡ old.root
+  pub blocks : (b : Block) → HasBlock new b ↔ (HasBlock old b × (block_hash_of b ≢ hash))
+  pub unmarked : (x : Stored) → Contains new.blocks x → x.invalid ≡ false
 
 -- the blocks past this number are left, and nothing else changed but the root
 pub record IsCutTo (old : Store) (number : ℕ) (new : Store) : Type 0 where

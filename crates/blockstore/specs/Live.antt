@@ -3,6 +3,7 @@ use Rattle.std.specs.Prelude.{◌≡◌, ◌↔◌, ◌<◌, ◌≤◌, ℕ, Lis
 use Rattle.model.specs.Ledger.{Network}
 use Rattle.model.specs.Block.{Block}
 use Rattle.model.specs.Chain.{live_blocks, immutable_length}
+use Rattle.model.specs.History.{without_hash}
 use Rattle.blockstore.specs.Stored.{Store, HasBlock}
 
 -- The store holds the blocks that may still come into a selected chain, of these kept ones beside this selected chain:
@@ -20,6 +21,12 @@ abbrev pub GainsLive : Store → Block → Store → Type 0
 GainsLive old b new =
     (network : Network) (kept chain : List Block) → HoldsLive network kept chain old
     → immutable_length network chain < b.header.number → HoldsLive network (b ∷ kept) chain new
+
+-- where blocks of this hash are kept no more, the store holds what is live then
+abbrev pub LosesLive : Store → (hash : List ℕ) → Store → Type 0
+LosesLive old hash new =
+    (network : Network) (kept chain : List Block) → HoldsLive network kept chain old
+    → HoldsLive network (without_hash hash kept) chain new
 
 -- where the selected chain grows and all up to its new immutable tip goes, the store holds what is live then
 abbrev pub FollowsChain : Store → ℕ → Store → Type 0

@@ -5,7 +5,7 @@ use Rattle.std.specs.Map.{lookup}
 use Rattle.std.specs.BTreeMap.{BTreeMap, get, values, is_at}
 use Rattle.model.specs.Block.{block_hash_of}
 use Rattle.model.specs.Chain.{Tip, tip_at}
-use Rattle.blockstore.specs.Stored.{Stored, coded_stored}
+use Rattle.blockstore.specs.Stored.{Stored, unmarked, coded_stored}
 use Rattle.blockstore.specs.Keys.{hash_cmp}
 
 -- a live block, and whether it is noted that it has no mark and a way leads to it
@@ -21,6 +21,10 @@ coded_placed =
 -- where the block stands, if a way is noted to lead to it
 abbrev pub place_of : Placed → Option Tip
 place_of p = cond p.reached (Some (tip_at p.stored.block)) None
+
+-- the block without a mark, and without the note that a way leads to it
+abbrev pub cleared : Placed → Placed
+cleared p = record { stored = unmarked p.stored.block; reached = false }
 
 -- of each live block, by its hash, whether it has no mark and a way leads to it
 abbrev pub Notes : Type 0

@@ -1,19 +1,21 @@
 -- What the store of live blocks holds.
-use Rattle.std.specs.Prelude.{ℕ, ◌≤◌, List, [], length, map, Contains, Bool, true, false, refl}
-use Rattle.std.specs.Coded.{Coded, code_by, coded×, coded_list, coded_ℕ, coded_bool}
+use Rattle.std.specs.Prelude.{ℕ, ◌≤◌, List, [], length, map, Contains, Bool, true, false, Option, refl}
+use Rattle.std.specs.Coded.{Coded, code_by, coded×, coded_list, coded_ℕ, coded_bool, coded_option}
 use Rattle.model.specs.Block.{Block}
 use Rattle.model.specs.Chain.{Tip, HaveDistinctHashes}
+use Rattle.model.specs.Genesis.{Genesis}
 use Rattle.model.specs.Codes.{coded_block, coded_tip}
+use Rattle.blockstore.specs.declared.capacity.Capacity.{Capacity}
 
 -- a live block, and whether it is known that no valid chain will ever have it
 pub record Stored : Type 0 where
   pub block : Block
   pub invalid : Bool
 
--- how many live blocks there may be, the place that ways to them begin behind, and those that there are, in no order
--- that is spoken of
+-- how many live blocks there may be and how many bytes they may have, the place that ways to them begin behind, and
+-- those that there are, in no order that is spoken of
 pub record Store : Type 0 where
-  pub capacity : ℕ
+  pub capacity : Capacity
   pub root : Tip
   pub blocks : List Stored
 
@@ -24,9 +26,10 @@ coded_stored =
 
 abbrev pub coded_store : Coded Store
 coded_store =
-    code_by (ℕ × (Tip × List Stored)) (coded× coded_ℕ (coded× coded_tip (coded_list coded_stored)))
-    (λ s. (s.capacity, (s.root, s.blocks)))
-    (λ p. record { capacity = p.0; root = p.1.0; blocks = p.1.1 }) (λ _. refl)
+    code_by ((ℕ × Option ℕ) × (Tip × List Stored))
+    (coded× (coded× coded_ℕ (coded_option coded_ℕ)) (coded× coded_tip (coded_list coded_stored)))
+    (λ s. ((s.capacity.blocks, s.capacity.bytes), (s.root, s.blocks)))
+    (λ p. record { capacity = record { blocks = p.0.0; bytes = p.0.1 }; root = p.1.0; blocks = p.1.1 }) (λ _. refl)
 
 -- the block as it comes in
 abbrev pub unmarked : Block → Stored
@@ -36,8 +39,12 @@ unmarked b = record { block = b; invalid = false }
 abbrev pub marked : Stored → Stored
 marked s = record { block = s.block; invalid = true }
 
+-- what a genesis lets a store hold
+abbrev pub capacity_of : Genesis → Capacity
+capacity_of genesis = record { blocks = genesis.max_volatile; bytes = genesis.max_volatile_bytes }
+
 -- a store that no block came to, where ways begin behind this place
-abbrev pub empty_store : ℕ → Tip → Store
+abbrev pub empty_store : Capacity → Tip → Store
 empty_store capacity root = record { capacity = capacity; root = root; blocks = [] }
 
 -- the live blocks, without their marks
@@ -52,4 +59,4 @@ HasBlock store b = Contains (blocks_of store) b
 -- as may be
 pub record IsSet (store : Store) : Type 0 where
   pub distinct : HaveDistinctHashes (blocks_of store)
-  pub few : length store.blocks ≤ store.capacity
+  pub few : length store.blocks ≤ store.capacity.blocks

@@ -1,11 +1,15 @@
 -- What a scan asks of each stored block.
-use Rattle.std.specs.Prelude.{ℕ, List, Bool, true, false, cond, Option, Some, None, bytes_eq, nat_lt}
+use Rattle.std.specs.Prelude.{ℕ, List, Bool, true, false, not, cond, Option, Some, None, bytes_eq, nat_lt}
 use Rattle.model.specs.Block.{block_hash_of}
 use Rattle.blockstore.specs.Stored.{Stored, marked}
 
 -- the block has this hash
 abbrev pub has_hash : List ℕ → Stored → Bool
 has_hash hash s = bytes_eq (block_hash_of s.block) hash
+
+-- the block has another one
+abbrev pub lacks_hash : List ℕ → Stored → Bool
+lacks_hash hash s = not (has_hash hash s)
 
 -- the two name the same block, or both none
 abbrev pub same_previous : Option (List ℕ) → Option (List ℕ) → Bool

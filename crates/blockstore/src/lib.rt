@@ -1,7 +1,7 @@
 //! The store of live blocks: those that may still come into a selected chain, found by hash and by predecessor.
 //!
 //! ```text
-//! let mut store = BlockStore::<TestScheme>::new(alloc, genesis.max_volatile());
+//! let mut store = BlockStore::<TestScheme>::new(alloc, Capacity { blocks: 2160, bytes: None });
 //! store.insert(block)?; // or why not: Known, Clash, VolatileFull
 //! for next in &store.successors(Some(tip))? {
 //!     println!(rt; "{}", next.block().number())?;
@@ -10,6 +10,7 @@
 //! ```
 #![tactic(auto)]
 
+mod capacity;
 mod hash_key;
 mod insert_fault;
 mod keys;
@@ -19,6 +20,7 @@ mod shelf;
 mod store;
 mod stored_block;
 
+pub use capacity::Capacity;
 pub use insert_fault::InsertFault;
 pub use store::BlockStore;
 pub use stored_block::StoredBlock;

@@ -1,9 +1,9 @@
 //! A block as a shelf has it.
 
-ghost use Rattle.std.specs.Prelude.{◌≡◌, ◌↔◌, false, option_map, IsTrue};
+ghost use Rattle.std.specs.Prelude.{◌≡◌, ◌↔◌, true, false, option_map, IsTrue};
 ghost use Rattle.block.specs.View.{tip_of};
 ghost use Rattle.blockstore.specs.Stored.{marked};
-ghost use Rattle.blockstore.specs.Placed.{place_of};
+ghost use Rattle.blockstore.specs.Placed.{place_of, cleared};
 ghost use Rattle.blockstore.specs.Ways.{IsLed, HasTurned, HasStayed};
 
 use crate::stored_block::StoredBlock;
@@ -80,6 +80,16 @@ impl<S: SigScheme> PlacedBlock<S> {
         self.stored.mark();
         self.reached = false;
         place
+    }
+
+    /// Takes the mark off, and notes that no way leads to the block. Answers that it stays.
+    pub fn clear(&mut self) -> bool
+        ensures cleared { self.new ≡ cleared self.old }
+        ensures stays { result ≡ true }
+    {
+        self.stored.unmark();
+        self.reached = false;
+        true
     }
 
     /// Whether a way leads to the block, which follows a place to which one leads (`reached`) or none does: it has no

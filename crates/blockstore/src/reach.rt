@@ -5,7 +5,8 @@ ghost use Rattle.std.specs.Prelude.{OnOk, OnErr, vec_len, vec_capacity, option_m
 ghost use Rattle.model.specs.Block.{block_hash_of};
 ghost use Rattle.block.specs.View.{tip_of};
 ghost use Rattle.blockstore.specs.Stored.{unmarked};
-ghost use Rattle.blockstore.specs.Tests.{is_past, marked_at};
+ghost use Rattle.model.specs.Chain.{HaveDistinctHashes};
+ghost use Rattle.blockstore.specs.Tests.{is_past, lacks_hash, marked_at};
 ghost use Rattle.blockstore.specs.Shelves.{IsSame, HasNone, HasAge, IsWithout};
 ghost use Rattle.blockstore.specs.Ways.{AreNotes, AreTurning, FollowsOne, AllStand, may_turn};
 ghost use Rattle.blockstore.specs.Ways.{IsNotedAt, IsLetGo, AreDropped};
@@ -82,6 +83,39 @@ impl Reach {
             let _ = self.waiting.push(place);
             self.settle(blocks, Some(root), false);
         }
+    }
+
+    /// Takes out the live block with this hash, if there is one, and brings up to date which of the others a way leads
+    /// to. Look-ups; where a way led to it, it looks behind it, and behind each block whose note turns. Takes no memory.
+    pub fn discard<S: SigScheme>(&mut self, blocks: &mut Shelf<S>, root: Tip, hash: BlockHash)
+        requires distinct { HaveDistinctHashes (map (λ s. s.block) blocks.old.blocks) }
+        requires notes { AreNotes (Some (tip_of root)) blocks.old.blocks blocks.old.notes }
+        requires none { self.old.waiting.items ≡ [] }
+        requires room { length blocks.old.blocks ≤ vec_capacity self.old.waiting }
+        ensures blocks { IsSame blocks.new.blocks (filter (lacks_hash hash.bytes) blocks.old.blocks) }
+        ensures notes { AreNotes (Some (tip_of root)) blocks.new.blocks blocks.new.notes }
+        ensures waiting { self.new.waiting.items ≡ [] }
+        ensures room { length blocks.new.blocks ≤ vec_capacity self.new.waiting }
+    {
+        self.mark(blocks, root, hash);
+        if let Some(stored) = blocks.with_hash(hash) {
+            let age = Age::of(stored.block());
+            let _ = blocks.remove(age);
+        }
+    }
+
+    /// Takes all marks off, and finds anew which blocks a way leads to. Looks at all live blocks; takes no memory.
+    pub fn unmark_all<S: SigScheme>(&mut self, blocks: &mut Shelf<S>, root: &Tip)
+        requires none { self.old.waiting.items ≡ [] }
+        requires room { length blocks.old.blocks ≤ vec_capacity self.old.waiting }
+        ensures blocks { blocks.new.blocks ≡ map (λ s. unmarked s.block) blocks.old.blocks }
+        ensures notes { AreNotes (Some (tip_of root.now)) blocks.new.blocks blocks.new.notes }
+        ensures waiting { self.new.waiting.items ≡ [] }
+        ensures room { length blocks.new.blocks ≤ vec_capacity self.new.waiting }
+    {
+        blocks.clear();
+        blocks.look_behind(&mut self.waiting, root, Some(*root), true);
+        self.settle(blocks, Some(*root), true);
     }
 
     /// Takes out all blocks with a number up to that of this place, which ways begin behind from then on, and brings up

@@ -1,12 +1,15 @@
 //! The live blocks, found by hash, by the block before them, and by number, each with the note of whether a way leads
 //! to it.
 
-ghost use Rattle.std.specs.Prelude.{◌≡◌, ◌↔◌, ◌∷◌, [], ◌++◌, ◌+◌, ◌≤◌, length, false, map, option_map, Contains};
+ghost use Rattle.std.specs.Prelude.{◌≡◌, ◌↔◌, ◌∷◌, [], ◌++◌, ◌+◌, ◌*◌, ◌^◌, ◌<◌, ◌≤◌, length, false, map};
+ghost use Rattle.std.specs.Prelude.{ℕ, List, option_map, Contains};
 ghost use Rattle.std.specs.Prelude.{IsTrue, Some, MatchOption, IfOk, OnOk, OnErr, vec_len, vec_capacity};
 ghost use Rattle.std.specs.BTreeSet.{IsOrdered};
-ghost use Rattle.model.specs.Block.{block_hash_of};
+ghost use Rattle.model.specs.Block.{block_hash_of, bytes_in};
+ghost use Rattle.model.specs.Limits.{block_size_limit};
 ghost use Rattle.model.specs.Chain.{HaveDistinctHashes};
 ghost use Rattle.block.specs.View.{tip_of, bytes_of as hash_bytes};
+ghost use Rattle.blockstore.specs.Stored.{unmarked};
 ghost use Rattle.blockstore.specs.Tests.{marked_at};
 ghost use Rattle.blockstore.specs.Keys.{hash_cmp, link_cmp, links_behind};
 ghost use Rattle.std.specs.BTreeMap as tree;
@@ -78,6 +81,8 @@ pub struct Shelf<S: SigScheme> {
     blocks: BTreeMap<HashKey, PlacedBlock<S>>,
     links: BTreeSet<Link>,
     ages: BTreeSet<Age>,
+    /// How many bytes the blocks have, all texts together.
+    bytes: u128,
 }
 
 impl<S: SigScheme> Model for Shelf<S> {
@@ -103,6 +108,7 @@ impl<S: SigScheme> Shelf<S> {
             blocks: BTreeMap::new(alloc),
             links: BTreeSet::new(alloc),
             ages: BTreeSet::new(alloc),
+            bytes: 0,
         }
     }
 
@@ -111,6 +117,14 @@ impl<S: SigScheme> Shelf<S> {
         ensures { result ≡ length self.now.blocks }
     {
         self.blocks.len()
+    }
+
+    /// How many bytes the blocks have, all texts together, in constant time.
+    pub fn bytes(&self) -> u128
+        ensures bytes { result ≡ bytes_in (map (λ s. s.block) self.now.blocks) }
+        ensures bounded { result ≤ length self.now.blocks * block_size_limit }
+    {
+        self.bytes
     }
 
     /// The block with this hash, if there is one. A look-up.
@@ -207,7 +221,8 @@ impl<S: SigScheme> Shelf<S> {
     /// Puts a block there whose hash none of them has, with the note whether a way leads to it. A look-up in each of
     /// the three trees. Err where memory runs out: nothing changes.
     pub fn put(&mut self, placed: PlacedBlock<S>) -> Result<(), AllocError>
-        requires { HasNone self.old.blocks (block_hash_of placed.stored.block) }
+        requires alone { HasNone self.old.blocks (block_hash_of placed.stored.block) }
+        requires few { length self.old.blocks < 2 ^ 64 }
         ensures ok { OnOk result (IsSame self.new.blocks (self.old.blocks ++ placed.stored ∷ [])) }
         ensures notes { OnOk result (IsNotedAt (block_hash_of placed.stored.block) placed.reached self.old.notes
             self.new.notes) }
@@ -215,6 +230,7 @@ impl<S: SigScheme> Shelf<S> {
     {
         let link = Link::of(placed.block());
         let age = Age::of(placed.block());
+        let size = placed.block().bytes().len() as u128;
         self.links.insert(link)?;
         if self.ages.insert(age).is_err() {
             self.links.remove(&link);
@@ -225,6 +241,7 @@ impl<S: SigScheme> Shelf<S> {
             self.ages.remove(&age);
             return Err(AllocError);
         }
+        self.bytes += size;
         Ok(())
     }
 
@@ -240,6 +257,14 @@ impl<S: SigScheme> Shelf<S> {
             return None;
         };
         placed.mark()
+    }
+
+    /// Takes all marks off, and notes of none that a way leads to it. Looks at each of them; takes no memory.
+    pub fn clear(&mut self)
+        ensures blocks { self.new.blocks ≡ map (λ s. unmarked s.block) self.old.blocks }
+        ensures notes { (hash : List ℕ) → is_noted self.new.notes hash ≡ false }
+    {
+        self.blocks.retain(|_, placed| placed.clear());
     }
 
     /// Whether one of them has a number past this one. Looks at the newest alone.
@@ -282,6 +307,7 @@ impl<S: SigScheme> Shelf<S> {
         let link = Link::of(gone.block());
         self.links.remove(&link);
         self.ages.remove(&age);
+        self.bytes -= gone.block().bytes().len() as u128;
         gone.place()
     }
 }

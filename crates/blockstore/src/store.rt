@@ -1,19 +1,21 @@
 //! The store of live blocks.
 
-ghost use Rattle.std.specs.Prelude.{◌≡◌, ◌↔◌, [], length, map, option_map, IsTrue, MatchOption};
+ghost use Rattle.std.specs.Prelude.{◌≡◌, ◌↔◌, [], ◌+◌, length, map, option_map, IsTrue, MatchOption};
 ghost use Rattle.std.specs.Prelude.{OnOk, OnErr, IfOk, IfErr};
 ghost use Rattle.std.specs.List.{AllByRecursion};
-ghost use Rattle.model.specs.Block.{Block, block_text};
+ghost use Rattle.model.specs.Block.{Block, block_text, bytes_in};
+ghost use Rattle.model.specs.Genesis.{IsOver};
 ghost use Rattle.block.specs.Read.{IsRead};
 ghost use Rattle.model.specs.Chain.{genesis_tip};
 ghost use Rattle.block.specs.View.{bytes_of, tip_of};
-ghost use Rattle.blockstore.specs.Stored.{empty_store, IsSet, HasBlock};
+ghost use Rattle.blockstore.specs.Stored.{empty_store, blocks_of, IsSet, HasBlock};
 ghost use Rattle.blockstore.specs.Insertion.{IsKnown, IsFull, IsAllowed, IsInsertFault, IsInserted};
-ghost use Rattle.blockstore.specs.Answers.{HasNoneAt, IsAt, AreSuccessors, HasSuccessor, IsMarkSet, IsCutTo};
+ghost use Rattle.blockstore.specs.Answers.{HasNoneAt, IsAt, AreSuccessors, HasSuccessor, IsMarkSet, IsRid, IsCutTo};
 ghost use Rattle.blockstore.specs.Shelves.{HasPast};
 ghost use Rattle.blockstore.specs.Ways.{HasWay};
-ghost use Rattle.blockstore.specs.Live.{HoldsNothing, GainsLive, FollowsChain, KeepsLive};
+ghost use Rattle.blockstore.specs.Live.{HoldsNothing, GainsLive, LosesLive, FollowsChain, KeepsLive};
 
+use crate::capacity::Capacity;
 use crate::insert_fault::InsertFault;
 use crate::reach::Reach;
 use crate::shelf::Shelf;
@@ -30,10 +32,12 @@ use witness_pool::SigScheme;
 #[derive(Drop)]
 pub struct BlockStore<S: SigScheme> {
     alloc: Global,
-    max_volatile: u64,
+    capacity: Capacity,
     root: Tip,
     blocks: Shelf<S>,
     reach: Reach,
+    /// Whether a mark was set since all marks were taken off.
+    has_marks: bool,
 }
 
 impl<S: SigScheme> Model for BlockStore<S> {
@@ -51,25 +55,26 @@ impl<S: SigScheme> Model for BlockStore<S> {
 }
 
 impl<S: SigScheme> BlockStore<S> {
-    /// A store of at most so many live blocks, without one, of chains from genesis. Takes no memory.
-    pub fn new(alloc: Global, max_volatile: u64) -> BlockStore<S>
-        ensures empty { result ≡ empty_store max_volatile genesis_tip }
+    /// A store of at most so many live blocks and bytes, without a block, of chains from genesis. Takes no memory.
+    pub fn new(alloc: Global, capacity: Capacity) -> BlockStore<S>
+        ensures empty { result ≡ empty_store capacity genesis_tip }
         ensures live { HoldsNothing result }
     {
-        BlockStore::behind(alloc, max_volatile, Tip::genesis())
+        BlockStore::behind(alloc, capacity, Tip::genesis())
     }
 
-    /// A store of at most so many live blocks, without one, of chains through this place. Takes no memory.
-    pub fn behind(alloc: Global, max_volatile: u64, root: Tip) -> BlockStore<S>
-        ensures empty { result ≡ empty_store max_volatile (tip_of root) }
+    /// A store of at most so many live blocks and bytes, without a block, of chains through this place. Takes no memory.
+    pub fn behind(alloc: Global, capacity: Capacity, root: Tip) -> BlockStore<S>
+        ensures empty { result ≡ empty_store capacity (tip_of root) }
         ensures live { HoldsNothing result }
     {
         BlockStore {
             alloc,
-            max_volatile,
+            capacity,
             root,
             blocks: Shelf::new(alloc),
             reach: Reach::new(alloc),
+            has_marks: false,
         }
     }
 
@@ -91,11 +96,22 @@ impl<S: SigScheme> BlockStore<S> {
         self.blocks.len() == 0
     }
 
-    /// Whether there are as many live blocks as may be, in constant time.
-    pub fn is_full(&self) -> bool
-        ensures { IsTrue result ↔ IsFull self.now }
+    /// Whether there is no room for a block of so many bytes: there are as many live blocks as may be, or with these
+    /// bytes they have more than they may have. In constant time.
+    pub fn is_full_for(&self, size: usize) -> bool
+        ensures { IsTrue result ↔ IsFull self.now size }
     {
-        self.blocks.len() as u64 >= self.max_volatile
+        self.blocks.len() as u64 >= self.capacity.blocks || self.is_over(size)
+    }
+
+    /// Whether the live blocks have more bytes than they may have, with so many more.
+    fn is_over(&self, size: usize) -> bool
+        ensures { IsTrue result ↔ IsOver self.now.capacity.bytes (bytes_in (blocks_of self.now) + size) }
+    {
+        match self.capacity.bytes {
+            Some(most) => self.blocks.bytes() + size as u128 > most as u128,
+            None => false,
+        }
     }
 
     /// The live block with this hash, if there is one.
@@ -159,7 +175,7 @@ impl<S: SigScheme> BlockStore<S> {
             }
             return Err(InsertFault::Clash);
         }
-        if self.is_full() {
+        if self.is_full_for(text.len()) {
             return Err(InsertFault::VolatileFull);
         }
         if self
@@ -180,7 +196,25 @@ impl<S: SigScheme> BlockStore<S> {
         ensures set { IsSet self.new }
         ensures live { KeepsLive self.old self.new }
     {
+        self.has_marks = true;
         self.reach.mark(&mut self.blocks, self.root, hash);
+    }
+
+    /// Takes out the live block with this hash, if there is one, which may come in again, and takes all marks off: a
+    /// mark rests on the blocks that its block goes back to, and another of the same hash could come in this one's
+    /// place. Where a way led to the block, it looks behind it, and behind each that none leads to from then on: a
+    /// look-up, and one more for each block that is found there. Where a mark was set since the last such call, it
+    /// looks at all live blocks. Takes no memory.
+    pub fn discard(&mut self, hash: BlockHash)
+        ensures rid { IsRid self.old hash.bytes self.new }
+        ensures set { IsSet self.new }
+        ensures live { LosesLive self.old hash.bytes self.new }
+    {
+        self.reach.discard(&mut self.blocks, self.root, hash);
+        if self.has_marks {
+            self.reach.unmark_all(&mut self.blocks, &self.root);
+            self.has_marks = false;
+        }
     }
 
     /// Takes out all blocks with a number up to that of this place, which all chains go through from then on: the

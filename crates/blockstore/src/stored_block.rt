@@ -57,4 +57,11 @@ impl<S: SigScheme> StoredBlock<S> {
     {
         self.invalid = true;
     }
+
+    /// Takes the mark off, if there is one.
+    pub(crate) fn unmark(&mut self)
+        ensures { self.new ≡ unmarked self.old.block }
+    {
+        self.invalid = false;
+    }
 }

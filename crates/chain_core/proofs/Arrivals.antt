@@ -5,7 +5,8 @@ use Rattle.std.proofs.lemmas.Bool.{cases_lt}
 use Rattle.std.proofs.lemmas.List.{length-map}
 use Rattle.block.specs.declared.fault.BadBytes.{BadBytes}
 use Rattle.block.specs.Read.{IsRead, IsBadBytes}
-use Rattle.model.specs.Block.{Block, block_hash_of}
+use Rattle.model.specs.Block.{Block, block_hash_of, block_text}
+use Rattle.model.proofs.BlockTexts.{block_text_is}
 use Rattle.model.specs.Genesis.{Genesis}
 use Rattle.model.specs.Signature.{Verifies}
 use Rattle.model.specs.Ledger.{Network, network_on}
@@ -59,10 +60,10 @@ is_ready network a b bytes whole read judged =
     }
 
 -- and there is room for it
-pub may_be_added : {S : Type 0} (network : Network) (a : ChainDb S) (b : Block) (bytes : List ℕ) → IsWhole network a → IsRead b bytes → IsFirstRefusal network (at_rest a) b None → IsReady network a.chain.items a.store a.db b × (IsFull a.store → ⊥)
+pub may_be_added : {S : Type 0} (network : Network) (a : ChainDb S) (b : Block) (bytes : List ℕ) → IsWhole network a → IsRead b bytes → IsFirstRefusal network (at_rest a) b None → IsReady network a.chain.items a.store a.db b × (IsFull a.store (length (block_text b)) → ⊥)
 may_be_added network a b bytes whole read judged = (
   is_ready network a b bytes whole read judged,
-  λ full. judged bytes read VolatileFull ((full_over network (at_rest a) a.store bytes (record { live = (rests network a whole).live; capacity = whole.capacity })).0 full),
+  λ full. judged bytes read VolatileFull ((full_over network (at_rest a) a.store bytes (record { live = (rests network a whole).live; capacity = whole.capacity; distinct = whole.settled.distinct })).0 (subst (IsFull a.store) (ap length (block_text_is b bytes read.read)) full)),
 )
 
 -- ---- steps of each state that the core stands for

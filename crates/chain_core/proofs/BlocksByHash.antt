@@ -10,7 +10,7 @@ use Rattle.blockstore.specs.Stored.{Stored, Store, IsSet, HasBlock, blocks_of}
 use Rattle.blockstore.specs.Answers.{HasNoneAt, IsAt}
 use Rattle.chain_core.specs.declared.chain_db.ChainDb.{ChainDb}
 use Rattle.chain_core.specs.ChainDbs.{HasState}
-use Rattle.model.specs.Asked.{NoneHas}
+use Rattle.model.specs.Chain.{NoneHas}
 
 -- what was found in the store is live
 pub found_live : (store : Store) (hash : List ℕ) (found : Stored) → IsAt store hash found → HasBlock store found.block

@@ -5,6 +5,7 @@ pub mod Adding
 pub mod Tips
 pub mod Refusals
 pub mod Arrivals
+pub mod Discards
 pub mod Runs
 pub mod Reached
 pub mod OpenedOn

@@ -15,14 +15,13 @@ use Rattle.std.proofs.lemmas.List.Elements.{Contains-append_left, Contains-appen
 use Rattle.std.proofs.lemmas.Option.{same_Some, none-some}
 use Rattle.model.specs.Block.{Block, block_hash_of}
 use Rattle.model.specs.Ledger.{Network}
-use Rattle.model.specs.Chain.{Tip, genesis_tip, tip_at, tip_after, IsLinked, immutable_length, immutable_part}
+use Rattle.model.specs.Chain.{Tip, genesis_tip, tip_at, tip_after, IsLinked, immutable_length, immutable_part, NoneHas}
 use Rattle.model.proofs.Lists.{all_of_member, all_from_members, all_weaker, all_take, all_append, nothing_contained, contains_cases, contains_first, contains_later}
 use Rattle.model.proofs.Chains.{linked_front, linked_rest, tip_number, numbers_past}
 use Rattle.blockstore.specs.Answers.{HasNoneAt}
 use Rattle.blockstore.specs.Stored.{HasBlock}
 use Rattle.ledgerdb.proofs.ForCallers.{database_valid}
 use Rattle.ledgerdb.specs.Values.{depth}
-use Rattle.model.specs.Asked.{NoneHas}
 use Rattle.chain_core.specs.Numbers.{block_numbered}
 use Rattle.chain_core.specs.PastHashes.{IsNoted, IsNotedIn, IsBlockNotedIn, AreAmong, KeepsNotes, AreNotedAtSwitch}
 use Rattle.chain_core.specs.declared.chain_db.ChainDb.{ChainDb}

@@ -12,12 +12,13 @@ use Rattle.model.specs.Block.{Block, SpellsBlock, block_text, body_hash_of}
 use Rattle.model.specs.Ledger.{Network, Ledger, network_on, network_of, ledger_from, ledger_after_block, opening_ledger}
 use Rattle.std.specs.Prelude.{Option, IsSome, option_and_then}
 use Rattle.model.specs.Chain.{IsValidChain, IsOpening, immutable_part, immutable_length}
-use Rattle.model.specs.History.{State, Entry, Event, Reply, Keeps, IsRun, opening, TooLarge, BodyHashMismatch}
-use Rattle.model.proofs.Lists.{all_of_member}
+use Rattle.model.specs.History.{State, Entry, Event, Reply, Keeps, Discards, without_hash, IsRun, opening, TooLarge, BodyHashMismatch}
+use Rattle.model.proofs.Lists.{all_of_member, all_from_members}
 use Rattle.model.proofs.BlockTexts.{one_block, block_text_is}
 use Rattle.model.proofs.Candidates.{state_of_valid, valid_of_state}
 use Rattle.model.proofs.StatesAlong.{front_state}
-use Rattle.model.proofs.LegalHistories.{Kind, Keeping, Quiet, kind_of, legal_sound}
+use Rattle.model.proofs.LegalHistories.{Kind, Keeping, Discarding, Quiet, kind_of, legal_sound}
+use Rattle.model.proofs.Discarding.{without_member}
 use Rattle.block.specs.Read.{IsRead}
 use Rattle.chain_core.specs.Immutable.{texts_of}
 use Rattle.chain_core.specs.Reopening.{AreRead, IsFirstInvalid, IsReopenFault, WereImmutable}
@@ -49,8 +50,15 @@ keeps_read network s bytes back added t read keeps =
     let one : IsReadAgain keeps.block = subst (IsRead keeps.block) (sym (block_text_is keeps.block bytes keeps.read)) (record { read = keeps.read; size = size; body = body }) in
     subst (AllByRecursion IsReadAgain) (sym keeps.kept) (one, read)
 
+-- what is left where a block is discarded
+discards_read : (network : Network) (s : State) (hash : List ℕ) (t : State) → AllByRecursion IsReadAgain s.kept → Discards network s hash t → AllByRecursion IsReadAgain t.kept
+discards_read network s hash t read discards =
+    subst (λ (u : State). AllByRecursion IsReadAgain u.kept) (sym discards.after)
+    (all_from_members IsReadAgain (without_hash hash s.kept) (λ b member. all_of_member IsReadAgain s.kept b read (without_member hash s.kept b member).0))
+
 kind_read : (network : Network) (s : State) (event : Event) (reply : Reply) (t : State) → AllByRecursion IsReadAgain s.kept → Kind network s event reply t → AllByRecursion IsReadAgain t.kept
 kind_read network s event reply t read (Keeping bytes back added u keeps) = keeps_read network s bytes back added u read keeps
+kind_read network s event reply t read (Discarding hash u discards) = discards_read network s hash u read discards
 kind_read network s event reply t read (Quiet e r u quiet) = subst (AllByRecursion IsReadAgain) (sym quiet.kept) read
 
 run_read : (network : Network) (s : State) (es : List Entry) (t : State) → AllByRecursion IsReadAgain s.kept → IsRun network s es t → AllByRecursion IsReadAgain t.kept

@@ -85,7 +85,7 @@ module _ {S : Type 0} (network : Network) (a : ChainDb S) (s : State) (whole : I
 
   -- the state's live blocks are held, as many as may be
   holds : HoldsState network s a.store
-  holds = record { live = has.live; capacity = whole.capacity }
+  holds = record { live = has.live; capacity = whole.capacity; distinct = whole.settled.distinct }
 
   at_chain : (n : ℕ) → n ≡ immutable_length network a.chain.items → n ≡ immutable_length network s.chain
   at_chain n is = is ∙ ap (immutable_length network) has.chain
@@ -116,14 +116,14 @@ module _ {S : Type 0} (network : Network) (a : ChainDb S) (s : State) (whole : I
       none_below_next refusal_number (Applies network s bytes) one_number Clash (below_clash young unknown bytes read)
       (λ applies. elim ((clash_over network s a.store b bytes holds read.read).1 applies) [ inl live ↦ alone live | inr there ↦ no_clash there ])
 
-  pub judged_full : IsYoung → (IsKnown a.store b → ⊥) → (IsClash a.store b → ⊥) → (IsChainClash s b → ⊥) → IsFull a.store → IsFirstRefusal network s b (Some VolatileFull)
+  pub judged_full : IsYoung → (IsKnown a.store b → ⊥) → (IsClash a.store b → ⊥) → (IsChainClash s b → ⊥) → IsFull a.store (length (block_text b)) → IsFirstRefusal network s b (Some VolatileFull)
   judged_full young unknown alone no_clash full bytes read =
-      refused_by network s bytes VolatileFull (below_full young unknown alone no_clash bytes read) ((full_over network s a.store bytes holds).0 full)
+      refused_by network s bytes VolatileFull (below_full young unknown alone no_clash bytes read) ((full_over network s a.store bytes holds).0 (subst (IsFull a.store) (ap length (block_text_is b bytes read.read)) full))
 
-  pub judged_none : IsYoung → (IsKnown a.store b → ⊥) → (IsClash a.store b → ⊥) → (IsChainClash s b → ⊥) → (IsFull a.store → ⊥) → IsFirstRefusal network s b None
+  pub judged_none : IsYoung → (IsKnown a.store b → ⊥) → (IsClash a.store b → ⊥) → (IsChainClash s b → ⊥) → (IsFull a.store (length (block_text b)) → ⊥) → IsFirstRefusal network s b None
   judged_none young unknown alone no_clash room bytes read =
       none_at_all refusal_number (Applies network s bytes) 8 at_most_7
-      (none_below_next refusal_number (Applies network s bytes) one_number VolatileFull (below_full young unknown alone no_clash bytes read) (λ applies. room ((full_over network s a.store bytes holds).1 applies)))
+      (none_below_next refusal_number (Applies network s bytes) one_number VolatileFull (below_full young unknown alone no_clash bytes read) (λ applies. room (subst (IsFull a.store) (ap length (sym (block_text_is b bytes read.read))) ((full_over network s a.store bytes holds).1 applies))))
 
 -- ---- what is found by a hash
 

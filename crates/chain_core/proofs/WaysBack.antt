@@ -7,7 +7,7 @@ use Rattle.std.proofs.lemmas.List.Elements.{Contains-append_left, Contains-appen
 use Rattle.std.proofs.lemmas.Option.{same_Some, none-some, slice_get_read}
 use Rattle.model.specs.Block.{Block, block_hash_of}
 use Rattle.model.specs.Ledger.{Network}
-use Rattle.model.specs.Chain.{Tip, genesis_tip, tip_at, tip_after, Follows, IsLinked, IsValidChain, BeginsWith, immutable_length, immutable_part, HaveDistinctHashes}
+use Rattle.model.specs.Chain.{Tip, genesis_tip, tip_at, tip_after, Follows, IsLinked, IsValidChain, BeginsWith, immutable_length, immutable_part, HaveDistinctHashes, NoneHas}
 use Rattle.model.specs.Applying.{IsFirstFault}
 use Rattle.model.specs.History.{State, live_of}
 use Rattle.model.proofs.Lists.{all_from_members, all_of_member, all_weaker, all_take, all_append}
@@ -24,7 +24,7 @@ use Rattle.ledgerdb.specs.Chains.{without_last}
 use Rattle.chain_core.specs.declared.chain_db.ChainDb.{ChainDb}
 use Rattle.chain_core.specs.ChainDbs.{IsWhole, HasState}
 use Rattle.chain_core.specs.Numbers.{block_numbered}
-use Rattle.model.specs.Asked.{NoneHas, IsBeside, HangsOn, IsHeld, Misfits, IsNotLonger, IsRefusedOn}
+use Rattle.model.specs.Asked.{IsBeside, HangsOn, IsHeld, Misfits, IsNotLonger, IsRefusedOn}
 use Rattle.model.specs.Asked.{IsWhyOf, IsPlaceOf, HasBlockOf, Beside}
 use Rattle.chain_core.specs.Ways.{why_of, IsFooting, IsWayTo, IsJudged}
 use Rattle.chain_core.specs.declared.why.Footing.{Footing}

@@ -38,6 +38,7 @@ IsLeftAt old (reply.Open answer) new = OnErr answer (new ≡ old)
 IsLeftAt old (reply.Next answer) new = OnErr answer (new ≡ old)
 IsLeftAt old (reply.Forward answer) new = OnErr answer (new ≡ old)
 IsLeftAt old (reply.Close answer) new = OnErr answer (new ≡ old)
+IsLeftAt old (reply.Discard answer) new = OnErr answer (new ≡ old)
 
 -- what the call of an event promises of its reply, and of the core before and after it
 pub record IsCall {S : Type 0} (verifies : Verifies) (old : Held) (event : RawEvent) (reply : Reply S) (new : Held)

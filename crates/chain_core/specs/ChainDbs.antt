@@ -9,9 +9,9 @@ use Rattle.model.specs.Ledger.{Network, network_on}
 use Rattle.model.specs.Chain.{genesis_tip, tip_after, immutable_part}
 use Rattle.model.specs.Applying.{LedgerState}
 use Rattle.model.specs.Mempool.{SubmitReply, revalidated, Submits}
-use Rattle.model.specs.History.{State, IsChange}
+use Rattle.model.specs.History.{State, IsChange, HasBeside, without_hash}
 use Rattle.ident.specs.Kinds.{BlockHash}
-use Rattle.blockstore.specs.Stored.{Stored, Store, HasBlock, IsSet}
+use Rattle.blockstore.specs.Stored.{Stored, Store, capacity_of, HasBlock, IsSet}
 use Rattle.blockstore.specs.Insertion.{IsInserted}
 use Rattle.blockstore.specs.Answers.{IsCutTo}
 use Rattle.blockstore.specs.Live.{HoldsLive, GainsLive, FollowsChain, KeepsLive}
@@ -29,7 +29,7 @@ use Rattle.chain_core.specs.declared.chain_db.Change.{Change}
 pub record IsWhole {S : Type 0} (network : Network) (a : ChainDb S) : Type 0 where
   pub settled : IsSettled network a.chain.items a.store a.db
   pub k : a.db.k ≡ network.genesis.k
-  pub capacity : a.store.capacity ≡ network.genesis.max_volatile
+  pub capacity : a.store.capacity ≡ capacity_of network.genesis
   pub mempool : IsMempoolOf network a.chain.items a.mempool
   pub past : AllByRecursion (IsBlockNotedIn a.past (immutable_part network a.chain.items))
       (immutable_part network a.chain.items)
@@ -53,6 +53,12 @@ pub record IsAdded {S : Type 0} (network : Network) (old : ChainDb S) (block : B
   pub live : (kept : List Block) → HoldsLive network kept old.chain.items old.store
       → HoldsLive network (block ∷ kept) new.chain.items new.store
   pub mempool : new.mempool.waiting.txs ≡ revalidated network new.chain.items old.mempool.waiting.txs
+  pub whole : IsWhole network new
+
+-- the block of this hash, which was beside the chain of the state, is kept no more
+pub record IsDiscarded {S : Type 0} (network : Network) (s : State) (hash : List ℕ) (new : ChainDb S) : Type 0 where
+  pub beside : HasBeside network s hash
+  pub live : HoldsLive network (without_hash hash s.kept) s.chain new.store
   pub whole : IsWhole network new
 
 -- the same blocks, of which those have a mark that had one, and those of these hashes

@@ -19,6 +19,7 @@ use Rattle.followers.specs.declared.follower_id.FollowerId.{FollowerId}
 use Rattle.followers.specs.declared.fault.OpenFollowerFault.{OpenFollowerFault}
 use Rattle.followers.specs.declared.fault.OpenFollowerFault.TheVariants as open'
 use Rattle.followers.specs.declared.fault.UnknownFollower.{UnknownFollower}
+use Rattle.chain_core.specs.declared.discarding.NotBeside.{NotBeside}
 use Rattle.chain_core.specs.declared.follower.Instruction.{Instruction}
 use Rattle.chain_core.specs.declared.follower.Instruction.TheVariants as instruction
 use Rattle.chain_core.specs.declared.follower.NextFault.{NextFault}
@@ -82,6 +83,10 @@ abbrev pub close_reply_of : Result (Unit {0}) UnknownFollower → history.Reply
 close_reply_of (Ok done) = history.Closed
 close_reply_of (Err unknown) = history.UnknownFollower
 
+abbrev pub discard_reply_of : Result (Unit {0}) NotBeside → history.Reply
+discard_reply_of (Ok done) = history.Discarded
+discard_reply_of (Err none) = history.NotBeside
+
 -- ---- events and replies
 
 abbrev pub event_of : RawEvent → history.Event
@@ -91,6 +96,7 @@ event_of event.Open = history.Open
 event_of (event.Next id) = history.Next id.number
 event_of (event.Forward id points) = history.Forward id.number (map point_of points.items)
 event_of (event.Close id) = history.Close id.number
+event_of (event.Discard hash) = history.Discard hash.bytes
 
 abbrev pub reply_of : {S : Type 0} → Reply S → history.Reply
 reply_of (reply.Arrive answer) = arrive_reply_of answer
@@ -99,6 +105,7 @@ reply_of (reply.Open answer) = open_reply_of answer
 reply_of (reply.Next answer) = next_reply_of answer
 reply_of (reply.Forward answer) = forward_reply_of answer
 reply_of (reply.Close answer) = close_reply_of answer
+reply_of (reply.Discard answer) = discard_reply_of answer
 
 -- the reply is of the event's kind
 abbrev pub IsReplyTo : {S : Type 0} → RawEvent → Reply S → Type 0
@@ -108,6 +115,7 @@ IsReplyTo event.Open (reply.Open answer) = Unit {0}
 IsReplyTo (event.Next id) (reply.Next answer) = Unit {0}
 IsReplyTo (event.Forward id points) (reply.Forward answer) = Unit {0}
 IsReplyTo (event.Close id) (reply.Close answer) = Unit {0}
+IsReplyTo (event.Discard hash) (reply.Discard answer) = Unit {0}
 IsReplyTo e r = ⊥
 
 -- each event has a reply of its kind

@@ -1,7 +1,7 @@
 //! The selected chain with what selection stands on.
 
 ghost use Rattle.std.specs.Prelude.{◌≡◌, ◌≤◌, ◌<◌, ◌+◌, ◌-◌, ◌^◌, ◌++◌, [], List, ℕ, length, take, IfOk, OnOk, OnErr};
-ghost use Rattle.std.specs.Prelude.{◌≢◌, vec_capacity};
+ghost use Rattle.std.specs.Prelude.{◌≢◌, IsTrue, false, vec_capacity};
 ghost use Rattle.std.specs.List.{AllByRecursion};
 ghost use Rattle.std.specs.Option.{option_map};
 ghost use Rattle.model.specs.Genesis.{Genesis};
@@ -15,7 +15,7 @@ ghost use Rattle.model.specs.Block.{Block, SpellsBlock, block_text, block_hash_o
 ghost use Rattle.model.specs.Ledger.{Network, network_on};
 ghost use Rattle.model.specs.Chain.{immutable_length};
 ghost use Rattle.model.specs.Applying.{IsStateOf};
-ghost use Rattle.model.specs.History.{State};
+ghost use Rattle.model.specs.History.{State, HasBeside};
 ghost use Rattle.model.specs.Asked.{ExplainsSubmission};
 ghost use Rattle.blockstore.specs.Stored.{IsSet, blocks_of};
 ghost use Rattle.blockstore.specs.Insertion.{IsFull};
@@ -23,14 +23,15 @@ ghost use Rattle.chainsel.specs.Ready.{IsReady};
 ghost use Rattle.ledgerdb.specs.Values.{depth};
 ghost use Rattle.ledgerdb.specs.Chains.{without_last, IsDatabaseOf, IsPreparedOf};
 ghost use Rattle.chain_core.specs.ChainDbs.{IsWhole, IsAdded, AreMarked, IsTakenIn, IsCutBack, IsCommitted};
-ghost use Rattle.chain_core.specs.ChainDbs.{IsBeside, IsTaken, HasState, network_db};
+ghost use Rattle.chain_core.specs.ChainDbs.{IsBeside, IsTaken, IsDiscarded, HasState, network_db};
 ghost use Rattle.chain_core.specs.PastHashes.{KeepsNotes, AreNotedAtSwitch};
 ghost use Rattle.chain_core.specs.Mempools.{IsResynced, IsWantOf};
 
+use crate::finding::{Place, place_in};
 use crate::past::{Bytes, note_all};
 use crate::reopening::OpenedChain;
 use block::{CheckedBlock, Tip};
-use blockstore::{BlockStore, InsertFault};
+use blockstore::{BlockStore, Capacity, InsertFault};
 use chainsel::{Choice, Selection, Switch, chain_tip, select};
 use genesis::Genesis;
 use ident::BlockHash;
@@ -94,7 +95,11 @@ impl<S: SigScheme> ChainDb<S> {
         let mempool = Mempool::new(alloc, genesis.max_mempool(), state.utxo())?;
         let mut past = BTreeMap::new(alloc);
         note_all(&mut past, &chain[..0], &chain)?;
-        let store = BlockStore::behind(alloc, genesis.max_volatile(), chain_tip(&chain));
+        let capacity = Capacity {
+            blocks: genesis.max_volatile(),
+            bytes: genesis.max_volatile_bytes(),
+        };
+        let store = BlockStore::behind(alloc, capacity, chain_tip(&chain));
         let db = LedgerDb::new(alloc, state, genesis.k());
         let opened = chain.len();
         Ok(ChainDb {
@@ -135,7 +140,7 @@ impl<S: SigScheme> ChainDb<S> {
         requires whole { IsWhole (network_db genesis.now S.verifies self.old) self.old }
         requires ready { IsReady (network_db genesis.now S.verifies self.old) self.old.chain.items
             self.old.store self.old.db block }
-        requires room { IsFull self.old.store → ⊥ }
+        requires room { IsFull self.old.store (length (block_text block)) → ⊥ }
         ensures ok { IfOk result (λ change.
             IsAdded (network_db genesis.now S.verifies self.old) self.old block self.new change) }
         ensures chain { OnErr result (self.new.chain.items ≡ self.old.chain.items) }
@@ -241,7 +246,7 @@ impl<S: SigScheme> ChainDb<S> {
     /// memory runs out nothing changes.
     fn insert(&mut self, block: CheckedBlock<S>, invalid: &[BlockHash]) -> Result<(), AllocError>
         requires alone { AllByRecursion (λ b. block_hash_of b ≢ block_hash_of block) (blocks_of self.old.store) }
-        requires room { IsFull self.old.store → ⊥ }
+        requires room { IsFull self.old.store (length (block_text block)) → ⊥ }
         ensures ok { OnOk result (IsTakenIn self.old.store block invalid.now self.new.store) }
         ensures frame { self.new ≡ record self.old { store = self.new.store } }
         ensures err { OnErr result (self.new.store ≡ self.old.store) }
@@ -302,6 +307,24 @@ impl<S: SigScheme> ChainDb<S> {
         };
         self.store.drop_up_to(root);
         Ok(change)
+    }
+
+    /// Keeps the live block with this hash no more, if it is beside the selected chain: answers whether there was one.
+    /// A few look-ups, and what [`BlockStore::discard`] takes; takes no memory.
+    pub fn discard(&mut self, hash: BlockHash) -> bool
+        ensures discarded { IsTrue result → (network : Network) (s : State) → IsWhole network self.old →
+            HasState network self.old s → IsDiscarded network s hash.bytes self.new }
+        ensures none { result ≡ false → (network : Network) (s : State) → IsWhole network self.old →
+            HasState network self.old s → HasBeside network s hash.bytes → ⊥ }
+        ensures same { result ≡ false → self.new ≡ self.old }
+        ensures frame { self.new ≡ record self.old { store = self.new.store; db = self.new.db } }
+    {
+        let Place::Beside(_) = place_in(self, hash) else {
+            return false;
+        };
+        self.store.discard(hash);
+        self.db.drop_sides();
+        true
     }
 
     /// Bytes of a transaction are submitted, and judged at the slot after the tip's. Where memory runs out nothing

@@ -1,9 +1,10 @@
 //! Events and their replies.
 
 use crate::arrival::ArriveReply;
+use crate::discarding::NotBeside;
 use crate::follower::{Instruction, NextFault};
 use followers::{FollowerId, OpenFollowerFault, UnknownFollower};
-use ident::Point;
+use ident::{BlockHash, Point};
 use mempool::SubmitReply;
 use std::alloc::AllocError;
 use std::fmt;
@@ -24,6 +25,8 @@ pub enum RawEvent {
     Forward(FollowerId, Vec<Point>),
     /// A follower is closed.
     Close(FollowerId),
+    /// A live block of this hash is to be kept no more.
+    Discard(BlockHash),
 }
 
 /// What the node answers to an event, by the event's kind. Where memory ran out nothing changed.
@@ -41,6 +44,8 @@ pub enum Reply<S: SigScheme> {
     Forward(Result<Option<Point>, UnknownFollower>),
     /// To the closing of a follower.
     Close(Result<(), UnknownFollower>),
+    /// To the discarding of a block.
+    Discard(Result<(), NotBeside>),
 }
 
 impl<S: SigScheme> fmt::Display for Reply<S> {
@@ -50,8 +55,8 @@ impl<S: SigScheme> fmt::Display for Reply<S> {
     ghost output = { λ reply. Some (reply_text reply) };
 
     /// Writes what was answered to an arrival or a submission, `opened` and the follower's number, what the follower
-    /// is told or the point that it is set to, and `none` where there is none, or `closed`; `refused` and the fault's
-    /// name, or `out of memory`.
+    /// is told or the point that it is set to, and `none` where there is none, `closed`, or `discarded`; `refused` and
+    /// the fault's name, or `out of memory`.
     fn fmt<W: fmt::Write>(&self, f: &mut fmt::Formatter<W>) -> fmt::Result {
         match self {
             Reply::Arrive(Ok(reply)) => write!(f, "{reply}"),
@@ -65,6 +70,8 @@ impl<S: SigScheme> fmt::Display for Reply<S> {
             Reply::Forward(Ok(Some(point))) => write!(f, "{point}"),
             Reply::Forward(Ok(None)) => f.write_str("none"),
             Reply::Close(Ok(())) => f.write_str("closed"),
+            Reply::Discard(Ok(())) => f.write_str("discarded"),
+            Reply::Discard(Err(_)) => f.write_str("refused NotBeside"),
             Reply::Next(Err(NextFault::UnknownFollower))
             | Reply::Forward(Err(_))
             | Reply::Close(Err(_)) => f.write_str("refused UnknownFollower"),

@@ -4,7 +4,8 @@ ghost use Rattle.std.specs.Prelude.{◌≡◌, ◌↔◌, ◌⊎◌, Contains, I
 ghost use Rattle.model.specs.Block.{block_hash_of};
 ghost use Rattle.model.specs.Ledger.{Network};
 ghost use Rattle.model.specs.History.{State, live_of};
-ghost use Rattle.model.specs.Asked.{NoneHas, IsPlaceOf};
+ghost use Rattle.model.specs.Chain.{NoneHas};
+ghost use Rattle.model.specs.Asked.{IsPlaceOf};
 ghost use Rattle.chain_core.specs.Asking.{place_of};
 ghost use Rattle.chain_core.specs.ChainDbs.{IsWhole, HasState};
 

@@ -70,7 +70,7 @@ pub fn first_refusal<S: SigScheme>(
     if clashes_with_chain(chain_db, point.hash, bytes) {
         return Some(Refusal::Clash);
     }
-    if chain_db.store.is_full() {
+    if chain_db.store.is_full_for(bytes.len()) {
         return Some(Refusal::VolatileFull);
     }
     None

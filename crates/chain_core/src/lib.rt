@@ -5,6 +5,7 @@
 mod arrival;
 mod asking;
 mod chain_db;
+mod discarding;
 mod event;
 mod finding;
 mod follower;
@@ -19,6 +20,7 @@ mod standing;
 mod why;
 
 pub use arrival::ArriveReply;
+pub use discarding::NotBeside;
 pub use event::{RawEvent, Reply};
 pub use finding::Place;
 pub use follower::{Instruction, NextFault};

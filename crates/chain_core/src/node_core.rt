@@ -437,6 +437,7 @@ impl<S: SigScheme> Core<S> {
             RawEvent::Next(id) => Reply::Next(self.next(*id)),
             RawEvent::Forward(id, points) => Reply::Forward(self.forward(*id, points)),
             RawEvent::Close(id) => Reply::Close(self.close(*id)),
+            RawEvent::Discard(hash) => Reply::Discard(self.discard(*hash)),
         }
     }
 

@@ -8,7 +8,8 @@ ghost use Rattle.model.specs.Chain.{genesis_tip, tip_at, tip_after, Follows, IsL
 ghost use Rattle.model.specs.History.{State};
 ghost use Rattle.blockstore.specs.Stored.{HasBlock, blocks_of};
 ghost use Rattle.ledgerdb.specs.Values.{depth};
-ghost use Rattle.model.specs.Asked.{NoneHas, IsPlaceOf, IsWhyOf, Beside};
+ghost use Rattle.model.specs.Chain.{NoneHas};
+ghost use Rattle.model.specs.Asked.{IsPlaceOf, IsWhyOf, Beside};
 ghost use Rattle.chain_core.specs.Ways.{why_of, IsBefore, LeadsOn, IsWayTo, IsJudged};
 ghost use Rattle.chain_core.specs.ChainDbs.{IsWhole, HasState};
 

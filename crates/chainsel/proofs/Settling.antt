@@ -1,13 +1,13 @@
 -- From one selection to the next: what was settled before a block came is settled after it.
-use Rattle.std.proofs.Common.{◌≡◌, ℕ, ◌+◌, ◌-◌, ◌<◌, ◌≤◌, Bool, true, false, cond, List, [], ◌∷◌, ◌++◌, length, map, Contains, refl, sym, ap, subst, ◌∙◌, arith, inl, inr, append-nil, drop}
+use Rattle.std.proofs.Common.{◌≡◌, ◌≢◌, ℕ, ◌+◌, ◌-◌, ◌<◌, ◌≤◌, Bool, true, false, cond, List, [], ◌∷◌, ◌++◌, length, map, Contains, refl, sym, ap, subst, ◌∙◌, arith, inl, inr, append-nil, drop}
 use Rattle.std.specs.Prelude.{nat_lt, min, max}
 use Rattle.std.specs.List.{AllByRecursion, filter}
 use Rattle.std.proofs.lemmas.Bool.{cases_lt, lt-ltb, ltb-true}
 use Rattle.std.proofs.lemmas.List.{length-map, take-append-drop, take_all}
 use Rattle.std.proofs.lemmas.List.Elements.{Contains-append_left, Contains-append_right, Contains-append_cases, filter-append}
-use Rattle.model.specs.Block.{Block}
+use Rattle.model.specs.Block.{Block, block_hash_of}
 use Rattle.model.specs.Ledger.{Network}
-use Rattle.model.specs.Chain.{genesis_tip, tip_after, IsLinked, IsOpening, IsSelection, BeginsWith, NoneLonger, HaveDistinctHashes, immutable_length, immutable_part, live_blocks}
+use Rattle.model.specs.Chain.{genesis_tip, tip_after, IsLinked, IsOpening, IsSelection, BeginsWith, NoneLonger, HaveDistinctHashes, NoneHas, immutable_length, immutable_part, live_blocks}
 use Rattle.model.proofs.Lists.{all_of_member, all_from_members, all_weaker, all_both, all_append, all_take, contains_first, contains_later, contains_cases}
 use Rattle.model.proofs.Chains.{linked_front, length_immutable, begins_with_whole}
 use Rattle.model.proofs.FollowerSteps.{begins_fewer, begins_not_longer}
@@ -15,6 +15,7 @@ use Rattle.model.proofs.LegalHistories.{numbers_within, none_longer_than_all}
 use Rattle.model.proofs.Selections.{past_numbers, selection_not_shorter, selection_begins, selection_longest}
 use Rattle.model.proofs.Candidates.{live_is_kept, live_number, selection_over}
 use Rattle.blockstore.specs.Stored.{Stored, Store, HasBlock, blocks_of}
+use Rattle.blockstore.specs.Answers.{IsRid}
 use Rattle.blockstore.specs.Live.{HoldsLive}
 use Rattle.ledgerdb.specs.Values.{Database, depth}
 use Rattle.ledgerdb.specs.Chains.{without_last, IsDatabaseOf}
@@ -232,4 +233,35 @@ depth_next k opened long deep back added is begins within longer =
     elim (cases_lt opened (long - k)) [
       | inl over ↦ omega (arith, is, begins, within, longer, over)
       | inr not_over ↦ omega (arith, is, begins, within, longer, not_over)
+    ]
+
+-- ---- a block beside the chain is discarded
+
+-- What was settled is settled still where a block goes that the chain doesn't have, with all marks and all states beside
+-- the chain.
+pub settled_without : (network : Network) (chain : List Block) (store next : Store) (db : Database) (hash : List ℕ) → IsSettled network chain store db → IsRid store hash next → HaveDistinctHashes (blocks_of next) → NoneHas chain hash
+    → IsSettled network chain next (record db { sides = [] })
+settled_without network chain store next db hash settled rid distinct apart =
+    let n = immutable_length network chain in record {
+      database = record { older = settled.database.older; blocks = settled.database.blocks; parts = settled.database.parts; anchor = settled.database.anchor; states = settled.database.states };
+      depth = settled.depth;
+      opened = settled.opened;
+      root = rid.root ∙ settled.root;
+      live = all_weaker (λ b. (n < b.header.number → HasBlock store b) × (block_hash_of b ≢ hash)) (λ b. n < b.header.number → HasBlock next b) chain (λ b is past. (rid.blocks b).1 (is.0 past, is.1))
+          (all_both (λ b. n < b.header.number → HasBlock store b) (λ b. block_hash_of b ≢ hash) chain settled.live apart);
+      past = all_from_members (λ b. n < b.header.number) (blocks_of next) (λ b member. all_of_member (λ c. n < c.header.number) (blocks_of store) b settled.past ((rid.blocks b).0 member).0);
+      distinct = distinct;
+      longest = λ candidate is. settled.longest candidate record {
+        valid = is.valid;
+        members = all_weaker (Contains (blocks_of next ++ chain)) (Contains (blocks_of store ++ chain)) candidate was_there is.members;
+        begins = is.begins;
+      };
+      marks = all_from_members (λ (s : Stored). s.invalid ≡ true → IsDead network chain (blocks_of next) s.block) next.blocks (λ s member marked. absurd (let e : false ≡ true = sym (rid.unmarked s member) ∙ marked in cc));
+      sides = tt;
+    }
+  where
+    was_there : (b : Block) → Contains (blocks_of next ++ chain) b → Contains (blocks_of store ++ chain) b
+    was_there b member = elim (Contains-append_cases (blocks_of next) chain b member) [
+      | inl left ↦ Contains-append_left (blocks_of store) chain b ((rid.blocks b).0 left).0
+      | inr on_chain ↦ Contains-append_right (blocks_of store) chain b on_chain
     ]

@@ -7,7 +7,7 @@ use Rattle.std.proofs.lemmas.Int.{ints}
 use Rattle.model.specs.Rules.{SecondEra}
 use Rattle.model.specs.Genesis.{IsWithin, IsSecondEra, IsParams}
 use Rattle.genesis.specs.Document.{EraNumbers, Numbers}
-use Rattle.genesis.specs.Judgement.{within, era_of, era_if_written, Settings, settings_of}
+use Rattle.genesis.specs.Judgement.{within, within_if, era_of, era_if_written, Settings, settings_of}
 use Rattle.genesis.specs.Meaning.{IsInRange, AreOfSecondEra, AreInRange, numbers_of_era}
 use Rattle.genesis.proofs.Steps.{on_the_way}
 
@@ -37,6 +37,32 @@ pub range_of : (least most : ℕ) (number : ℤ) (n : ℕ) → IsFound least mos
 range_of least most number n found =
     rw found.same (record { not_below = omega (arith, ints, found.within.not_below); not_above = omega (arith, ints, found.within.not_above) })
 
+-- ---- a number that may be missing
+
+-- what was found of what is written
+pub record IsFoundIf (least most : ℕ) (number : Option ℤ) (n : Option ℕ) : Type 0 where
+  pub same : number ≡ option_map (λ m. pos m) n
+  pub within : IfSome n (IsWithin least most)
+  pub in_range : IfSome number (IsInRange least most)
+
+-- where something was found of an option's map
+wrapped : {X : Type 0} (found : Option X) (other : Option X) → option_map (λ x. Some x) found ≡ Some other → (x : X) × (found ≡ Some x) × (Some x ≡ other)
+wrapped None other is = absurd (none-some other is)
+wrapped (Some x) other is = (x, refl, same_Some _ _ is)
+
+pub found_if : (least most : ℕ) (number : Option ℤ) (n : Option ℕ) → within_if least most number ≡ Some n → IsFoundIf least most number n
+unfolding within_if
+found_if least most None n is = subst (IsFoundIf least most None) (same_Some _ _ is) (record { same = refl; within = tt; in_range = tt })
+found_if least most (Some number) n is =
+    let (m, found, here) = wrapped (within least most number) n is in
+    let f = found_within least most number m found in
+    subst (IsFoundIf least most (Some number)) here (record { same = ap Some f.same; within = f.within; in_range = range_of least most number m f })
+
+pub there_if : (least most : ℕ) (number : Option ℤ) → IfSome number (IsInRange least most) → (n : Option ℕ) × (within_if least most number ≡ Some n)
+unfolding within_if
+there_if least most None range = (None, refl)
+there_if least most (Some number) range = let (m, is) = in_range least most number range in (Some m, rw is refl)
+
 -- ---- a second era
 
 -- what was found of what is written
@@ -58,16 +84,11 @@ era_found numbers era is =
       in_range = record { first_slot = range_of _ _ _ _ s; per_asset = range_of _ _ _ _ c };
     })
 
--- where something was found of an option's map
-mapped : (found : Option SecondEra) (era : Option SecondEra) → option_map (λ e. Some e) found ≡ Some era → (e : SecondEra) × (found ≡ Some e) × (Some e ≡ era)
-mapped None era is = absurd (none-some era is)
-mapped (Some e) era is = (e, refl, same_Some _ _ is)
-
 pub era_if_found : (numbers : Option EraNumbers) (era : Option SecondEra) → era_if_written numbers ≡ Some era → IsFoundEra numbers era
 unfolding era_if_written
 era_if_found None era is = subst (IsFoundEra None) (same_Some _ _ is) (record { same = refl; within = tt; in_range = tt })
 era_if_found (Some numbers) era is =
-    let (e, found, here) = mapped (era_of numbers) era is in
+    let (e, found, here) = wrapped (era_of numbers) era is in
     subst (IsFoundEra (Some numbers)) here (era_found numbers e found)
 
 -- numbers in their ranges are found
@@ -91,6 +112,7 @@ pub record AreFound (numbers : Numbers) (settings : Settings) : Type 0 where
   pub max_tx_size : IsFound 1 65536 numbers.max_tx_size settings.params.max_tx_size
   pub max_body_size : IsFound 1 1048000 numbers.max_body_size settings.params.max_body_size
   pub max_volatile : IsFound 1 100000 numbers.max_volatile settings.max_volatile
+  pub max_volatile_bytes : IsFoundIf 1 1099511627776 numbers.max_volatile_bytes settings.max_volatile_bytes
   pub max_mempool : IsFound 1 100000 numbers.max_mempool settings.max_mempool
   pub second_era : IsFoundEra numbers.second_era settings.params.second_era
 
@@ -106,7 +128,8 @@ settings_found numbers settings is =
     let body_size = on_the_way (within 1 1048000 numbers.max_body_size) _ settings tx_size.2 in
     let volatile = on_the_way (within 1 100000 numbers.max_volatile) _ settings body_size.2 in
     let mempool = on_the_way (within 1 100000 numbers.max_mempool) _ settings volatile.2 in
-    let era = on_the_way (era_if_written numbers.second_era) _ settings mempool.2 in
+    let bytes = on_the_way (within_if 1 1099511627776 numbers.max_volatile_bytes) _ settings mempool.2 in
+    let era = on_the_way (era_if_written numbers.second_era) _ settings bytes.2 in
     rw (← same_Some _ _ era.2) (record {
       network = found_within 0 15 _ _ network.1;
       k = found_within 1 10000 _ _ k.1;
@@ -116,6 +139,7 @@ settings_found numbers settings is =
       max_tx_size = found_within 1 65536 _ _ tx_size.1;
       max_body_size = found_within 1 1048000 _ _ body_size.1;
       max_volatile = found_within 1 100000 _ _ volatile.1;
+      max_volatile_bytes = found_if 1 1099511627776 _ _ bytes.1;
       max_mempool = found_within 1 100000 _ _ mempool.1;
       second_era = era_if_found _ _ era.1;
     })
@@ -130,6 +154,7 @@ found_in_range numbers settings found = record {
   max_tx_size = range_of _ _ _ _ found.max_tx_size;
   max_body_size = range_of _ _ _ _ found.max_body_size;
   max_volatile = range_of _ _ _ _ found.max_volatile;
+  max_volatile_bytes = found.max_volatile_bytes.in_range;
   max_mempool = range_of _ _ _ _ found.max_mempool;
   second_era = found.second_era.in_range;
 }
@@ -158,12 +183,14 @@ settings_there numbers ranges none =
     let (body_size, g) = in_range 1 1048000 numbers.max_body_size ranges.max_body_size in
     let (volatile, h) = in_range 1 100000 numbers.max_volatile ranges.max_volatile in
     let (mempool, i) = in_range 1 100000 numbers.max_mempool ranges.max_mempool in
+    let (bytes, l) = there_if 1 1099511627776 numbers.max_volatile_bytes ranges.max_volatile_bytes in
     let (era, j) = era_there numbers.second_era ranges.second_era in
     let settings : Settings = record {
       params = record { network = network; min_fee_a = fee_a; min_fee_b = fee_b; min_utxo = utxo; max_tx_size = tx_size; max_body_size = body_size; second_era = era };
       k = k;
       max_volatile = volatile;
+      max_volatile_bytes = bytes;
       max_mempool = mempool;
     } in
-    let some : settings_of numbers ≡ Some settings = rw (a, b, c, d, e, f, g, h, i, j) refl in
+    let some : settings_of numbers ≡ Some settings = rw (a, b, c, d, e, f, g, h, i, l, j) refl in
     none-some settings (sym none ∙ some)

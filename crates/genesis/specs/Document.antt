@@ -14,7 +14,7 @@ pub record EraNumbers : Type 0 where
   pub first_slot : ℤ
   pub per_asset : ℤ
 
--- the nine numbers that each genesis has, and those of a second era
+-- the nine numbers that each genesis has, a bound of bytes, and those of a second era
 pub record Numbers : Type 0 where
   pub network : ℤ
   pub k : ℤ
@@ -25,6 +25,7 @@ pub record Numbers : Type 0 where
   pub max_body_size : ℤ
   pub max_volatile : ℤ
   pub max_mempool : ℤ
+  pub max_volatile_bytes : Option ℤ
   pub second_era : Option EraNumbers
 
 -- what unlocks an output: an address, or a key, each as its hexadecimal text
@@ -57,8 +58,8 @@ has_only known (member key value rest) = is_known known key && has_only known re
 abbrev pub genesis_keys : List (List ℕ)
 genesis_keys =
     codes "network" ∷ codes "k" ∷ codes "min_fee_a" ∷ codes "min_fee_b" ∷ codes "min_utxo" ∷ codes "max_tx_size"
-    ∷ codes "max_body_size" ∷ codes "max_volatile" ∷ codes "max_mempool" ∷ codes "era2_slot" ∷ codes "per_asset"
-    ∷ codes "output" ∷ codes "scheme" ∷ []
+    ∷ codes "max_body_size" ∷ codes "max_volatile" ∷ codes "max_mempool" ∷ codes "max_volatile_bytes"
+    ∷ codes "era2_slot" ∷ codes "per_asset" ∷ codes "output" ∷ codes "scheme" ∷ []
 
 -- the keys of an output
 abbrev pub entry_keys : List (List ℕ)
@@ -67,6 +68,15 @@ entry_keys = codes "address" ∷ codes "key" ∷ codes "coin" ∷ []
 -- the whole number at a key
 abbrev pub number_at : List ℕ → Members → Option ℤ
 number_at key document = get_member key document >>= as_integer
+
+-- a whole number, where something stands there
+abbrev pub number_if : Option Data → Option (Option ℤ)
+number_if None = Some None
+number_if (Some value) = option_map (λ number. Some number) (as_integer value)
+
+-- the whole number at a key, where something stands there
+unfoldable pub number_if_at : List ℕ → Members → Option (Option ℤ)
+number_if_at key document = number_if (get_member key document)
 
 -- ---- the numbers
 
@@ -95,6 +105,7 @@ numbers_in document = do
   max_body_size ← number_at (codes "max_body_size") document
   max_volatile ← number_at (codes "max_volatile") document
   max_mempool ← number_at (codes "max_mempool") document
+  max_volatile_bytes ← number_if_at (codes "max_volatile_bytes") document
   second_era ← era_in document
   Some (record {
     network = network;
@@ -106,6 +117,7 @@ numbers_in document = do
     max_body_size = max_body_size;
     max_volatile = max_volatile;
     max_mempool = max_mempool;
+    max_volatile_bytes = max_volatile_bytes;
     second_era = second_era;
   })
 

@@ -8,7 +8,7 @@ use Rattle.hex.specs.Hex.{decode_sized}
 use Rattle.toml.specs.Parse.{parse_document}
 use Rattle.model.specs.Limits.{hash_size, greatest_network, number_limit, greatest_number, k_limit, fee_rate_limit}
 use Rattle.model.specs.Limits.{coin_limit, tx_size_limit, body_size_limit, volatile_limit, mempool_limit}
-use Rattle.model.specs.Limits.{grant_count_limit}
+use Rattle.model.specs.Limits.{volatile_bytes_limit, grant_count_limit}
 use Rattle.model.specs.Transaction.{Address, KeyHash, key_hash_of}
 use Rattle.model.specs.Rules.{SecondEra, Params}
 use Rattle.model.specs.Genesis.{Genesis, Grant}
@@ -24,6 +24,11 @@ use Rattle.genesis.specs.Document.{EraNumbers, Numbers, Lock, ByAddress, ByKey, 
 abbrev pub within : (least most : ℕ) → ℤ → Option ℕ
 within least most (pos n) = if nat_le least n && nat_le n most then Some n else None
 within least most (negsuc n) = None
+
+-- where one is written
+unfoldable pub within_if : (least most : ℕ) → Option ℤ → Option (Option ℕ)
+within_if least most None = Some None
+within_if least most (Some number) = option_map (λ n. Some n) (within least most number)
 
 -- the numbers of a second era, in their ranges
 unfoldable pub era_of : EraNumbers → Option SecondEra
@@ -43,6 +48,7 @@ pub record Settings : Type 0 where
   pub k : ℕ
   pub max_volatile : ℕ
   pub max_mempool : ℕ
+  pub max_volatile_bytes : Option ℕ
 
 unfoldable pub settings_of : Numbers → Option Settings
 settings_of numbers = do
@@ -55,6 +61,7 @@ settings_of numbers = do
   max_body_size ← within 1 body_size_limit numbers.max_body_size
   max_volatile ← within 1 volatile_limit numbers.max_volatile
   max_mempool ← within 1 mempool_limit numbers.max_mempool
+  max_volatile_bytes ← within_if 1 volatile_bytes_limit numbers.max_volatile_bytes
   second_era ← era_if_written numbers.second_era
   Some (record {
     params = record {
@@ -69,6 +76,7 @@ settings_of numbers = do
     k = k;
     max_volatile = max_volatile;
     max_mempool = max_mempool;
+    max_volatile_bytes = max_volatile_bytes;
   })
 
 -- ---- the addresses
@@ -128,6 +136,7 @@ genesis_with settings grants =
       params = settings.params;
       k = settings.k;
       max_volatile = settings.max_volatile;
+      max_volatile_bytes = settings.max_volatile_bytes;
       max_mempool = settings.max_mempool;
       grants = grants;
     }

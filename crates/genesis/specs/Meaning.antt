@@ -9,7 +9,8 @@ use Rattle.toml.specs.Parse.{parse_document}
 use Rattle.model.specs.Transaction.{Address, KeyHash, key_hash_of, address_bytes, IsAddress}
 use Rattle.model.specs.Rules.{SecondEra}
 use Rattle.model.specs.Limits.{hash_size, greatest_network, greatest_number, k_limit, fee_rate_limit, coin_limit}
-use Rattle.model.specs.Limits.{tx_size_limit, body_size_limit, volatile_limit, mempool_limit, grant_count_limit}
+use Rattle.model.specs.Limits.{tx_size_limit, body_size_limit, volatile_limit, volatile_bytes_limit, mempool_limit}
+use Rattle.model.specs.Limits.{grant_count_limit}
 use Rattle.model.specs.Genesis.{Genesis, Grant, IsWithin, IsGenesis}
 use Rattle.model.specs.First.{IsFirst}
 use Rattle.genesis.specs.declared.genesis_fault.GenesisFault.{GenesisFault}
@@ -60,6 +61,7 @@ pub record AreInRange (numbers : Numbers) : Type 0 where
   pub max_tx_size : IsInRange 1 tx_size_limit numbers.max_tx_size
   pub max_body_size : IsInRange 1 body_size_limit numbers.max_body_size
   pub max_volatile : IsInRange 1 volatile_limit numbers.max_volatile
+  pub max_volatile_bytes : IfSome numbers.max_volatile_bytes (IsInRange 1 volatile_bytes_limit)
   pub max_mempool : IsInRange 1 mempool_limit numbers.max_mempool
   pub second_era : IfSome numbers.second_era AreOfSecondEra
 
@@ -118,6 +120,7 @@ pub record IsGenesisOf (written : Written) (genesis : Genesis) : Type 0 where
   pub max_tx_size : written.numbers.max_tx_size ≡ pos genesis.params.max_tx_size
   pub max_body_size : written.numbers.max_body_size ≡ pos genesis.params.max_body_size
   pub max_volatile : written.numbers.max_volatile ≡ pos genesis.max_volatile
+  pub max_volatile_bytes : written.numbers.max_volatile_bytes ≡ option_map (λ n. pos n) genesis.max_volatile_bytes
   pub max_mempool : written.numbers.max_mempool ≡ pos genesis.max_mempool
   pub second_era : written.numbers.second_era ≡ option_map numbers_of_era genesis.params.second_era
   -- one grant for each output, in the same order

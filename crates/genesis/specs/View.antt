@@ -38,6 +38,7 @@ numbers_view n =
       max_tx_size = n.max_tx_size;
       max_body_size = n.max_body_size;
       max_volatile = n.max_volatile;
+      max_volatile_bytes = n.max_volatile_bytes;
       max_mempool = n.max_mempool;
       second_era = option_map era_numbers_view n.second_era;
     }
@@ -74,6 +75,7 @@ settings_view s =
       };
       k = s.k;
       max_volatile = s.max_volatile;
+      max_volatile_bytes = s.max_volatile_bytes;
       max_mempool = s.max_mempool;
     }
 

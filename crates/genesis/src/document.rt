@@ -10,13 +10,13 @@ ghost use Rattle.genesis.specs.View.{era_numbers_view, numbers_view, lock_view, 
 
 use crate::genesis_fault::GenesisFault;
 use crate::scheme::Scheme;
-use crate::table::{has_only, number_at, value_at};
+use crate::table::{has_only, number_at, number_if_at, value_at};
 use std::alloc::{AllocError, Global};
 use toml::value::Array;
 use toml::{Table, Value};
 
 /// The keys of a genesis.
-pub const GENESIS_KEYS: [&str; 13] = [
+pub const GENESIS_KEYS: [&str; 14] = [
     "network",
     "k",
     "min_fee_a",
@@ -26,6 +26,7 @@ pub const GENESIS_KEYS: [&str; 13] = [
     "max_body_size",
     "max_volatile",
     "max_mempool",
+    "max_volatile_bytes",
     "era2_slot",
     "per_asset",
     "output",
@@ -59,7 +60,7 @@ impl EraNumbers {
     }
 }
 
-/// The nine numbers that each genesis has, and those of a second era, as they are written.
+/// The nine numbers that each genesis has, a bound of bytes, and those of a second era, as they are written.
 #[derive(Clone, Copy)]
 pub struct Numbers {
     pub network: i64,
@@ -71,11 +72,12 @@ pub struct Numbers {
     pub max_body_size: i64,
     pub max_volatile: i64,
     pub max_mempool: i64,
+    pub max_volatile_bytes: Option<i64>,
     pub second_era: Option<EraNumbers>,
 }
 
 impl Numbers {
-    /// The numbers of a document, if each of the nine stands there.
+    /// The numbers of a document, if each of the nine stands there, and what stands for the others is a number.
     #[tactic(auto, unfolding(crate::specs::Document::numbers_in))]
     pub fn of_table(table: &Table) -> Option<Numbers>
         ensures { option_map numbers_view result ≡ numbers_in (table_view table.now) }
@@ -90,6 +92,7 @@ impl Numbers {
             max_body_size: number_at(table, "max_body_size")?,
             max_volatile: number_at(table, "max_volatile")?,
             max_mempool: number_at(table, "max_mempool")?,
+            max_volatile_bytes: number_if_at(table, "max_volatile_bytes")?,
             second_era: EraNumbers::of_table(table)?,
         })
     }

@@ -68,11 +68,12 @@ impl Genesis {
 
     /// The genesis that a TOML document says: `network` (0 to 15), `k` (1 to 10,000), `min_fee_a` (at most
     /// 1,000,000), `min_fee_b` and `min_utxo` (at most 1,000,000,000,000), `max_tx_size` (1 to 65,536), `max_body_size`
-    /// (1 to 1,048,000), `max_volatile` and `max_mempool` (1 to 100,000), both or none of `era2_slot` (1 to 2^63 - 1)
-    /// and `per_asset` (at most 1,000,000,000,000), and `output`, an array of tables, each with `coin` and just one of
-    /// `address` (66 hexadecimal digits) and `key` (64 of them). `scheme` may stand there too, `"test"` or `"ed25519"`,
-    /// and where it is missing the scheme is the tests': `GenesisDocument::from_toml` tells it. Err is the first of the
-    /// faults that applies to the whole text, or OutOfMemory. Takes time and memory in proportion to the text.
+    /// (1 to 1,048,000), `max_volatile` and `max_mempool` (1 to 100,000), `max_volatile_bytes` (1 to 2^40), which may be
+    /// missing, both or none of `era2_slot` (1 to 2^63 - 1) and `per_asset` (at most 1,000,000,000,000), and `output`,
+    /// an array of tables, each with `coin` and just one of `address` (66 hexadecimal digits) and `key` (64 of them).
+    /// `scheme` may stand there too, `"test"` or `"ed25519"`, and where it is missing the scheme is the tests':
+    /// `GenesisDocument::from_toml` tells it. Err is the first of the faults that applies to the whole text, or
+    /// OutOfMemory. Takes time and memory in proportion to the text.
     pub fn from_toml(alloc: Global, text: &str) -> Result<Genesis, GenesisFault>
         ensures exact { Gives (λ genesis. genesis) result (genesis_of text.now) }
         ensures least { IsAnswer text.now result }
@@ -148,6 +149,13 @@ impl Genesis {
         ensures { result ≡ self.now.max_volatile }
     {
         self.settings.max_volatile
+    }
+
+    /// How many bytes the live blocks have at most, all texts together, 1 to 2^40; None where that isn't bounded.
+    pub fn max_volatile_bytes(&self) -> Option<u64>
+        ensures { result ≡ self.now.max_volatile_bytes }
+    {
+        self.settings.max_volatile_bytes
     }
 
     /// How many transactions wait at most, 1 to 100,000.

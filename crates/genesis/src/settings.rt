@@ -1,7 +1,7 @@
 //! The numbers of a genesis, in their ranges.
 
 ghost use Rattle.std.specs.Prelude.{◌≡◌, ◌≤◌, ◌<◌, IfSome, option_map};
-ghost use Rattle.genesis.specs.Judgement.{within, era_of, era_if_written, settings_of};
+ghost use Rattle.genesis.specs.Judgement.{within, within_if, era_of, era_if_written, settings_of};
 ghost use Rattle.genesis.specs.View.{era_numbers_view, era_view, numbers_view, settings_view};
 
 use crate::document::{EraNumbers, Numbers};
@@ -26,6 +26,7 @@ pub struct Settings {
     pub max_tx_size: u64,
     pub max_body_size: u64,
     pub max_volatile: u64,
+    pub max_volatile_bytes: Option<u64>,
     pub max_mempool: u64,
     pub second_era: Option<SecondEra>,
 }
@@ -40,6 +41,17 @@ pub fn within(least: u64, most: u64, number: i64) -> Option<u64>
         return None;
     }
     Some(number)
+}
+
+/// The same, where a number is written.
+#[tactic(auto, unfolding(crate::specs::Judgement::within_if))]
+fn within_if(least: u64, most: u64, number: Option<i64>) -> Option<Option<u64>>
+    ensures { result ≡ within_if least most number }
+{
+    match number {
+        None => Some(None),
+        Some(number) => Some(Some(within(least, most, number)?)),
+    }
 }
 
 impl SecondEra {
@@ -83,6 +95,7 @@ impl Settings {
             max_body_size: within(1, 1_048_000, numbers.max_body_size)?,
             max_volatile: within(1, 100_000, numbers.max_volatile)?,
             max_mempool: within(1, 100_000, numbers.max_mempool)?,
+            max_volatile_bytes: within_if(1, 1_099_511_627_776, numbers.max_volatile_bytes)?,
             second_era: SecondEra::if_written(&numbers.second_era)?,
         })
     }

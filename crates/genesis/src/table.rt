@@ -3,7 +3,7 @@
 ghost use Rattle.std.specs.Prelude.{◌≡◌, map, option_map};
 ghost use Rattle.toml.specs.Data.{get_member};
 ghost use Rattle.toml.specs.View.{table_view, view};
-ghost use Rattle.genesis.specs.Document.{has_only, number_at};
+ghost use Rattle.genesis.specs.Document.{has_only, number_at, number_if_at};
 ghost use Rattle.genesis.specs.View.{texts_of};
 
 use toml::{Table, Value};
@@ -32,4 +32,15 @@ pub fn number_at(table: &Table, key: &str) -> Option<i64>
     ensures { result ≡ number_at key.now (table_view table.now) }
 {
     value_at(table, key)?.as_integer()
+}
+
+/// The whole number at a key, and none where nothing stands there. None altogether where something else does.
+#[tactic(auto, unfolding(crate::specs::Document::number_if_at))]
+pub fn number_if_at(table: &Table, key: &str) -> Option<Option<i64>>
+    ensures { result ≡ number_if_at key.now (table_view table.now) }
+{
+    match value_at(table, key) {
+        None => Some(None),
+        Some(value) => Some(Some(value.as_integer()?)),
+    }
 }

@@ -10,10 +10,10 @@ use Rattle.model.specs.Genesis.{Genesis, Grant}
 use Rattle.genesis.specs.declared.genesis_fault.GenesisFault.{GenesisFault}
 use Rattle.genesis.specs.declared.genesis_fault.GenesisFault.TheVariants as faults
 use Rattle.genesis.specs.Steps.{◌>>=◌, guard, each, or_fault}
-use Rattle.genesis.specs.Document.{EraNumbers, Numbers, Lock, ByAddress, ByKey, Entry, Written, is_known, has_only, genesis_keys, entry_keys, number_at, both_or_none, era_in, numbers_in, scheme_of, scheme_at, scheme_in, one_lock, lock_in, entry_in, entry_of, values_of, outputs_in, written_in}
-use Rattle.genesis.specs.Judgement.{within, era_of, era_if_written, Settings, settings_of, address_of_lock, Placed, placed_of, grant_of, limited, grants_of, counted, genesis_with, judged}
-use Rattle.hints.specs.GenesisSpots.{Spot, in_document, in_output, ◌or◌, unless, first_found, unknown_in, number_trouble, number_spot, lacking, era_spot, scheme_name_spot, scheme_spot, lock_spot, table_spot, element_spot, entry_spot, array_spot, outputs_spot, shape_spot}
-use Rattle.hints.specs.GenesisSpots.{Bounded, bounded, era_bounds, number_bounds, bound_spot, range_spot, homeless_spot, address_spot, or_zero, coin_trouble, coin_spot, count_spot, written_spot, document_spot, fault_or_genesis, fault_of, TellsOf}
+use Rattle.genesis.specs.Document.{EraNumbers, Numbers, Lock, ByAddress, ByKey, Entry, Written, is_known, has_only, genesis_keys, entry_keys, number_at, number_if, number_if_at, both_or_none, era_in, numbers_in, scheme_of, scheme_at, scheme_in, one_lock, lock_in, entry_in, entry_of, values_of, outputs_in, written_in}
+use Rattle.genesis.specs.Judgement.{within, within_if, era_of, era_if_written, Settings, settings_of, address_of_lock, Placed, placed_of, grant_of, limited, grants_of, counted, genesis_with, judged}
+use Rattle.hints.specs.GenesisSpots.{Spot, in_document, in_output, ◌or◌, unless, first_found, unknown_in, number_trouble, number_spot, lacking, optional_spot, era_spot, scheme_name_spot, scheme_spot, lock_spot, table_spot, element_spot, entry_spot, array_spot, outputs_spot, shape_spot}
+use Rattle.hints.specs.GenesisSpots.{Bounded, bounded, bytes_bounds, era_bounds, number_bounds, bound_spot, range_spot, homeless_spot, address_spot, or_zero, coin_trouble, coin_spot, count_spot, written_spot, document_spot, fault_or_genesis, fault_of, TellsOf}
 use Rattle.hints.specs.declared.genesis_spot.Trouble.TheVariants.{Unknown, NotNumber, NoCoin, TooMuch, NoOutputs, TooMany}
 
 -- ---- one step
@@ -60,6 +60,10 @@ tells_then fault None f (Some s) next told after = told
 or_assoc : (a b c : Option Spot) → ((a or b) or c) ≡ (a or (b or c))
 or_assoc None b c = refl
 or_assoc (Some s) b c = refl
+
+or_assoc_twice : (a b c d : Option Spot) → ((a or (b or c)) or d) ≡ (a or (b or (c or d)))
+or_assoc_twice None b c d = or_assoc b c d
+or_assoc_twice (Some s) b c d = refl
 
 -- what is found first, or else this
 abbrev first_or : {A : Type 0} → (ℕ → A → Option Spot) → ℕ → List A → Option Spot → Option Spot
@@ -117,6 +121,15 @@ era_told document = by_values (get_member (codes "era2_slot") document) (get_mem
         told_then faults.BadShape (as_integer s) _ _ _ (told_unless faults.BadShape (as_integer s) _ refl)
         (λ slot is. told_made faults.BadShape (as_integer c) _ _ (told_unless faults.BadShape (as_integer c) _ refl))
 
+-- a number that may be missing
+optional_told : (key : List ℕ) (document : Members) → Told faults.BadShape (number_if_at key document) (optional_spot key (get_member key document))
+unfolding number_if_at
+optional_told key document = by_value (get_member key document)
+  where
+    by_value : (found : Option Data) → Told faults.BadShape (number_if found) (optional_spot key found)
+    by_value None = tt
+    by_value (Some value) = told_mapped faults.BadShape (as_integer value) (λ number. Some number) _ (told_unless faults.BadShape (as_integer value) _ refl)
+
 -- where something is told of each element
 each_told : {A B : Type 0} (fault : GenesisFault) (f : A → Option B) (g : ℕ → A → Option Spot) → ((n : ℕ) (x : A) → Told fault (f x) (g n x)) → (n : ℕ) (xs : List A) → Told fault (each f xs) (first_found g n xs)
 each_told fault f g told n [] = tt
@@ -124,13 +137,14 @@ each_told fault f g told n (x ∷ xs) =
     told_then fault (f x) _ (g n x) (first_found g (n + 1) xs) (told n x)
     (λ y is. told_made fault (each f xs) (λ ys. y ∷ ys) (first_found g (n + 1) xs) (each_told fault f g told (n + 1) xs))
 
-numbers_told : (document : Members) → Told faults.BadShape (numbers_in document) (lacking (take 9 genesis_keys) document or era_spot (get_member (codes "era2_slot") document) (get_member (codes "per_asset") document))
+numbers_told : (document : Members) → Told faults.BadShape (numbers_in document) (lacking (take 9 genesis_keys) document or (optional_spot (codes "max_volatile_bytes") (get_member (codes "max_volatile_bytes") document) or era_spot (get_member (codes "era2_slot") document) (get_member (codes "per_asset") document)))
 unfolding numbers_in
 numbers_told document =
     let era = era_spot (get_member (codes "era2_slot") document) (get_member (codes "per_asset") document) in
+    let rest = optional_spot (codes "max_volatile_bytes") (get_member (codes "max_volatile_bytes") document) or era in
     let f : ℕ → List ℕ → Option Spot = λ n key. number_spot key document in
     let number = λ (key : List ℕ). number_told key document in
-    subst (Told faults.BadShape (numbers_in document)) (sym (first_or-is f 0 (take 9 genesis_keys) era))
+    subst (Told faults.BadShape (numbers_in document)) (sym (first_or-is f 0 (take 9 genesis_keys) rest))
     (told_then faults.BadShape (number_at (codes "network") document) _ _ _ (number (codes "network")) (λ a is_a.
     told_then faults.BadShape (number_at (codes "k") document) _ _ _ (number (codes "k")) (λ b is_b.
     told_then faults.BadShape (number_at (codes "min_fee_a") document) _ _ _ (number (codes "min_fee_a")) (λ c is_c.
@@ -140,7 +154,8 @@ numbers_told document =
     told_then faults.BadShape (number_at (codes "max_body_size") document) _ _ _ (number (codes "max_body_size")) (λ g is_g.
     told_then faults.BadShape (number_at (codes "max_volatile") document) _ _ _ (number (codes "max_volatile")) (λ h is_h.
     told_then faults.BadShape (number_at (codes "max_mempool") document) _ _ _ (number (codes "max_mempool")) (λ i is_i.
-    told_made faults.BadShape (era_in document) _ _ (era_told document)))))))))))
+    told_then faults.BadShape (number_if_at (codes "max_volatile_bytes") document) _ _ _ (optional_told (codes "max_volatile_bytes") document) (λ l is_l.
+    told_made faults.BadShape (era_in document) _ _ (era_told document))))))))))))
 
 scheme_told : (document : Members) → Told faults.BadShape (scheme_in document) (scheme_spot (get_member (codes "scheme") document))
 unfolding scheme_in
@@ -193,12 +208,13 @@ outputs_told document = by_value (get_member (codes "output") document)
 shape_told : (document : Members) → Told faults.BadShape (written_in document) (shape_spot document)
 unfolding written_in shape_spot
 shape_told document =
+    let bytes = optional_spot (codes "max_volatile_bytes") (get_member (codes "max_volatile_bytes") document) in
     let era = era_spot (get_member (codes "era2_slot") document) (get_member (codes "per_asset") document) in
     let scheme = scheme_spot (get_member (codes "scheme") document) in
     let outputs = outputs_spot (get_member (codes "output") document) in
     told_then faults.BadShape (guard (has_only genesis_keys document)) _ _ _ (unknown_told genesis_keys document (λ key. in_document key Unknown) (λ key. refl)) (λ known is_known.
     subst (Told faults.BadShape (numbers_in document >>= λ numbers. (scheme_in document >>= λ scheme. (outputs_in document >>= λ outputs. Some (record { numbers = numbers; scheme = scheme; outputs = outputs })))))
-    (or_assoc (lacking (take 9 genesis_keys) document) era (scheme or outputs))
+    (or_assoc_twice (lacking (take 9 genesis_keys) document) bytes era (scheme or outputs))
     (told_then faults.BadShape (numbers_in document) _ _ _ (numbers_told document) (λ numbers is_numbers.
     told_then faults.BadShape (scheme_in document) _ _ _ (scheme_told document) (λ found is_scheme.
     told_made faults.BadShape (outputs_in document) _ _ (outputs_told document)))))
@@ -216,11 +232,22 @@ bounds_told (Some era) =
     (told_then faults.OutOfRange (within 1 greatest_number era.first_slot) _ _ _ (bound_told (codes "era2_slot") 1 greatest_number era.first_slot) (λ slot is_slot.
     told_then faults.OutOfRange (within 0 1000000000000 era.per_asset) _ _ _ (bound_told (codes "per_asset") 0 1000000000000 era.per_asset) (λ coin is_coin. tt)))
 
-settings_told : (numbers : Numbers) → Told faults.OutOfRange (settings_of numbers) (range_spot (number_bounds numbers) or range_spot (era_bounds numbers.second_era))
+or_nothing : (a : Option Spot) → (a or None) ≡ a
+or_nothing None = refl
+or_nothing (Some s) = refl
+
+bytes_told : (number : Option ℤ) → Told faults.OutOfRange (within_if 1 1099511627776 number) (range_spot (bytes_bounds number))
+unfolding within_if
+bytes_told None = tt
+bytes_told (Some number) =
+    subst (Told faults.OutOfRange (within_if 1 1099511627776 (Some number))) (sym (or_nothing (bound_spot (bounded (codes "max_volatile_bytes") 1 1099511627776 number))))
+    (told_mapped faults.OutOfRange (within 1 1099511627776 number) (λ n. Some n) _ (bound_told (codes "max_volatile_bytes") 1 1099511627776 number))
+
+settings_told : (numbers : Numbers) → Told faults.OutOfRange (settings_of numbers) (range_spot (number_bounds numbers) or (range_spot (bytes_bounds numbers.max_volatile_bytes) or range_spot (era_bounds numbers.second_era)))
 unfolding settings_of
 settings_told numbers =
     let f : ℕ → Bounded → Option Spot = λ n b. bound_spot b in
-    subst (Told faults.OutOfRange (settings_of numbers)) (sym (first_or-is f 0 (number_bounds numbers) (range_spot (era_bounds numbers.second_era))))
+    subst (Told faults.OutOfRange (settings_of numbers)) (sym (first_or-is f 0 (number_bounds numbers) (range_spot (bytes_bounds numbers.max_volatile_bytes) or range_spot (era_bounds numbers.second_era))))
     (told_then faults.OutOfRange (within 0 15 numbers.network) _ _ _ (bound_told (codes "network") 0 15 numbers.network) (λ a is_a.
     told_then faults.OutOfRange (within 1 10000 numbers.k) _ _ _ (bound_told (codes "k") 1 10000 numbers.k) (λ b is_b.
     told_then faults.OutOfRange (within 0 1000000 numbers.min_fee_a) _ _ _ (bound_told (codes "min_fee_a") 0 1000000 numbers.min_fee_a) (λ c is_c.
@@ -230,7 +257,8 @@ settings_told numbers =
     told_then faults.OutOfRange (within 1 1048000 numbers.max_body_size) _ _ _ (bound_told (codes "max_body_size") 1 1048000 numbers.max_body_size) (λ g is_g.
     told_then faults.OutOfRange (within 1 100000 numbers.max_volatile) _ _ _ (bound_told (codes "max_volatile") 1 100000 numbers.max_volatile) (λ h is_h.
     told_then faults.OutOfRange (within 1 100000 numbers.max_mempool) _ _ _ (bound_told (codes "max_mempool") 1 100000 numbers.max_mempool) (λ i is_i.
-    told_made faults.OutOfRange (era_if_written numbers.second_era) _ _ (bounds_told numbers.second_era)))))))))))
+    told_then faults.OutOfRange (within_if 1 1099511627776 numbers.max_volatile_bytes) _ _ _ (bytes_told numbers.max_volatile_bytes) (λ l is_l.
+    told_made faults.OutOfRange (era_if_written numbers.second_era) _ _ (bounds_told numbers.second_era))))))))))))
 
 -- what was found on the way
 on_the_way : {A B : Type 0} (found : Option A) (f : A → Option B) (y : B) → (found >>= f) ≡ Some y → (x : A) × (found ≡ Some x) × (f x ≡ Some y)
@@ -250,7 +278,8 @@ network_found numbers settings is =
     let body_size = on_the_way (within 1 1048000 numbers.max_body_size) _ settings tx_size.2 in
     let volatile = on_the_way (within 1 100000 numbers.max_volatile) _ settings body_size.2 in
     let mempool = on_the_way (within 1 100000 numbers.max_mempool) _ settings volatile.2 in
-    let era = on_the_way (era_if_written numbers.second_era) _ settings mempool.2 in
+    let bytes = on_the_way (within_if 1 1099511627776 numbers.max_volatile_bytes) _ settings mempool.2 in
+    let era = on_the_way (era_if_written numbers.second_era) _ settings bytes.2 in
     found ∙ ap (λ (s : Settings). Some s.params.network) (same_Some _ _ era.2)
 
 -- ---- the outputs
@@ -417,9 +446,10 @@ judged_told : (written : Written) → TellsOf (judged written) (written_spot wri
 unfolding judged written_spot
 judged_told written =
     let numbers = range_spot (number_bounds written.numbers) in
+    let bytes = range_spot (bytes_bounds written.numbers.max_volatile_bytes) in
     let era = range_spot (era_bounds written.numbers.second_era) in
     let P : Option Spot → Type 0 = λ spot. TellsOf (judged written) spot in
-    subst P (or_assoc numbers era _)
+    subst P (or_assoc_twice numbers bytes era _)
     (tells_then faults.OutOfRange (settings_of written.numbers) _ _ _ (settings_told written.numbers) (λ settings is_settings.
     let network = settings.params.network in
     let Q : Option ℕ → Type 0 = λ found. TellsOf (or_fault faults.BadAddress (each (placed_of network) written.outputs) (λ placed.

@@ -4,7 +4,8 @@ use Rattle.std.specs.Prelude.{Result, Ok, Err, option_map, codes}
 use Rattle.toml.specs.Data.{Data, Items, Members, no_members, member, get_member}
 use Rattle.toml.specs.Data.{as_integer, as_str, as_array, as_table}
 use Rattle.model.specs.Limits.{greatest_network, greatest_number, k_limit, fee_rate_limit, coin_limit}
-use Rattle.model.specs.Limits.{tx_size_limit, body_size_limit, volatile_limit, mempool_limit, grant_count_limit}
+use Rattle.model.specs.Limits.{tx_size_limit, body_size_limit, volatile_limit, volatile_bytes_limit, mempool_limit}
+use Rattle.model.specs.Limits.{grant_count_limit}
 use Rattle.model.specs.Genesis.{Genesis}
 use Rattle.genesis.specs.declared.genesis_fault.GenesisFault.{GenesisFault}
 use Rattle.genesis.specs.declared.genesis_fault.GenesisFault.TheVariants as faults
@@ -68,6 +69,11 @@ number_spot key document = option_map (in_document key) (number_trouble (get_mem
 abbrev pub lacking : List (List ℕ) → Members → Option Spot
 lacking keys document = first_found (λ n key. number_spot key document) 0 keys
 
+-- something else than a whole number stands at a key that may be missing
+abbrev pub optional_spot : List ℕ → Option Data → Option Spot
+optional_spot key None = None
+optional_spot key (Some value) = unless (as_integer value) (in_document key NotNumber)
+
 -- both numbers of a second era have to stand there, or neither
 abbrev pub era_spot : Option Data → Option Data → Option Spot
 era_spot None None = None
@@ -122,6 +128,7 @@ unfoldable pub shape_spot : Members → Option Spot
 shape_spot document =
     option_map (λ key. in_document key Unknown) (unknown_in genesis_keys document)
     or lacking (take 9 genesis_keys) document
+    or optional_spot (codes "max_volatile_bytes") (get_member (codes "max_volatile_bytes") document)
     or era_spot (get_member (codes "era2_slot") document) (get_member (codes "per_asset") document)
     or scheme_spot (get_member (codes "scheme") document)
     or outputs_spot (get_member (codes "output") document)
@@ -137,6 +144,10 @@ pub record Bounded : Type 0 where
 
 abbrev pub bounded : List ℕ → (least most : ℕ) → ℤ → Bounded
 bounded key least most number = record { key = key; least = least; most = most; number = number }
+
+abbrev pub bytes_bounds : Option ℤ → List Bounded
+bytes_bounds None = []
+bytes_bounds (Some number) = bounded (codes "max_volatile_bytes") 1 volatile_bytes_limit number ∷ []
 
 abbrev pub era_bounds : Option EraNumbers → List Bounded
 era_bounds None = []
@@ -207,6 +218,7 @@ count_spot n =
 unfoldable pub written_spot : Written → Option Spot
 written_spot written =
     range_spot (number_bounds written.numbers)
+    or range_spot (bytes_bounds written.numbers.max_volatile_bytes)
     or range_spot (era_bounds written.numbers.second_era)
     or addresses_spot written.numbers.network written.outputs
     or coin_spot 0 0 written.outputs

@@ -7,7 +7,8 @@ ghost use Rattle.model.specs.Limits.{greatest_number, network_limit};
 ghost use Rattle.genesis.specs.Document.{values_of};
 ghost use Rattle.genesis.specs.Judgement.{within};
 ghost use Rattle.genesis.specs.View.{entry_view, era_numbers_view, lock_view, numbers_view, texts_of, written_view};
-ghost use Rattle.hints.specs.GenesisSpots.{in_document, in_output, number_trouble, lacking, unknown_in, era_spot};
+ghost use Rattle.hints.specs.GenesisSpots.{in_document, in_output, number_trouble, lacking, optional_spot, unknown_in};
+ghost use Rattle.hints.specs.GenesisSpots.{era_spot, bytes_bounds};
 ghost use Rattle.hints.specs.GenesisSpots.{scheme_spot, lock_spot, table_spot, entry_spot, first_found, outputs_spot};
 ghost use Rattle.hints.specs.GenesisSpots.{shape_spot, bounded, bound_spot, range_spot, number_bounds, era_bounds};
 ghost use Rattle.hints.specs.GenesisSpots.{address_spot, addresses_spot, homeless_spot, coin_trouble, coin_spot};
@@ -161,6 +162,17 @@ fn lacking(table: &Table, keys: &[&'static str]) -> Option<Spot<'static>>
     None
 }
 
+/// What is wrong with the number at a key that may be missing.
+fn optional_spot(table: &Table, key: &'static str) -> Option<Spot<'static>>
+    ensures { option_map spot_view result ≡ optional_spot key.now (get_member key.now (table_view table.now)) }
+{
+    let value = value_at(table, key)?;
+    match value.as_integer() {
+        Some(_) => None,
+        None => Some(Spot::in_document(key, Trouble::NotNumber)),
+    }
+}
+
 /// What is wrong with the two numbers of a second era.
 fn era_spot(table: &Table) -> Option<Spot<'static>>
     ensures { option_map spot_view result ≡ era_spot (get_member (codes "era2_slot") (table_view table.now))
@@ -278,6 +290,9 @@ fn shape_spot<'a>(table: &'a Table) -> Option<Spot<'a>>
     if let Some(spot) = lacking(table, &GENESIS_KEYS[..9]) {
         return Some(spot);
     }
+    if let Some(spot) = optional_spot(table, "max_volatile_bytes") {
+        return Some(spot);
+    }
     if let Some(spot) = era_spot(table) {
         return Some(spot);
     }
@@ -352,6 +367,14 @@ fn numbers_spot(numbers: &Numbers) -> Option<Spot<'static>>
         Bounded::new("max_volatile", 1, 100_000, numbers.max_volatile),
         Bounded::new("max_mempool", 1, 100_000, numbers.max_mempool),
     ];
+    first_outside(&bounds)
+}
+
+/// The bound of bytes, where it is out of its range.
+fn bytes_spot(bytes: Option<i64>) -> Option<Spot<'static>>
+    ensures { option_map spot_view result ≡ range_spot (bytes_bounds bytes) }
+{
+    let bounds = [Bounded::new("max_volatile_bytes", 1, 1_099_511_627_776, bytes?)];
     first_outside(&bounds)
 }
 
@@ -449,6 +472,9 @@ fn written_spot(written: &Written<'_>) -> Option<Spot<'static>>
     ensures { option_map spot_view result ≡ written_spot (written_view written.now) }
 {
     if let Some(spot) = numbers_spot(&written.numbers) {
+        return Some(spot);
+    }
+    if let Some(spot) = bytes_spot(written.numbers.max_volatile_bytes) {
         return Some(spot);
     }
     if let Some(spot) = second_era_spot(&written.numbers.second_era) {

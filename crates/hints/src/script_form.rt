@@ -101,6 +101,7 @@ impl Form {
             | "open"
             | "next"
             | "close"
+            | "discard"
             | "why"
             | "where" => Form::line(NAME, Rest::Nothing),
             "key" | "seed" | "script" | "raw" => Form::line(DIGITS, Rest::Nothing),

@@ -135,7 +135,7 @@ pub fn wanted_at(words: &[&str], place: usize) -> Option<Wanted> {
         ("out", 2) if words.get(1) == Some(&"key") => Sort::Key,
         ("out", 2) => Sort::Script,
         ("out", _) if place >= 4 && place % 3 == 1 => Sort::Script,
-        ("block", 2) | ("why", 1) => Sort::Block,
+        ("block", 2) | ("discard" | "why", 1) => Sort::Block,
         ("block", _) if place >= 4 => Sort::Tx,
         ("forward", _) if place >= 2 => Sort::Block,
         ("balance", 1) if words.len() == 2 => Sort::Key,

@@ -202,6 +202,13 @@ impl LedgerDb {
         self.state = prepared.state;
     }
 
+    /// Keeps no state beside the chain any more. Takes no memory.
+    pub fn drop_sides(&mut self)
+        ensures { self.new ≡ record self.old { sides = [] } }
+    {
+        self.sides.clear();
+    }
+
     /// The state beside the chain that the block may come next after, if one is kept. Takes no memory.
     pub fn side_before<S: SigScheme>(&self, block: &CheckedBlock<S>) -> Option<&LedgerState>
         ensures { MatchOption result

@@ -1,8 +1,10 @@
 -- What every legal history keeps, and that it determines its state.
-use Rattle.std.proofs.Common.{◌≡◌, ◌≢◌, ℕ, ◌+◌, ◌-◌, zero, suc, ◌<◌, ◌≤◌, ◌↔◌, Bool, true, false, cond, List, [], ◌∷◌, Some, None, take, length, Contains, refl, sym, ap, subst, ◌∙◌, arith, inl, inr, ◌⊎◌}
-use Rattle.std.specs.Prelude.{nat_lt, slice_set}
+use Rattle.std.proofs.Common.{◌≡◌, ◌≢◌, ℕ, ◌+◌, ◌-◌, zero, suc, ◌<◌, ◌≤◌, ◌↔◌, Bool, true, false, cond, List, [], ◌∷◌, Some, None, take, drop, length, Contains, refl, sym, ap, subst, ◌∙◌, arith, inl, inr, ◌⊎◌}
+use Rattle.std.specs.Prelude.{nat_lt, bytes_eq, not, slice_set}
 use Rattle.std.specs.List.{AllByRecursion, filter}
 use Rattle.std.proofs.lemmas.Bool.{lt-ltb, ltb-true}
+use Rattle.std.proofs.lemmas.List.{take-append-drop}
+use Rattle.std.proofs.lemmas.List.Elements.{Contains-append_left}
 use Rattle.std.proofs.lemmas.Option.{same_Some}
 use Rattle.model.specs.Block.{Block, SpellsBlock, block_text, block_hash_of}
 use Rattle.model.specs.Genesis.{Genesis}
@@ -11,9 +13,10 @@ use Rattle.model.specs.Ledger.{Network, network_of}
 use Rattle.model.specs.Chain.{Tip, tip_at, genesis_tip, IsLinked, IsOpening, IsValidChain, NoneLonger, IsSelection, Stays, Changes, HaveDistinctHashes, immutable_length, immutable_part, live_blocks, BeginsWith}
 use Rattle.model.specs.Mempool.{SubmitReply, IsValidMempool, revalidated}
 use Rattle.model.specs.Follower.{Follower, Followers, Instruction, IsNext, AreMoved, follower_of, standing_at, with_opened}
-use Rattle.model.specs.History.{State, opening, live_of, Refusal, Known, Clash, Applies, Event, Arrive, Submit, Open, Next, Forward, Close, Reply, Kept, Refused, Submitted, Opened, TooManyFollowers, Instructed, Forwarded, Closed, UnknownFollower, OutOfMemory, Keeps, Takes, Instructs, with_follower, Step, Entry, IsRun, IsLegal, BringsBlock, IsKeptBy, length_with, length_from}
-use Rattle.model.proofs.Lists.{all_of_member, all_weaker, all_from_members, all_filter_narrower, contains_first, contains_later, contains_cases}
-use Rattle.model.proofs.Chains.{begins_with_itself, begins_earlier}
+use Rattle.model.specs.History.{State, opening, live_of, Refusal, Known, Clash, Applies, Event, Arrive, Submit, Open, Next, Forward, Close, Discard, Reply, Kept, Refused, Submitted, Opened, TooManyFollowers, Instructed, Forwarded, Closed, UnknownFollower, Discarded, NotBeside, OutOfMemory, Keeps, Takes, Instructs, with_follower, without_hash, Discards, Step, Entry, IsRun, IsLegal, BringsBlock, DropsBlock, NoneDrops, IsKeptBy, length_with, length_from}
+use Rattle.model.proofs.Lists.{all_of_member, all_weaker, all_from_members, all_filter_narrower, all_both, all_take, contains_first, contains_later, contains_cases}
+use Rattle.model.proofs.Discarding.{without_member, left_without, distinct_passing}
+use Rattle.model.proofs.Chains.{begins_with_itself, begins_with_whole, begins_earlier}
 use Rattle.model.proofs.Selections.{one_selection, selection_valid, selection_longer, selection_not_shorter, selection_begins, selection_longest}
 use Rattle.model.proofs.BlockTexts.{one_block, block_text_is}
 use Rattle.model.proofs.FollowerSteps.{AllSound, begins_take, begins_fewer, standing_sound, next_sound, next_one, moved_one, moved_all_sound, opened_all_sound, set_all_sound, closed_all_sound}
@@ -143,71 +146,97 @@ keeps_sound network s bytes back added t sound keeps =
           (begins_fewer s.chain t.chain (length s.chain - network.genesis.k) (immutable_length network s.chain) (omega arith) (selection_begins network t.kept s.chain t.chain keeps.selection)) sound.followers keeps.followers;
     }
 
--- a step that neither keeps a block nor changes the chain, and leaves the mempool valid
+discards_sound : (network : Network) (s : State) (hash : List ℕ) (t : State) → IsSoundState network s → Discards network s hash t → IsSoundState network t
+discards_sound network s hash t sound discards =
+    let left = without_hash hash s.kept in
+    let members : AllByRecursion (Contains left) s.chain = all_weaker (λ b. Contains s.kept b × (block_hash_of b ≢ hash)) (Contains left) s.chain (λ b is. left_without hash s.kept b is.0 is.1)
+    (all_both (Contains s.kept) (λ b. block_hash_of b ≢ hash) s.chain sound.members discards.beside.apart) in
+    subst (IsSoundState network) (sym discards.after) record {
+      valid = sound.valid;
+      longest = λ candidate is. sound.longest candidate record {
+        valid = is.valid;
+        members = all_weaker (Contains left) (Contains s.kept) candidate (λ b member. (without_member hash s.kept b member).0) is.members;
+        begins = is.begins;
+      };
+      distinct = distinct_passing (λ b. nat_lt (immutable_length network s.chain) b.header.number) (λ b. not (bytes_eq (block_hash_of b) hash)) s.kept sound.distinct;
+      mempool = sound.mempool;
+      members = members;
+      spelled = all_from_members HasItsText left (λ b member. all_of_member HasItsText s.kept b sound.spelled (without_member hash s.kept b member).0);
+      followers = sound.followers;
+    }
+
+-- a step that neither keeps a block nor discards one, nor changes the chain, and leaves the mempool valid
 pub record IsQuiet (network : Network) (s : State) (event : Event) (reply : Reply) (t : State) : Type 0 where
   pub kept : t.kept ≡ s.kept
   pub chain : t.chain ≡ s.chain
   pub counted : (n : ℕ) → length_with n reply ≡ n
   pub brings_none : (b : Block) → BringsBlock event reply b → ⊥
+  pub drops_none : (b : Block) → DropsBlock event reply b → ⊥
   pub mempool : IsValidMempool network s.chain s.mempool → IsValidMempool network t.chain t.mempool
   pub followers : AllSound network.genesis.k s.chain s.followers → AllSound network.genesis.k t.chain t.followers
 
--- a step keeps a block, or is quiet
+-- a step keeps a block, or discards one, or is quiet
 pub data Kind (network : Network) (s : State) : Event → Reply → State → Type 0 where
   Keeping : (bytes : List ℕ) (back added : ℕ) (t : State) → Keeps network s bytes back added t → Kind network s (Arrive bytes) (Kept back added) t
+  Discarding : (hash : List ℕ) (t : State) → Discards network s hash t → Kind network s (Discard hash) Discarded t
   Quiet : (event : Event) (reply : Reply) (t : State) → IsQuiet network s event reply t → Kind network s event reply t
 
 -- a step that leaves the state is quiet
-still : (network : Network) (s : State) (event : Event) (reply : Reply) (t : State) → ((n : ℕ) → length_with n reply ≡ n) → ((b : Block) → BringsBlock event reply b → ⊥) → t ≡ s → IsQuiet network s event reply t
-still network s event reply t counted none same = record {
+still : (network : Network) (s : State) (event : Event) (reply : Reply) (t : State) → ((n : ℕ) → length_with n reply ≡ n) → ((b : Block) → BringsBlock event reply b → ⊥) → ((b : Block) → DropsBlock event reply b → ⊥) → t ≡ s → IsQuiet network s event reply t
+still network s event reply t counted none stays same = record {
   kept = ap (λ (u : State). u.kept) same;
   chain = ap (λ (u : State). u.chain) same;
   counted = counted;
   brings_none = none;
+  drops_none = stays;
   mempool = subst (λ (u : State). IsValidMempool network u.chain u.mempool) (sym same);
   followers = subst (λ (u : State). AllSound network.genesis.k u.chain u.followers) (sym same);
 }
 
 -- a step that leaves all but the followers is quiet
-re_followed : (network : Network) (s : State) (event : Event) (reply : Reply) (followers : Followers) (t : State) → ((n : ℕ) → length_with n reply ≡ n) → ((b : Block) → BringsBlock event reply b → ⊥)
+re_followed : (network : Network) (s : State) (event : Event) (reply : Reply) (followers : Followers) (t : State) → ((n : ℕ) → length_with n reply ≡ n) → ((b : Block) → BringsBlock event reply b → ⊥) → ((b : Block) → DropsBlock event reply b → ⊥)
     → t ≡ record s { followers = followers } → (AllSound network.genesis.k s.chain s.followers → AllSound network.genesis.k s.chain followers) → IsQuiet network s event reply t
-re_followed network s event reply followers t counted none same sound = record {
+re_followed network s event reply followers t counted none stays same sound = record {
   kept = ap (λ (u : State). u.kept) same;
   chain = ap (λ (u : State). u.chain) same;
   counted = counted;
   brings_none = none;
+  drops_none = stays;
   mempool = subst (λ (u : State). IsValidMempool network u.chain u.mempool) (sym same);
   followers = λ before. subst (λ (u : State). AllSound network.genesis.k u.chain u.followers) (sym same) (sound before);
 }
 
 pub kind_of : (network : Network) (s : State) (event : Event) (reply : Reply) (t : State) → Step network s event reply t → Kind network s event reply t
 kind_of network s (Arrive bytes) (Kept back added) t step = Keeping bytes back added t step
-kind_of network s (Arrive bytes) (Refused refusal) t step = Quiet (Arrive bytes) (Refused refusal) t (still network s (Arrive bytes) (Refused refusal) t (λ n. refl) (λ b no'. no') step.1)
+kind_of network s (Arrive bytes) (Refused refusal) t step = Quiet (Arrive bytes) (Refused refusal) t (still network s (Arrive bytes) (Refused refusal) t (λ n. refl) (λ b no'. no') (λ b no'. no') step.1)
 kind_of network s (Submit bytes) (Submitted answer) t step = Quiet (Submit bytes) (Submitted answer) t (record {
   kept = ap (λ (u : State). u.kept) step.after;
   chain = ap (λ (u : State). u.chain) step.after;
   counted = λ n. refl;
   brings_none = λ b no'. no';
+  drops_none = λ b no'. no';
   mempool = λ valid. subst (λ (u : State). IsValidMempool network u.chain u.mempool) (sym step.after) (submitted_valid network s.chain s.mempool bytes answer step.mempool step.submits valid);
   followers = subst (λ (u : State). AllSound network.genesis.k u.chain u.followers) (sym step.after);
 })
 kind_of network s Open (Opened id) t step = Quiet Open (Opened id) t
-    (re_followed network s Open (Opened id) (with_opened s.followers) t (λ n. refl) (λ b no'. no') step.after (opened_all_sound network.genesis.k s.chain s.followers))
-kind_of network s Open TooManyFollowers t step = Quiet Open TooManyFollowers t (still network s Open TooManyFollowers t (λ n. refl) (λ b no'. no') step.1)
+    (re_followed network s Open (Opened id) (with_opened s.followers) t (λ n. refl) (λ b no'. no') (λ b no'. no') step.after (opened_all_sound network.genesis.k s.chain s.followers))
+kind_of network s Open TooManyFollowers t step = Quiet Open TooManyFollowers t (still network s Open TooManyFollowers t (λ n. refl) (λ b no'. no') (λ b no'. no') step.1)
 kind_of network s (Next id) (Instructed instruction) t step = Quiet (Next id) (Instructed instruction) t
-    (re_followed network s (Next id) (Instructed instruction) (slice_set s.followers id (Some step.new)) t (λ n. refl) (λ b no'. no') step.after
+    (re_followed network s (Next id) (Instructed instruction) (slice_set s.followers id (Some step.new)) t (λ n. refl) (λ b no'. no') (λ b no'. no') step.after
     (λ sound. set_all_sound network.genesis.k s.chain s.followers id step.new sound (next_sound network.genesis.k s.chain step.old instruction step.new (sound id step.old step.is_open) step.next)))
-kind_of network s (Next id) UnknownFollower t step = Quiet (Next id) UnknownFollower t (still network s (Next id) UnknownFollower t (λ n. refl) (λ b no'. no') step.1)
-kind_of network s (Forward id points) (Forwarded None) t step = Quiet (Forward id points) (Forwarded None) t (still network s (Forward id points) (Forwarded None) t (λ n. refl) (λ b no'. no') step.after)
+kind_of network s (Next id) UnknownFollower t step = Quiet (Next id) UnknownFollower t (still network s (Next id) UnknownFollower t (λ n. refl) (λ b no'. no') (λ b no'. no') step.1)
+kind_of network s (Forward id points) (Forwarded None) t step = Quiet (Forward id points) (Forwarded None) t (still network s (Forward id points) (Forwarded None) t (λ n. refl) (λ b no'. no') (λ b no'. no') step.after)
 kind_of network s (Forward id points) (Forwarded (Some point)) t step = Quiet (Forward id points) (Forwarded (Some point)) t
     (let part = take point.number s.chain in
-    re_followed network s (Forward id points) (Forwarded (Some point)) (slice_set s.followers id (Some (standing_at part))) t (λ n. refl) (λ b no'. no') step.after
+    re_followed network s (Forward id points) (Forwarded (Some point)) (slice_set s.followers id (Some (standing_at part))) t (λ n. refl) (λ b no'. no') (λ b no'. no') step.after
     (λ sound. set_all_sound network.genesis.k s.chain s.followers id (standing_at part) sound (standing_sound network.genesis.k s.chain part (begins_take point.number s.chain))))
-kind_of network s (Forward id points) UnknownFollower t step = Quiet (Forward id points) UnknownFollower t (still network s (Forward id points) UnknownFollower t (λ n. refl) (λ b no'. no') step.1)
+kind_of network s (Forward id points) UnknownFollower t step = Quiet (Forward id points) UnknownFollower t (still network s (Forward id points) UnknownFollower t (λ n. refl) (λ b no'. no') (λ b no'. no') step.1)
 kind_of network s (Close id) Closed t step = Quiet (Close id) Closed t
-    (re_followed network s (Close id) Closed (slice_set s.followers id None) t (λ n. refl) (λ b no'. no') step.after (closed_all_sound network.genesis.k s.chain s.followers id))
-kind_of network s (Close id) UnknownFollower t step = Quiet (Close id) UnknownFollower t (still network s (Close id) UnknownFollower t (λ n. refl) (λ b no'. no') step.1)
-kind_of network s event OutOfMemory t step = Quiet event OutOfMemory t (still network s event OutOfMemory t (λ n. refl) (λ b no'. no') step)
+    (re_followed network s (Close id) Closed (slice_set s.followers id None) t (λ n. refl) (λ b no'. no') (λ b no'. no') step.after (closed_all_sound network.genesis.k s.chain s.followers id))
+kind_of network s (Close id) UnknownFollower t step = Quiet (Close id) UnknownFollower t (still network s (Close id) UnknownFollower t (λ n. refl) (λ b no'. no') (λ b no'. no') step.1)
+kind_of network s (Discard hash) Discarded t step = Discarding hash t step
+kind_of network s (Discard hash) NotBeside t step = Quiet (Discard hash) NotBeside t (still network s (Discard hash) NotBeside t (λ n. refl) (λ b no'. no') (λ b no'. no') step.1)
+kind_of network s event OutOfMemory t step = Quiet event OutOfMemory t (still network s event OutOfMemory t (λ n. refl) (λ b no'. no') (λ b no'. no') step)
 kind_of network s event reply t step = absurd step
 
 quiet_sound : (network : Network) (s : State) (event : Event) (reply : Reply) (t : State) → IsSoundState network s → IsQuiet network s event reply t → IsSoundState network t
@@ -223,6 +252,7 @@ quiet_sound network s event reply t sound quiet = record {
 
 kind_sound : (network : Network) (s : State) (event : Event) (reply : Reply) (t : State) → IsSoundState network s → Kind network s event reply t → IsSoundState network t
 kind_sound network s event reply t sound (Keeping bytes back added u keeps) = keeps_sound network s bytes back added u sound keeps
+kind_sound network s event reply t sound (Discarding hash u discards) = discards_sound network s hash u sound discards
 kind_sound network s event reply t sound (Quiet e r u quiet) = quiet_sound network s e r u sound quiet
 
 pub step_sound : (network : Network) (s : State) (event : Event) (reply : Reply) (t : State) → IsSoundState network s → Step network s event reply t → IsSoundState network t
@@ -270,6 +300,8 @@ step_one network s (Forward id points) (Forwarded found) t u sound first second 
 step_one network s (Forward id points) UnknownFollower t u sound first second = first.1 ∙ sym second.1
 step_one network s (Close id) Closed t u sound first second = first.after ∙ sym second.after
 step_one network s (Close id) UnknownFollower t u sound first second = first.1 ∙ sym second.1
+step_one network s (Discard hash) Discarded t u sound first second = first.after ∙ sym second.after
+step_one network s (Discard hash) NotBeside t u sound first second = first.1 ∙ sym second.1
 step_one network s event OutOfMemory t u sound first second = first ∙ sym second
 step_one network s event reply t u sound first second = absurd first
 
@@ -279,51 +311,11 @@ run_one network s (e ∷ es) t u sound first second =
     let mids : second.0 ≡ first.0 = step_one network s e.event e.reply second.0 first.0 sound second.1 first.1 in
     run_one network first.0 es t u (step_sound network s e.event e.reply first.0 sound first.1) first.2 (subst (λ (m : State). IsRun network m es u) mids second.2)
 
--- ---- the kept blocks
-
-kept_or_brought : (network : Network) (s : State) (event : Event) (reply : Reply) (t : State) (b : Block) → Kind network s event reply t → Contains s.kept b ⊎ BringsBlock event reply b → Contains t.kept b
-kept_or_brought network s event reply t b (Keeping bytes back added u keeps) (inl member) = subst (λ (bs : List Block). Contains bs b) (sym keeps.kept) (contains_later keeps.block s.kept b member)
-kept_or_brought network s event reply t b (Keeping bytes back added u keeps) (inr read) =
-    subst (λ (bs : List Block). Contains bs b) (sym keeps.kept) (subst (λ (c : Block). Contains (c ∷ s.kept) b) (one_block b keeps.block bytes read keeps.read) (contains_first b s.kept))
-kept_or_brought network s event reply t b (Quiet e r u quiet) (inl member) = subst (λ (bs : List Block). Contains bs b) (sym quiet.kept) member
-kept_or_brought network s event reply t b (Quiet e r u quiet) (inr brought) = absurd (quiet.brings_none b brought)
-
-same_or_later : (network : Network) (s : State) (event : Event) (reply : Reply) (t : State) (b : Block) → Step network s event reply t → Contains s.kept b ⊎ BringsBlock event reply b → Contains t.kept b
-same_or_later network s event reply t b step from = kept_or_brought network s event reply t b (kind_of network s event reply t step) from
-
-pub kept_after : (network : Network) (s : State) (es : List Entry) (t : State) (b : Block) → IsRun network s es t → Contains s.kept b ⊎ IsKeptBy es b → Contains t.kept b
-kept_after network s [] t b run (inl member) = subst (λ (u : State). Contains u.kept b) (sym run) member
-kept_after network s [] t b run (inr never) = absurd never
-kept_after network s (e ∷ es) t b run (inl member) = kept_after network run.0 es t b run.2 (inl (same_or_later network s e.event e.reply run.0 b run.1 (inl member)))
-kept_after network s (e ∷ es) t b run (inr (inl brings)) = kept_after network run.0 es t b run.2 (inl (same_or_later network s e.event e.reply run.0 b run.1 (inr brings)))
-kept_after network s (e ∷ es) t b run (inr (inr later)) = kept_after network run.0 es t b run.2 (inr later)
-
-kind_came_from : (network : Network) (s : State) (event : Event) (reply : Reply) (t : State) (b : Block) → Kind network s event reply t → Contains t.kept b → Contains s.kept b ⊎ BringsBlock event reply b
-kind_came_from network s event reply t b (Keeping bytes back added u keeps) member =
-    elim (contains_cases keeps.block s.kept b (subst (λ (bs : List Block). Contains bs b) keeps.kept member)) [
-      | inl is ↦ inr (subst (λ (c : Block). SpellsBlock c bytes) is keeps.read)
-      | inr later ↦ inl later
-    ]
-kind_came_from network s event reply t b (Quiet e r u quiet) member = inl (subst (λ (bs : List Block). Contains bs b) quiet.kept member)
-
-came_from : (network : Network) (s : State) (event : Event) (reply : Reply) (t : State) (b : Block) → Step network s event reply t → Contains t.kept b → Contains s.kept b ⊎ BringsBlock event reply b
-came_from network s event reply t b step member = kind_came_from network s event reply t b (kind_of network s event reply t step) member
-
-pub kept_before : (network : Network) (s : State) (es : List Entry) (t : State) (b : Block) → IsRun network s es t → Contains t.kept b → Contains s.kept b ⊎ IsKeptBy es b
-kept_before network s [] t b run member = inl (subst (λ (u : State). Contains u.kept b) run member)
-kept_before network s (e ∷ es) t b run member =
-    elim (kept_before network run.0 es t b run.2 member) [
-      | inl before ↦ elim (came_from network s e.event e.reply run.0 b run.1 before) [ inl old ↦ inl old | inr brings ↦ inr (inl brings) ]
-      | inr later ↦ inr (inr later)
-    ]
-
-pub kept_by_history : (network : Network) (history : List Entry) (s : State) (b : Block) → IsLegal network history s → Contains s.kept b ↔ (Contains network.opened b ⊎ IsKeptBy history b)
-kept_by_history network history s b legal = (kept_before network (opening network) history s b legal, kept_after network (opening network) history s b legal)
-
 -- ---- lengths
 
 kind_length : (network : Network) (s : State) (event : Event) (reply : Reply) (t : State) → Kind network s event reply t → length t.chain ≡ length_with (length s.chain) reply
 kind_length network s event reply t (Keeping bytes back added u keeps) = let change = keeps.change in omega arith
+kind_length network s event reply t (Discarding hash u discards) = ap (λ (v : State). length v.chain) discards.after
 kind_length network s event reply t (Quiet e r u quiet) = ap length quiet.chain ∙ sym (quiet.counted (length s.chain))
 
 step_length : (network : Network) (s : State) (event : Event) (reply : Reply) (t : State) → Step network s event reply t → length t.chain ≡ length_with (length s.chain) reply
@@ -335,6 +327,7 @@ run_length network s (e ∷ es) t run = run_length network run.0 es t run.2 ∙ 
 
 kind_longer : (network : Network) (s : State) (event : Event) (reply : Reply) (t : State) → Kind network s event reply t → (t.chain ≡ s.chain) ⊎ (length s.chain < length t.chain)
 kind_longer network s event reply t (Keeping bytes back added u keeps) = selection_longer network u.kept s.chain u.chain keeps.selection
+kind_longer network s event reply t (Discarding hash u discards) = inl (ap (λ (v : State). v.chain) discards.after)
 kind_longer network s event reply t (Quiet e r u quiet) = inl quiet.chain
 
 pub step_longer : (network : Network) (s : State) (event : Event) (reply : Reply) (t : State) → Step network s event reply t → (t.chain ≡ s.chain) ⊎ (length s.chain < length t.chain)
@@ -353,6 +346,7 @@ goes_on_itself network chain = record { not_shorter = omega arith; begins = begi
 kind_goes_on : (network : Network) (s : State) (event : Event) (reply : Reply) (t : State) → Kind network s event reply t → GoesOn network s.chain t.chain
 kind_goes_on network s event reply t (Keeping bytes back added u keeps) =
     record { not_shorter = selection_not_shorter network u.kept s.chain u.chain keeps.selection; begins = selection_begins network u.kept s.chain u.chain keeps.selection }
+kind_goes_on network s event reply t (Discarding hash u discards) = subst (λ (v : State). GoesOn network s.chain v.chain) (sym discards.after) (goes_on_itself network s.chain)
 kind_goes_on network s event reply t (Quiet e r u quiet) = subst (GoesOn network s.chain) (sym quiet.chain) (goes_on_itself network s.chain)
 
 pub step_goes_on : (network : Network) (s : State) (event : Event) (reply : Reply) (t : State) → Step network s event reply t → GoesOn network s.chain t.chain
@@ -364,3 +358,88 @@ run_goes_on network s (e ∷ es) t run =
     let first = step_goes_on network s e.event e.reply run.0 run.1 in
     let rest = run_goes_on network run.0 es t run.2 in
     record { not_shorter = let a = first.not_shorter in let b = rest.not_shorter in omega arith; begins = begins_earlier network s.chain run.0.chain t.chain first.not_shorter first.begins rest.begins }
+
+-- ---- the kept blocks
+
+-- a block that the selected chain has is not discarded
+kind_spares : (network : Network) (s : State) (event : Event) (reply : Reply) (t : State) (b : Block) → Kind network s event reply t → Contains (immutable_part network s.chain) b → DropsBlock event reply b → ⊥
+kind_spares network s event reply t b (Keeping bytes back added u keeps) member drops = drops
+kind_spares network s event reply t b (Discarding hash u discards) member drops =
+    all_of_member (λ c. block_hash_of c ≢ hash) (immutable_part network s.chain) b (all_take (λ c. block_hash_of c ≢ hash) (immutable_length network s.chain) s.chain discards.beside.apart) member drops
+kind_spares network s event reply t b (Quiet e r u quiet) member drops = quiet.drops_none b drops
+
+-- a member of a beginning is one of the whole
+begun_with : (chain part : List Block) (b : Block) → BeginsWith chain part → Contains part b → Contains chain b
+begun_with chain part b begins member =
+    subst (λ (bs : List Block). Contains bs b) (take-append-drop (length part) chain)
+    (Contains-append_left (take (length part) chain) (drop (length part) chain) b (subst (λ (bs : List Block). Contains bs b) (sym begins) member))
+
+pub never_dropped : (network : Network) (s : State) (es : List Entry) (t : State) (b : Block) → Contains (immutable_part network s.chain) b → IsRun network s es t → NoneDrops es b
+never_dropped network s [] t b member run = tt
+never_dropped network s (e ∷ es) t b member run =
+    let on = step_goes_on network s e.event e.reply run.0 run.1 in
+    let grows = begins_earlier network s.chain run.0.chain (immutable_part network run.0.chain) on.not_shorter on.begins (begins_with_whole (immutable_part network run.0.chain)) in (
+      kind_spares network s e.event e.reply run.0 b (kind_of network s e.event e.reply run.0 run.1) member,
+      never_dropped network run.0 es t b (begun_with (immutable_part network run.0.chain) (immutable_part network s.chain) b grows member) run.2,
+    )
+
+-- it was kept and isn't discarded now, or comes now
+abbrev StaysOrComes : State → Event → Reply → Block → Type 0
+StaysOrComes s event reply b = (Contains s.kept b × (DropsBlock event reply b → ⊥)) ⊎ BringsBlock event reply b
+
+kept_or_brought : (network : Network) (s : State) (event : Event) (reply : Reply) (t : State) (b : Block) → Kind network s event reply t → StaysOrComes s event reply b → Contains t.kept b
+kept_or_brought network s event reply t b (Keeping bytes back added u keeps) (inl stays) = subst (λ (bs : List Block). Contains bs b) (sym keeps.kept) (contains_later keeps.block s.kept b stays.0)
+kept_or_brought network s event reply t b (Keeping bytes back added u keeps) (inr read) =
+    subst (λ (bs : List Block). Contains bs b) (sym keeps.kept) (subst (λ (c : Block). Contains (c ∷ s.kept) b) (one_block b keeps.block bytes read keeps.read) (contains_first b s.kept))
+kept_or_brought network s event reply t b (Discarding hash u discards) (inl stays) = subst (λ (v : State). Contains v.kept b) (sym discards.after) (left_without hash s.kept b stays.0 stays.1)
+kept_or_brought network s event reply t b (Discarding hash u discards) (inr brought) = absurd brought
+kept_or_brought network s event reply t b (Quiet e r u quiet) (inl stays) = subst (λ (bs : List Block). Contains bs b) (sym quiet.kept) stays.0
+kept_or_brought network s event reply t b (Quiet e r u quiet) (inr brought) = absurd (quiet.brings_none b brought)
+
+same_or_later : (network : Network) (s : State) (event : Event) (reply : Reply) (t : State) (b : Block) → Step network s event reply t → StaysOrComes s event reply b → Contains t.kept b
+same_or_later network s event reply t b step from = kept_or_brought network s event reply t b (kind_of network s event reply t step) from
+
+pub kept_after : (network : Network) (s : State) (es : List Entry) (t : State) (b : Block) → IsRun network s es t → (Contains s.kept b × NoneDrops es b) ⊎ IsKeptBy es b → Contains t.kept b
+kept_after network s [] t b run (inl stays) = subst (λ (u : State). Contains u.kept b) (sym run) stays.0
+kept_after network s [] t b run (inr never) = absurd never
+kept_after network s (e ∷ es) t b run (inl stays) = kept_after network run.0 es t b run.2 (inl (same_or_later network s e.event e.reply run.0 b run.1 (inl (stays.0, stays.1.0)), stays.1.1))
+kept_after network s (e ∷ es) t b run (inr (inl brings)) = kept_after network run.0 es t b run.2 (inl (same_or_later network s e.event e.reply run.0 b run.1 (inr brings.0), brings.1))
+kept_after network s (e ∷ es) t b run (inr (inr later)) = kept_after network run.0 es t b run.2 (inr later)
+
+kind_came_from : (network : Network) (s : State) (event : Event) (reply : Reply) (t : State) (b : Block) → Kind network s event reply t → Contains t.kept b → StaysOrComes s event reply b
+kind_came_from network s event reply t b (Keeping bytes back added u keeps) member =
+    elim (contains_cases keeps.block s.kept b (subst (λ (bs : List Block). Contains bs b) keeps.kept member)) [
+      | inl is ↦ inr (subst (λ (c : Block). SpellsBlock c bytes) is keeps.read)
+      | inr later ↦ inl (later, λ drops. drops)
+    ]
+kind_came_from network s event reply t b (Discarding hash u discards) member = inl (without_member hash s.kept b (subst (λ (v : State). Contains v.kept b) discards.after member))
+kind_came_from network s event reply t b (Quiet e r u quiet) member = inl (subst (λ (bs : List Block). Contains bs b) quiet.kept member, quiet.drops_none b)
+
+came_from : (network : Network) (s : State) (event : Event) (reply : Reply) (t : State) (b : Block) → Step network s event reply t → Contains t.kept b → StaysOrComes s event reply b
+came_from network s event reply t b step member = kind_came_from network s event reply t b (kind_of network s event reply t step) member
+
+pub kept_before : (network : Network) (s : State) (es : List Entry) (t : State) (b : Block) → IsRun network s es t → Contains t.kept b → (Contains s.kept b × NoneDrops es b) ⊎ IsKeptBy es b
+kept_before network s [] t b run member = inl (subst (λ (u : State). Contains u.kept b) run member, tt)
+kept_before network s (e ∷ es) t b run member =
+    elim (kept_before network run.0 es t b run.2 member) [
+      | inl before ↦ elim (came_from network s e.event e.reply run.0 b run.1 before.0) [
+        | inl old ↦ inl (old.0, (old.1, before.1))
+        | inr brings ↦ inr (inl (brings, before.1))
+      ]
+      | inr later ↦ inr (inr later)
+    ]
+
+-- a chain that is all immutable is its immutable part
+opened_immutable : (network : Network) (b : Block) → Contains network.opened b → Contains (immutable_part network network.opened) b
+opened_immutable network b member =
+    let whole : immutable_part network network.opened ≡ network.opened = ap (λ n. take n network.opened) (let whole : immutable_length network network.opened ≡ length network.opened = omega arith in whole) ∙ begins_with_whole network.opened in
+    subst (λ (bs : List Block). Contains bs b) (sym whole) member
+
+pub kept_by_history : (network : Network) (history : List Entry) (s : State) (b : Block) → IsLegal network history s → Contains s.kept b ↔ (Contains network.opened b ⊎ IsKeptBy history b)
+kept_by_history network history s b legal = (
+  (λ member. elim (kept_before network (opening network) history s b legal member) [ inl old ↦ inl old.0 | inr later ↦ inr later ]),
+  (λ from. kept_after network (opening network) history s b legal (elim from [
+    | inl opened ↦ inl (opened, never_dropped network (opening network) history s b (opened_immutable network b opened) legal)
+    | inr later ↦ inr later
+  ])),
+)

@@ -13,6 +13,7 @@ pub mod Chains
 pub mod Selections
 pub mod Changes
 pub mod FollowerSteps
+pub mod Discarding
 pub mod LegalHistories
 pub mod OneReply
 pub mod ToldChains

@@ -11,7 +11,7 @@ use Rattle.model.specs.Chain.{Point}
 use Rattle.model.specs.Mempool.{utxo_after_all, next_slot, IsInMempool, IsJudged, Answers, SubmitReply, Added}
 use Rattle.model.specs.Mempool as submission
 use Rattle.model.specs.Follower.{Follower, Instruction, Stay, AddBlock, RollBack, IsNext, IsFirstOn}
-use Rattle.model.specs.History.{State, Refusal, refusal_number, Applies, IsRefused, IsChange, Takes, Event, Arrive, Submit, Open, Next, Forward, Close, Reply, Kept, Refused, Submitted, Opened, TooManyFollowers, Instructed, Forwarded, Closed, UnknownFollower, OutOfMemory, Step}
+use Rattle.model.specs.History.{State, Refusal, refusal_number, Applies, IsRefused, IsChange, Takes, Event, Arrive, Submit, Open, Next, Forward, Close, Discard, Reply, Kept, Refused, Submitted, Opened, TooManyFollowers, Instructed, Forwarded, Closed, UnknownFollower, Discarded, NotBeside, OutOfMemory, Step}
 use Rattle.model.proofs.First.{one_first, one_number}
 use Rattle.model.proofs.TransactionTexts.{one_transaction}
 use Rattle.model.proofs.Changes.{one_change, taken_with}
@@ -180,6 +180,20 @@ close_one network s id UnknownFollower q t u enough enough_too one two = absurd 
 close_one network s id OutOfMemory q t u enough enough_too one two = absurd (enough refl)
 close_one network s id r q t u enough enough_too one two = absurd one
 
+-- ---- discarded blocks
+
+discard_one : (network : Network) (s : State) (hash : List ℕ) (r q : Reply) (t u : State) → r ≢ OutOfMemory → q ≢ OutOfMemory → Step network s (Discard hash) r t → Step network s (Discard hash) q u → r ≡ q
+discard_one network s hash Discarded Discarded t u enough enough_too one two = refl
+discard_one network s hash Discarded NotBeside t u enough enough_too one two = absurd (two.0 one.beside)
+discard_one network s hash Discarded OutOfMemory t u enough enough_too one two = absurd (enough_too refl)
+discard_one network s hash Discarded q t u enough enough_too one two = absurd two
+discard_one network s hash NotBeside Discarded t u enough enough_too one two = absurd (one.0 two.beside)
+discard_one network s hash NotBeside NotBeside t u enough enough_too one two = refl
+discard_one network s hash NotBeside OutOfMemory t u enough enough_too one two = absurd (enough_too refl)
+discard_one network s hash NotBeside q t u enough enough_too one two = absurd two
+discard_one network s hash OutOfMemory q t u enough enough_too one two = absurd (enough refl)
+discard_one network s hash r q t u enough enough_too one two = absurd one
+
 -- ---- any event
 
 pub reply_one : (network : Network) (s : State) (event : Event) (r q : Reply) (t u : State) → IsSoundState network s → r ≢ OutOfMemory → q ≢ OutOfMemory → Step network s event r t → Step network s event q u → r ≡ q
@@ -189,3 +203,4 @@ reply_one network s Open r q t u sound enough enough_too one two = open_one netw
 reply_one network s (Next id) r q t u sound enough enough_too one two = next_reply_one network s id r q t u enough enough_too one two
 reply_one network s (Forward id points) r q t u sound enough enough_too one two = forward_one network s id points r q t u enough enough_too one two
 reply_one network s (Close id) r q t u sound enough enough_too one two = close_one network s id r q t u enough enough_too one two
+reply_one network s (Discard hash) r q t u sound enough enough_too one two = discard_one network s hash r q t u enough enough_too one two

@@ -1,11 +1,13 @@
 -- Lists of blocks as sets: with distinct hashes, the same members are as many.
-use Rattle.std.proofs.Common.{◌≡◌, ◌≢◌, ℕ, zero, suc, ◌+◌, ◌<◌, ◌≤◌, List, [], ◌∷◌, ◌++◌, length, get_or, take, drop, Contains, sym, ap, subst, arith, inl, inr, le_antisymm}
+use Rattle.std.proofs.Common.{◌≡◌, ◌≢◌, ℕ, zero, suc, ◌+◌, ◌<◌, ◌≤◌, List, [], ◌∷◌, ◌++◌, length, get_or, take, drop, Contains, refl, sym, ap, subst, ◌∙◌, arith, inl, inr, le_antisymm}
+use Rattle.std.specs.Prelude.{sum_by}
 use Rattle.std.specs.List.{AllByRecursion}
+use Rattle.std.proofs.lemmas.List.Sums.{sum_by-cons}
 use Rattle.std.proofs.lemmas.List.{length-take, length-drop, length-append}
 use Rattle.std.proofs.lemmas.List.Elements.{Contains-append_left, Contains-append_right, Contains-append_cases}
 use Rattle.model.specs.Block.{Block, block_hash_of}
 use Rattle.model.specs.Chain.{HaveDistinctHashes}
-use Rattle.model.proofs.Lists.{all_of_member, all_from_members, contains_first, contains_later, contains_cases}
+use Rattle.model.proofs.Lists.{all_of_member, all_from_members, contains_first, contains_later, contains_cases, nothing_contained}
 use Rattle.model.proofs.Chains.{one_with_hash}
 
 -- the list without its element at k
@@ -100,3 +102,35 @@ distinct_by_count xs (y ∷ ys) distinct out back fewer =
 pub same_count : (xs ys : List Block) → HaveDistinctHashes xs → HaveDistinctHashes ys → ((b : Block) → Contains xs b → Contains ys b) → ((b : Block) → Contains ys b → Contains xs b)
     → length xs ≡ length ys
 same_count xs ys distinct distinct_too out back = le_antisymm (no_more_than xs ys distinct out) (no_more_than ys xs distinct_too back)
+
+-- ---- sums
+
+-- what the elements count together is what one counts and what the others do
+pub sum_without : (count : Block → ℕ) (k : ℕ) (bs : List Block) (b : Block) → k < length bs → get_or bs k b ≡ b → sum_by count bs ≡ count b + sum_by count (without k bs)
+sum_without count zero [] b below is = absurd (omega arith)
+sum_without count zero (x ∷ xs) b below is = sum_by-cons count x xs ∙ ap (λ y. count y + sum_by count xs) is
+sum_without count (suc k) [] b below is = absurd (omega arith)
+sum_without count (suc k) (x ∷ xs) b below is =
+    let first = sum_by-cons count x xs in
+    let rest = sum_without count k xs b (omega arith) is in
+    let again = sum_by-cons count x (without k xs) in
+    omega arith
+
+-- distinct blocks with the same members count the same
+pub same_sum : (count : Block → ℕ) (xs ys : List Block) → HaveDistinctHashes xs → HaveDistinctHashes ys → ((b : Block) → Contains xs b → Contains ys b) → ((b : Block) → Contains ys b → Contains xs b)
+    → sum_by count xs ≡ sum_by count ys
+same_sum count [] [] distinct distinct_too out back = refl
+same_sum count [] (y ∷ ys) distinct distinct_too out back = absurd (nothing_contained y (back y (contains_first y ys)))
+same_sum count (x ∷ xs) ys distinct distinct_too out back =
+    let at = out x (contains_first x xs) in
+    let left = distinct_without at.0 ys x at.1 at.2 distinct_too in
+    let rest = same_sum count xs (without at.0 ys) distinct.1 left.0
+    (λ b member. still_contained at.0 ys x b at.1 at.2 (out b (contains_later x xs b member))
+    (λ same. all_of_member (λ c. block_hash_of c ≢ block_hash_of x) xs b distinct.0 member (ap block_hash_of same)))
+    (λ b member. elim (contains_cases x xs b (back b (was_contained at.0 ys x b at.1 at.2 member))) [
+      | inl is ↦ absurd (all_of_member (λ c. block_hash_of c ≢ block_hash_of x) (without at.0 ys) b left.1 member (sym (ap block_hash_of is)))
+      | inr later ↦ later
+    ]) in
+    let first = sum_by-cons count x xs in
+    let whole = sum_without count at.0 ys x at.1 at.2 in
+    omega arith

@@ -6,7 +6,7 @@ use Rattle.model.specs.Block.{Block, SpellsBlock, block_text}
 use Rattle.model.specs.Ledger.{Network}
 use Rattle.model.specs.Chain.{IsOpening, BeginsWith}
 use Rattle.model.specs.Follower.{Follower, Followers, standing_at, follower_of, Instruction, IsReplayed, AreReplayed, left_to_tell}
-use Rattle.model.specs.History.{State, opening, Event, Arrive, Submit, Open, Next, Forward, Close, Reply, Kept, Refused, Submitted, Opened, TooManyFollowers, Instructed, Forwarded, Closed, UnknownFollower, OutOfMemory, Step, Entry, IsRun, IsLegal, WasSelected, SetsFollower, told_to, instructions_to, AreTold, WasTold, ChainTheorem}
+use Rattle.model.specs.History.{State, opening, Event, Arrive, Submit, Open, Next, Forward, Close, Discard, Reply, Kept, Refused, Submitted, Opened, TooManyFollowers, Instructed, Forwarded, Closed, UnknownFollower, Discarded, NotBeside, OutOfMemory, Step, Entry, IsRun, IsLegal, WasSelected, SetsFollower, told_to, instructions_to, AreTold, WasTold, ChainTheorem}
 use Rattle.model.proofs.Lists.{all_of_member, all_push}
 use Rattle.model.proofs.LegalHistories.{HasItsText, IsSoundState, opening_sound, step_sound, legal_sound}
 use Rattle.model.proofs.FollowerSteps.{begins_take, moved_at, opened_at, set_at, next_begins, next_replayed, next_at_end, next_leaves, nothing_left}
@@ -156,6 +156,10 @@ step_known network history s (Close at) Closed t legal sound known step = λ id 
     ]
 step_known network history s (Close at) UnknownFollower t legal sound known step =
     all_still network history s (record { event = Close at; reply = UnknownFollower }) t (λ id u chain sets. sets) (λ id. refl) (ap (λ (u : State). u.followers) step.1) known
+step_known network history s (Discard hash) Discarded t legal sound known step =
+    all_still network history s (record { event = Discard hash; reply = Discarded }) t (λ id u chain sets. sets) (λ id. refl) (ap (λ (u : State). u.followers) step.after) known
+step_known network history s (Discard hash) NotBeside t legal sound known step =
+    all_still network history s (record { event = Discard hash; reply = NotBeside }) t (λ id u chain sets. sets) (λ id. refl) (ap (λ (u : State). u.followers) step.1) known
 step_known network history s event OutOfMemory t legal sound known step =
     all_still network history s (record { event = event; reply = OutOfMemory }) t (λ id u chain sets. sets) (λ id. refl) (ap (λ (u : State). u.followers) step) known
 step_known network history s event reply t legal sound known step = absurd step

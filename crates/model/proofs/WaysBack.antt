@@ -1,5 +1,5 @@
 -- Where the way back from a live block meets the selected chain.
-use Rattle.std.proofs.Common.{◌≡◌, ℕ, ◌<◌, ◌≤◌, List, ◌++◌, length, take, drop, Contains, sym, subst, arith}
+use Rattle.std.proofs.Common.{◌≡◌, ℕ, ◌<◌, ◌≤◌, List, length, take, drop, Contains, sym, subst, arith}
 use Rattle.std.proofs.lemmas.List.{length-take, take-append-drop}
 use Rattle.model.specs.Block.{Block}
 use Rattle.model.specs.Ledger.{Network}

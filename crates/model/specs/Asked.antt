@@ -7,7 +7,7 @@ use Rattle.model.specs.Transaction.{Transaction, transaction_id_of}
 use Rattle.model.specs.Utxo.{Utxo}
 use Rattle.model.specs.Block.{Block, block_hash_of}
 use Rattle.model.specs.Ledger.{Network}
-use Rattle.model.specs.Chain.{genesis_tip, tip_at, tip_after, Follows, IsLinked, IsValidChain}
+use Rattle.model.specs.Chain.{genesis_tip, tip_at, tip_after, Follows, IsLinked, IsValidChain, NoneHas}
 use Rattle.model.specs.Applying.{LedgerState, BlockFault, IsStateOf, IsFirstFault}
 use Rattle.model.specs.Mempool.{utxo_of, utxo_after_all, next_slot, IsInMempool, IsTransactionWith, Submits, Refused}
 use Rattle.model.specs.History.{State, live_of}
@@ -15,10 +15,6 @@ use Rattle.model.specs.Rules.{Reason}
 use Rattle.model.specs.Explaining.{Detail, IsDetail}
 
 -- ---- blocks by their hashes
-
--- no block of these has the hash
-abbrev pub NoneHas : List Block → (hash : List ℕ) → Type 0
-NoneHas blocks hash = AllByRecursion (λ b. block_hash_of b ≢ hash) blocks
 
 -- one of these blocks has the hash, and this number
 pub record HasBlockOf (blocks : List Block) (hash : List ℕ) (number : ℕ) : Type 0 where

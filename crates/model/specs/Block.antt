@@ -1,5 +1,5 @@
 -- Blocks: a header and whole transactions under one hash (this project's own shape).
-use Rattle.std.specs.Prelude.{◌≡◌, ℕ, ◌<◌, List, [], ◌∷◌, length, map, Option, Some, None, IfSome}
+use Rattle.std.specs.Prelude.{◌≡◌, ℕ, ◌<◌, List, [], ◌∷◌, length, map, sum_by, Option, Some, None, IfSome}
 use Rattle.std.specs.List.{AllByRecursion}
 use Rattle.sha2.specs.Sha256.{sha256}
 use Rattle.model.specs.Limits.{hash_size, number_limit}
@@ -56,6 +56,10 @@ pub record SpellsBlock (block : Block) (bytes : List ℕ) : Type 0 where
 -- the text of a block
 unfoldable pub block_text : Block → List ℕ
 block_text block = text_of (item_of_block block)
+
+-- how many bytes the texts of blocks have together
+abbrev pub bytes_in : List Block → ℕ
+bytes_in blocks = sum_by (λ b. length (block_text b)) blocks
 
 -- the hash of a body: SHA-256 (FIPS 180-4) of the text of the array of transactions
 unfoldable pub body_hash_of : List Transaction → List ℕ

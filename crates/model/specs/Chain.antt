@@ -60,6 +60,10 @@ abbrev pub HaveDistinctHashes : List Block → Type 0
 HaveDistinctHashes [] = Unit {0}
 HaveDistinctHashes (b ∷ bs) = AllByRecursion (λ c. block_hash_of c ≢ block_hash_of b) bs × HaveDistinctHashes bs
 
+-- no block of these has the hash
+abbrev pub NoneHas : List Block → (hash : List ℕ) → Type 0
+NoneHas blocks hash = AllByRecursion (λ b. block_hash_of b ≢ hash) blocks
+
 -- the chain begins with this one
 abbrev pub BeginsWith : List Block → List Block → Type 0
 BeginsWith chain part = take (length part) chain ≡ part

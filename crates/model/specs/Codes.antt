@@ -331,10 +331,18 @@ coded_grant =
 -- all that a network agrees on before its first block
 abbrev pub coded_genesis : Coded Genesis
 coded_genesis =
-    code_by (Params × (ℕ × (ℕ × (ℕ × List Grant))))
-    (coded× coded_params (coded× coded_ℕ (coded× coded_ℕ (coded× coded_ℕ (coded_list coded_grant)))))
-    (λ g. (g.params, (g.k, (g.max_volatile, (g.max_mempool, g.grants)))))
-    (λ p. record { params = p.0; k = p.1.0; max_volatile = p.1.1.0; max_mempool = p.1.1.1.0; grants = p.1.1.1.1 })
+    code_by (Params × (ℕ × (ℕ × (Option ℕ × (ℕ × List Grant)))))
+    (coded× coded_params (coded× coded_ℕ (coded× coded_ℕ (coded× (coded_option coded_ℕ) (coded× coded_ℕ
+    (coded_list coded_grant))))))
+    (λ g. (g.params, (g.k, (g.max_volatile, (g.max_volatile_bytes, (g.max_mempool, g.grants))))))
+    (λ p. record {
+      params = p.0;
+      k = p.1.0;
+      max_volatile = p.1.1.0;
+      max_volatile_bytes = p.1.1.1.0;
+      max_mempool = p.1.1.1.1.0;
+      grants = p.1.1.1.1.1;
+    })
     (λ _. refl)
 
 -- ---- chains and histories

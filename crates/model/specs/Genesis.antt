@@ -1,11 +1,11 @@
 -- What a network agrees on before its first block, and the unspent outputs that its chain opens with. The limits are
 -- this project's own.
-use Rattle.std.specs.Prelude.{◌≡◌, ℕ, ◌≤◌, ◌<◌, List, [], length, map, replicate, sum_by, IfSome}
+use Rattle.std.specs.Prelude.{◌≡◌, ℕ, ◌≤◌, ◌<◌, List, [], length, map, replicate, sum_by, Option, Some, None, IfSome}
 use Rattle.std.specs.List.{AllByRecursion}
 use Rattle.std.specs.FinMap as finite
 use Rattle.model.specs.Limits.{hash_size, greatest_network, number_limit, greatest_number, k_limit, fee_rate_limit}
 use Rattle.model.specs.Limits.{coin_limit, tx_size_limit, body_size_limit, volatile_limit, mempool_limit}
-use Rattle.model.specs.Limits.{grant_count_limit}
+use Rattle.model.specs.Limits.{volatile_bytes_limit, grant_count_limit}
 use Rattle.model.specs.Transaction.{Address, Input, Output, IsAddress}
 use Rattle.model.specs.Utxo.{Utxo, pairs_from, with_pairs}
 use Rattle.model.specs.Rules.{Params, SecondEra}
@@ -19,12 +19,18 @@ pub record Genesis : Type 0 where
   pub params : Params  -- what it asks of each transaction and each block's body
   pub k : ℕ  -- how many blocks of the selected chain may be rolled back
   pub max_volatile : ℕ  -- how many live blocks are kept at most
+  pub max_volatile_bytes : Option ℕ  -- how many bytes these have at most; none where that isn't bounded
   pub max_mempool : ℕ  -- how many transactions wait at most
   pub grants : List Grant
 
 -- the lovelace that there is from the start, and ever after
 abbrev pub supply_of : Genesis → ℕ
 supply_of genesis = sum_by (λ g. g.coin) genesis.grants
+
+-- so many bytes are more than a bound, where there is one
+abbrev pub IsOver : Option ℕ → (bytes : ℕ) → Type 0
+IsOver None bytes = ⊥
+IsOver (Some most) bytes = most < bytes
 
 -- ---- ranges
 
@@ -57,6 +63,7 @@ pub record IsGenesis (genesis : Genesis) : Type 0 where
   pub ranges : IsParams genesis.params
   pub k : IsWithin 1 k_limit genesis.k
   pub max_volatile : IsWithin 1 volatile_limit genesis.max_volatile
+  pub max_volatile_bytes : IfSome genesis.max_volatile_bytes (IsWithin 1 volatile_bytes_limit)
   pub max_mempool : IsWithin 1 mempool_limit genesis.max_mempool
   pub each_grant : AllByRecursion (IsGrant genesis.params.network) genesis.grants
   pub supply : supply_of genesis < number_limit

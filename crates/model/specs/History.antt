@@ -1,19 +1,21 @@
 -- Histories: what came, what was answered, and what is then kept, selected, waiting and told (this project's own, over
 -- the Consensus and Storage Layer report's rules).
 use Rattle.std.specs.Prelude.{◌≡◌, ◌≢◌, ◌++◌, ℕ, ◌+◌, ◌-◌, ◌≤◌, ◌<◌, ◌⊎◌, List, [], ◌∷◌, length, take, Contains, Some}
-use Rattle.std.specs.Prelude.{None, Option, slice_set, ◌==◌, if◌then◌else◌, ◌↔◌}
+use Rattle.std.specs.Prelude.{None, Option, slice_set, filter, not, bytes_eq, ◌==◌, if◌then◌else◌, ◌↔◌}
 use Rattle.std.specs.List.{AllByRecursion}
 use Rattle.model.specs.First.{IsFirst}
-use Rattle.model.specs.Block.{Block, SpellsBlock, block_text, block_hash_of, body_hash_of}
+use Rattle.model.specs.Block.{Block, SpellsBlock, block_text, bytes_in, block_hash_of, body_hash_of}
+use Rattle.model.specs.Genesis.{IsOver}
 use Rattle.model.specs.Ledger.{Network}
 use Rattle.model.specs.Chain.{Point, immutable_length, live_blocks, IsSelection, BeginsWith, IsValidChain, NoneLonger}
+use Rattle.model.specs.Chain.{NoneHas}
 use Rattle.model.specs.Limits.{block_size_limit, follower_limit}
 use Rattle.model.specs.Transaction.{Transaction}
 use Rattle.model.specs.Mempool.{SubmitReply, Submits, revalidated, IsValidMempool}
 use Rattle.model.specs.Follower.{Follower, Followers, standing_at, follower_of, free_id, with_opened, AreMoved}
 use Rattle.model.specs.Follower.{Instruction, Stay, IsDue, IsNext, IsFirstOn, AreReplayed}
 
--- the blocks that were kept, the newest first; the selected chain, its first block first; the mempool, in the order in
+-- the blocks that are kept, the newest first; the selected chain, its first block first; the mempool, in the order in
 -- which its transactions came; and the open followers
 pub record State : Type 0 where
   pub kept : List Block
@@ -53,6 +55,11 @@ IsBlockWith bytes P = (b : Block) × SpellsBlock b bytes × P b
 abbrev pub live_of : Network → State → List Block
 live_of network s = live_blocks network s.kept s.chain
 
+-- there are as many live blocks as may be, or with so many bytes more they have more than they may have
+abbrev pub IsFullFor : Network → State → (bytes : ℕ) → Type 0
+IsFullFor network s bytes = (network.genesis.max_volatile ≤ length (live_of network s))
+    ⊎ IsOver network.genesis.max_volatile_bytes (bytes_in (live_of network s) + bytes)
+
 -- the condition of each refusal
 abbrev pub Applies : Network → State → List ℕ → Refusal → Type 0
 Applies network s bytes TooLarge = block_size_limit < length bytes
@@ -63,7 +70,7 @@ Applies network s bytes Known = (b : Block) × Contains (live_of network s) b ×
 Applies network s bytes Clash = IsBlockWith bytes (λ b. (c : Block)
     × (Contains (live_of network s) c ⊎ Contains s.chain c) × (block_hash_of c ≡ block_hash_of b)
     × (block_text c ≢ bytes))
-Applies network s bytes VolatileFull = network.genesis.max_volatile ≤ length (live_of network s)
+Applies network s bytes VolatileFull = IsFullFor network s (length bytes)
 
 -- the first refusal that applies
 abbrev pub IsRefused : Network → State → List ℕ → Refusal → Type 0
@@ -79,11 +86,13 @@ pub data Event : Type 0 where
   Next : (id : ℕ) → Event
   Forward : (id : ℕ) → List Point → Event
   Close : (id : ℕ) → Event
+  Discard : (hash : List ℕ) → Event
 
 -- what it answers: that the block is kept, with how many blocks of the old chain were rolled back and how many
 -- of the new one were put on; that the bytes are refused; what is answered to a submission; a new follower's id, or
 -- that too many are open; an instruction; the point that a follower was set to, if it was; that it was closed; that no
--- such follower is open; or that memory ran out
+-- such follower is open; that a block is kept no more; that no live block beside the selected chain has the hash; or
+-- that memory ran out
 pub data Reply : Type 0 where
   Kept : (back added : ℕ) → Reply
   Refused : Refusal → Reply
@@ -94,6 +103,8 @@ pub data Reply : Type 0 where
   Forwarded : Option Point → Reply
   Closed : Reply
   UnknownFollower : Reply
+  Discarded : Reply
+  NotBeside : Reply
   OutOfMemory : Reply
 
 -- the length of the longest common beginning of two chains
@@ -170,6 +181,24 @@ pub record Closes (s : State) (id : ℕ) (t : State) : Type 0 where
   pub is_open : follower_of s.followers id ≡ Some old
   pub after : t ≡ with_follower s id None
 
+-- a live block has this hash, and none of the selected chain has it
+pub record HasBeside (network : Network) (s : State) (hash : List ℕ) : Type 0 where
+  pub block : Block
+  pub live : Contains (live_of network s) block
+  pub hash_is : block_hash_of block ≡ hash
+  pub apart : NoneHas s.chain hash
+
+-- those of the blocks that don't have this hash
+abbrev pub without_hash : List ℕ → List Block → List Block
+without_hash hash blocks = filter (λ b. not (bytes_eq (block_hash_of b) hash)) blocks
+
+-- RULE OF A DISCARDED BLOCK (this project's own)
+-- A live block beside the selected chain is kept no more. The chain, the mempool and the followers stay as they are;
+-- the block may arrive again.
+pub record Discards (network : Network) (s : State) (hash : List ℕ) (t : State) : Type 0 where
+  pub beside : HasBeside network s hash
+  pub after : t ≡ record s { kept = without_hash hash s.kept }
+
 -- STEP RULE (this project's own, over the report's interface of the chain database)
 -- From one state an event may be answered so, and leave the other; each kind of event has its own replies. What is
 -- refused changes nothing, nor does want of memory, which may be answered to any event.
@@ -185,6 +214,8 @@ Step network s (Forward id points) (Forwarded found) t = Forwards s id points fo
 Step network s (Forward id points) UnknownFollower t = (follower_of s.followers id ≡ None) × (t ≡ s)
 Step network s (Close id) Closed t = Closes s id t
 Step network s (Close id) UnknownFollower t = (follower_of s.followers id ≡ None) × (t ≡ s)
+Step network s (Discard hash) Discarded t = Discards network s hash t
+Step network s (Discard hash) NotBeside t = (HasBeside network s hash → ⊥) × (t ≡ s)
 Step network s event OutOfMemory t = t ≡ s
 -- no event is answered otherwise
 Step network s event reply t = ⊥
@@ -212,9 +243,19 @@ abbrev pub BringsBlock : Event → Reply → Block → Type 0
 BringsBlock (Arrive bytes) (Kept back added) b = SpellsBlock b bytes
 BringsBlock event reply b = ⊥
 
+-- a block of this hash is discarded
+abbrev pub DropsBlock : Event → Reply → Block → Type 0
+DropsBlock (Discard hash) Discarded b = block_hash_of b ≡ hash
+DropsBlock event reply b = ⊥
+
+-- none of these discards it
+abbrev pub NoneDrops : List Entry → Block → Type 0
+NoneDrops entries b = AllByRecursion (λ e. DropsBlock e.event e.reply b → ⊥) entries
+
+-- its arrival was answered Kept, and no block of its hash was discarded since
 abbrev pub IsKeptBy : List Entry → Block → Type 0
 IsKeptBy [] b = ⊥
-IsKeptBy (e ∷ es) b = BringsBlock e.event e.reply b ⊎ IsKeptBy es b
+IsKeptBy (e ∷ es) b = (BringsBlock e.event e.reply b × NoneDrops es b) ⊎ IsKeptBy es b
 
 -- the length of the selected chain, from the replies alone
 abbrev pub length_with : ℕ → Reply → ℕ

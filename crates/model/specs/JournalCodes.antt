@@ -9,9 +9,9 @@ use Rattle.model.specs.Mempool.{SubmitReply, Added}
 use Rattle.model.specs.Mempool as submission
 use Rattle.model.specs.Chain.{Point}
 use Rattle.model.specs.Follower.{Instruction, Stay, AddBlock, RollBack}
-use Rattle.model.specs.History.{Refusal, TooLarge, Event, Arrive, Submit, Open, Next, Forward, Close, Reply}
+use Rattle.model.specs.History.{Refusal, TooLarge, Event, Arrive, Submit, Open, Next, Forward, Close, Discard, Reply}
 use Rattle.model.specs.History.{Kept, Refused, Submitted, Opened, TooManyFollowers, Instructed, Forwarded, Closed}
-use Rattle.model.specs.History.{UnknownFollower, OutOfMemory, Entry}
+use Rattle.model.specs.History.{UnknownFollower, Discarded, NotBeside, OutOfMemory, Entry}
 use Rattle.model.specs.Journal.{JournalEntry, Journal, Knowledge}
 use Rattle.model.specs.Codes.{coded_bytes, coded_refusal}
 
@@ -32,6 +32,7 @@ fields_of_event (Next id) = (2, ([], (id, [])))
 fields_of_event (Submit bytes) = (3, (bytes, (0, [])))
 fields_of_event (Forward id points) = (4, ([], (id, points)))
 fields_of_event (Close id) = (5, ([], (id, [])))
+fields_of_event (Discard hash) = (6, (hash, (0, [])))
 
 abbrev pub event_at : ℕ → List ℕ → ℕ → List Point → Event
 event_at zero bytes id points = Arrive bytes
@@ -39,7 +40,8 @@ event_at (suc zero) bytes id points = Open
 event_at (suc (suc zero)) bytes id points = Next id
 event_at (suc (suc (suc zero))) bytes id points = Submit bytes
 event_at (suc (suc (suc (suc zero)))) bytes id points = Forward id points
-event_at (suc (suc (suc (suc (suc n))))) bytes id points = Close id
+event_at (suc (suc (suc (suc (suc zero))))) bytes id points = Close id
+event_at (suc (suc (suc (suc (suc (suc n)))))) bytes id points = Discard bytes
 
 abbrev pub event_from : EventFields → Event
 event_from p = event_at p.0 p.1.0 p.1.1.0 p.1.1.1
@@ -51,6 +53,7 @@ event_back (Next id) = refl
 event_back (Submit bytes) = refl
 event_back (Forward id points) = refl
 event_back (Close id) = refl
+event_back (Discard hash) = refl
 
 -- what comes to the node
 abbrev pub coded_event : Coded Event
@@ -153,7 +156,9 @@ fields_of_reply UnknownFollower = plain_reply 5
 fields_of_reply (Submitted answer) = (6, (0, (0, (TooLarge, (Stay, (answer, None))))))
 fields_of_reply (Forwarded found) = (7, (0, (0, (TooLarge, (Stay, (Added, found))))))
 fields_of_reply Closed = plain_reply 8
-fields_of_reply OutOfMemory = plain_reply 9
+fields_of_reply Discarded = plain_reply 9
+fields_of_reply NotBeside = plain_reply 10
+fields_of_reply OutOfMemory = plain_reply 11
 
 abbrev pub reply_at : ℕ → ℕ → ℕ → Refusal → Instruction → SubmitReply → Option Point → Reply
 reply_at zero m n refusal instruction answer found = Kept m n
@@ -165,7 +170,11 @@ reply_at (suc (suc (suc (suc (suc zero))))) m n refusal instruction answer found
 reply_at (suc (suc (suc (suc (suc (suc zero)))))) m n refusal instruction answer found = Submitted answer
 reply_at (suc (suc (suc (suc (suc (suc (suc zero))))))) m n refusal instruction answer found = Forwarded found
 reply_at (suc (suc (suc (suc (suc (suc (suc (suc zero)))))))) m n refusal instruction answer found = Closed
-reply_at (suc (suc (suc (suc (suc (suc (suc (suc (suc k))))))))) m n refusal instruction answer found = OutOfMemory
+reply_at (suc (suc (suc (suc (suc (suc (suc (suc (suc zero))))))))) m n refusal instruction answer found = Discarded
+reply_at (suc (suc (suc (suc (suc (suc (suc (suc (suc (suc zero)))))))))) m n refusal instruction answer found =
+    NotBeside
+reply_at (suc (suc (suc (suc (suc (suc (suc (suc (suc (suc (suc k))))))))))) m n refusal instruction answer found =
+    OutOfMemory
 
 abbrev pub reply_from : ReplyFields → Reply
 reply_from p = reply_at p.0 p.1.0 p.1.1.0 p.1.1.1.0 p.1.1.1.1.0 p.1.1.1.1.1.0 p.1.1.1.1.1.1
@@ -180,6 +189,8 @@ reply_back UnknownFollower = refl
 reply_back (Submitted answer) = refl
 reply_back (Forwarded found) = refl
 reply_back Closed = refl
+reply_back Discarded = refl
+reply_back NotBeside = refl
 reply_back OutOfMemory = refl
 
 -- what it answers

@@ -83,6 +83,10 @@ body_size_limit = 1048000
 abbrev pub volatile_limit : ℕ
 volatile_limit = 100000
 
+-- how many bytes they have together
+abbrev pub volatile_bytes_limit : ℕ
+volatile_bytes_limit = 1099511627776
+
 -- how many transactions wait
 abbrev pub mempool_limit : ℕ
 mempool_limit = 100000

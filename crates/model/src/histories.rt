@@ -51,7 +51,8 @@ pub fn one_reply()
         → Step network s event reply t → Step network s event other u → reply ≡ other }
 {}
 
-/// The kept blocks are those whose arrival was answered so, and those of the chain that was opened on.
+/// The kept blocks are those whose arrival was answered so and that weren't discarded since, and those of the chain that
+/// was opened on.
 pub fn kept_blocks()
     ensures { (network : Network) (history : List Entry) (s : State) (b : Block) → IsLegal network history s
         → Contains s.kept b ↔ (Contains network.opened b ⊎ IsKeptBy history b) }

@@ -1,9 +1,6 @@
-//! Faults of a script and of a genesis file that are explained, and what is refused or not selected.
+//! Faults of a script that are explained, and what is refused or not selected.
 
-use super::start_tests::{
-    GENESIS, MEMORY, OTHER_NUMBERS, OUTPUT, ends, own_folder, remove, write_file,
-};
-use std::fs;
+use super::start_tests::{GENESIS, MEMORY, ends, own_folder, remove, write_file};
 use std::fs::File;
 use std::process::Abort;
 use std::rt::Files;
@@ -12,7 +9,7 @@ use std::thread::Threads;
 
 /// The script of a file ends by a fault under the genesis of another. With the flag the same is printed and told, and
 /// then a line on what the fault is about.
-fn explains(
+pub fn explains(
     rt: &(impl Abort + Files<File = File> + AllocGlobal + Threads + Wait + Sync),
     genesis: &str,
     script: &str,
@@ -197,6 +194,22 @@ says a secret key, where the scheme has none",
         ),
     ),
     (
+        "raw A1 80\ndiscard A1\n",
+        (
+            "",
+            "line 2: UnknownName\n",
+            "line 2, column 9: \"A1\" is bound to nothing of the kind that is asked for",
+        ),
+    ),
+    (
+        "discard\n",
+        (
+            "",
+            "line 1: BadLine\n",
+            "line 1, column 1: \"discard\" is the last word, and a name has to follow",
+        ),
+    ),
+    (
         "forge A1 9223372036854775808\narrive A1\n",
         (
             "forge A1: refused 2 OutOfRange\n",
@@ -271,7 +284,7 @@ const COMMENT: &str =
 with its line feed .\n";
 
 /// A text that has this part so many times.
-fn many(rt: &(impl Abort + AllocGlobal), part: &str, count: u32) -> String {
+pub fn many(rt: &(impl Abort + AllocGlobal), part: &str, count: u32) -> String {
     let mut text = String::new(rt.alloc());
     for _ in 0..count {
         text.push_str(part).expect(rt, MEMORY);
@@ -294,178 +307,6 @@ fn a_script_that_is_too_long(rt: HostRuntime) {
         "line 42800, column 1: \"tip\" begins a line that goes on past the greatest length of a script",
     );
     explains(&rt, &genesis, &script, end);
-    remove(&rt, &folder);
-}
-
-/// Another output in three lines, before its coin.
-const ANOTHER: &str = "[[output]]
-key = \"0101010101010101010101010101010101010101010101010101010101010101\"
-";
-
-/// Texts of genesis files, in parts, with the fault that is told, and what it is about.
-const DOCUMENTS: &[(&[&str], &str, &str)] = &[
-    (
-        &["network = 0\nk = 1\nk = 2\n", OTHER_NUMBERS, OUTPUT],
-        "genesis: 1 NotToml\n",
-        "line 3, column 1: duplicate key",
-    ),
-    (&[], "genesis: 2 BadShape\n", "\"network\" is missing"),
-    (
-        &["network = 0\nk = 2\nkk = 2\n", OTHER_NUMBERS, OUTPUT],
-        "genesis: 2 BadShape\n",
-        "line 3, column 1: \"kk\" is no key that may stand there",
-    ),
-    (
-        &["network = 0\n k = \"2\"\n", OTHER_NUMBERS, OUTPUT],
-        "genesis: 2 BadShape\n",
-        "line 2, column 2: \"k\" is no whole number",
-    ),
-    (
-        &[
-            "network = 0\nk = 2\nscheme = \"rsa\"\n",
-            OTHER_NUMBERS,
-            OUTPUT,
-        ],
-        "genesis: 2 BadShape\n",
-        "line 3, column 1: \"scheme\" is neither \"test\" nor \"ed25519\"",
-    ),
-    (
-        &[
-            "network = 0\nk = 2\nscheme = 25519\n",
-            OTHER_NUMBERS,
-            OUTPUT,
-        ],
-        "genesis: 2 BadShape\n",
-        "line 3, column 1: \"scheme\" is no text",
-    ),
-    (
-        &["network = 0\nk = 2\nera2_slot = 5\n", OTHER_NUMBERS, OUTPUT],
-        "genesis: 2 BadShape\n",
-        "line 3, column 1: \"era2_slot\" stands there without the other number of a second era",
-    ),
-    (
-        &[
-            "network = 0\nk = 2\n",
-            OTHER_NUMBERS,
-            OUTPUT,
-            "[[output]]\ncoin = 1\n",
-        ],
-        "genesis: 2 BadShape\n",
-        "line 13, column 1: \"address\" of output 1 is missing, and no key stands in its stead",
-    ),
-    (
-        &[
-            "network = 0\nk = 2\n",
-            OTHER_NUMBERS,
-            OUTPUT,
-            ANOTHER,
-            "address = \"\"\n",
-        ],
-        "genesis: 2 BadShape\n",
-        "line 15, column 1: \"address\" of output 1 stands beside a key",
-    ),
-    (
-        &["network = 0\nk = 2\n", OTHER_NUMBERS, "output = 1\n"],
-        "genesis: 2 BadShape\n",
-        "line 10, column 1: \"output\" is no array",
-    ),
-    (
-        &["network = 0\nk = 2\n", OTHER_NUMBERS, "output = [1]\n"],
-        "genesis: 2 BadShape\n",
-        "line 10, column 1: \"output\" has no table at place 0",
-    ),
-    (
-        &[
-            "network = 0\nk = 2\n",
-            OTHER_NUMBERS,
-            "output = [{ address = \"\", coin = 1 }, 1]\n",
-        ],
-        "genesis: 2 BadShape\n",
-        "line 10, column 1: \"output\" has no table at place 1",
-    ),
-    (
-        &["network = 0\nk = 0\n", OTHER_NUMBERS, OUTPUT],
-        "genesis: 3 OutOfRange\n",
-        "line 2, column 1: \"k\" is not from 1 to 10000",
-    ),
-    (
-        &[
-            "network = 0\nk = 2\n",
-            OTHER_NUMBERS,
-            "[[output]]\nkey = \"01\"\ncoin = 0\n",
-        ],
-        "genesis: 4 BadAddress\n",
-        "line 11, column 1: \"key\" of output 0 is not 64 hexadecimal digits",
-    ),
-    (
-        &[
-            "network = 0\nk = 2\n",
-            OTHER_NUMBERS,
-            "[[output]]\naddress = \"01\"\ncoin = 0\n",
-        ],
-        "genesis: 4 BadAddress\n",
-        "line 11, column 1: \"address\" of output 0 is not 66 hexadecimal digits of an address of the network",
-    ),
-    (
-        &[
-            "network = 0\nk = 2\n",
-            OTHER_NUMBERS,
-            OUTPUT,
-            ANOTHER,
-            "coin = 0\n",
-        ],
-        "genesis: 5 BadCoin\n",
-        "line 15, column 1: \"coin\" of output 1 is below 1",
-    ),
-    (
-        &[
-            "network = 0\nk = 2\n",
-            OTHER_NUMBERS,
-            OUTPUT,
-            ANOTHER,
-            "coin = 9223372036854775807\n",
-        ],
-        "genesis: 5 BadCoin\n",
-        "line 15, column 1: \"coin\" of output 1 makes the coins up to there more than 9223372036854775807",
-    ),
-    (
-        &["network = 0\nk = 2\n", OTHER_NUMBERS, "output = []\n"],
-        "genesis: 6 BadOutputs\n",
-        "line 10, column 1: \"output\" has no table",
-    ),
-];
-
-#[test]
-fn faults_of_the_genesis(rt: HostRuntime) {
-    let folder = own_folder(&rt);
-    for (parts, fault, hint) in DOCUMENTS {
-        let genesis = write_file(&rt, &folder, "genesis.toml", parts);
-        explains(&rt, &genesis, "no/such.script", ("", *fault, *hint));
-    }
-    // Bytes that are no text.
-    let genesis = write_file(&rt, &folder, "bytes", &[]);
-    fs::write(&rt, genesis.as_str(), b"# \xff\n".as_slice()).expect(&rt, "a file");
-    let end = (
-        "",
-        "genesis: 1 NotToml\n",
-        "line 1, column 3: invalid UTF-8",
-    );
-    explains(&rt, &genesis, "no/such.script", end);
-    remove(&rt, &folder);
-}
-
-#[test]
-fn a_genesis_with_too_many_outputs(rt: HostRuntime) {
-    let folder = own_folder(&rt);
-    let outputs = many(&rt, OUTPUT, 10_001);
-    let parts = ["network = 0\nk = 2\n", OTHER_NUMBERS, outputs.as_str()];
-    let genesis = write_file(&rt, &folder, "genesis.toml", parts.as_slice());
-    let end = (
-        "",
-        "genesis: 6 BadOutputs\n",
-        "line 10, column 1: \"output\" has more than 10000 tables",
-    );
-    explains(&rt, &genesis, "no/such.script", end);
     remove(&rt, &folder);
 }
 

@@ -6,6 +6,8 @@ mod ed25519_tests;
 #[cfg(test)]
 mod explain_tests;
 #[cfg(test)]
+mod genesis_tests;
+#[cfg(test)]
 mod log_tests;
 #[cfg(test)]
 mod sim_tests;

@@ -4,7 +4,7 @@ use Rattle.model.specs.Ledger.{Network}
 use Rattle.model.specs.History.{State, opening, Event, Reply, Entry, Step, IsRun}
 use Rattle.model.proofs.ToldChains.{theorem_of_legal}
 use Rattle.scenario.specs.declared.options.Options.{Options}
-use Rattle.script.specs.Meaning.{Meaning, Defines, Arrives, SubmitsTx, ForgesBlock, OpensFollower, TellsFollower, ForwardsFollower, ClosesFollower, PrintsTip, PrintsMempool, PrintsUtxo, PrintsWhy, PrintsWhere, PrintsBalance}
+use Rattle.script.specs.Meaning.{Meaning, Defines, Arrives, SubmitsTx, ForgesBlock, OpensFollower, TellsFollower, ForwardsFollower, ClosesFollower, DiscardsBlock, PrintsTip, PrintsMempool, PrintsUtxo, PrintsWhy, PrintsWhere, PrintsBalance}
 use Rattle.scenario.specs.Run.{Scene, first_scene, Acts, Prints, AreObeyed, entry}
 
 -- a run, and another from where it ended
@@ -29,6 +29,7 @@ acts_run network s (OpensFollower name) out entries t (reply, opened, printed, i
 acts_run network s (TellsFollower name id) out entries t (reply, told, printed, is) = once network s.state t.state _ reply entries told.step is
 acts_run network s (ForwardsFollower name id points) out entries t (reply, forwarded, printed, is) = once network s.state t.state _ reply entries forwarded.step is
 acts_run network s (ClosesFollower name id) out entries t (reply, closed, printed, is) = once network s.state t.state _ reply entries closed.step is
+acts_run network s (DiscardsBlock name hash) out entries t (reply, discarded, printed, is) = once network s.state t.state _ reply entries discarded.step is
 acts_run network s PrintsTip out entries t (printed, none, same) = still network s.state t.state entries none (ap (λ (x : Scene). x.state) same)
 acts_run network s PrintsMempool out entries t (printed, none, same) = still network s.state t.state entries none (ap (λ (x : Scene). x.state) same)
 acts_run network s PrintsUtxo out entries t (ledger, folded, printed, none, same) = still network s.state t.state entries none (ap (λ (x : Scene). x.state) same)

@@ -21,7 +21,7 @@ use Rattle.chain_core.specs.declared.arrival.ArriveReply.{ArriveReply as CodeArr
 use Rattle.chain_core.specs.declared.arrival.ArriveReply.TheVariants as arrive
 use Rattle.chain_core.specs.Views.{arrive_reply_of, submit_reply_of}
 use Rattle.script.specs.Names.{Binding}
-use Rattle.script.specs.Meaning.{Meaning, Defines, Arrives, SubmitsTx, ForgesBlock, OpensFollower, TellsFollower, ForwardsFollower, ClosesFollower, PrintsTip, PrintsMempool, PrintsUtxo, PrintsWhy, PrintsWhere, PrintsBalance}
+use Rattle.script.specs.Meaning.{Meaning, Defines, Arrives, SubmitsTx, ForgesBlock, OpensFollower, TellsFollower, ForwardsFollower, ClosesFollower, DiscardsBlock, PrintsTip, PrintsMempool, PrintsUtxo, PrintsWhy, PrintsWhere, PrintsBalance}
 use Rattle.scenario.specs.declared.session.Session.{Session}
 use Rattle.scenario.specs.Answers.{why_answer_text}
 use Rattle.scenario.specs.Notes.{note_text, told_text, IsNoteOf, IsNote}
@@ -56,6 +56,7 @@ quiet_line network s (OpensFollower name) out entries t quiet (reply, opened, pr
 quiet_line network s (TellsFollower name id) out entries t quiet (reply, told, printed, is) = one_entry network t.names.of_bytes s.state entries _ t.state is refl
 quiet_line network s (ForwardsFollower name id points) out entries t quiet (reply, forwarded, printed, is) = one_entry network t.names.of_bytes s.state entries _ t.state is refl
 quiet_line network s (ClosesFollower name id) out entries t quiet (reply, closed, printed, is) = one_entry network t.names.of_bytes s.state entries _ t.state is refl
+quiet_line network s (DiscardsBlock name hash) out entries t quiet (reply, discarded, printed, is) = one_entry network t.names.of_bytes s.state entries _ t.state is refl
 quiet_line network s PrintsTip out entries t quiet (printed, none, same) = no_entry network t.names.of_bytes s.state entries t.state none
 quiet_line network s PrintsMempool out entries t quiet (printed, none, same) = no_entry network t.names.of_bytes s.state entries t.state none
 quiet_line network s PrintsUtxo out entries t quiet (ledger, folded, printed, none, same) = no_entry network t.names.of_bytes s.state entries t.state none

@@ -11,7 +11,7 @@ use Rattle.model.specs.Chain.{Point}
 use Rattle.model.specs.Follower.{Instruction, Stay, AddBlock, RollBack}
 use Rattle.model.specs.Forging.{ForgeFault, SlotNotAfterTip, OutOfRange}
 use Rattle.model.specs.History.{Reply, Submitted, Opened, TooManyFollowers, Instructed, Forwarded, Closed}
-use Rattle.model.specs.History.{UnknownFollower, OutOfMemory}
+use Rattle.model.specs.History.{UnknownFollower, Discarded, NotBeside, OutOfMemory}
 use Rattle.mempool.specs.Texts.{submit_reply_text}
 use Rattle.chain_core.specs.Texts.{arrive_reply_text}
 use Rattle.script.specs.declared.line.Form.{Form}
@@ -133,6 +133,17 @@ closing_reply_text reply = []
 -- what the line `close` prints
 abbrev pub closing_text : List ℕ → Reply → List ℕ
 closing_text name reply = codes "close " ++ name ++ codes ": " ++ closing_reply_text reply ++ 10 ∷ []
+
+-- what the discarding of a block is answered
+abbrev pub discarding_reply_text : Reply → List ℕ
+discarding_reply_text Discarded = codes "ok"
+discarding_reply_text NotBeside = codes "refused NotBeside"
+-- no discarding is answered otherwise
+discarding_reply_text reply = []
+
+-- what the line `discard` prints
+abbrev pub discarding_text : List ℕ → Reply → List ℕ
+discarding_text name reply = codes "discard " ++ name ++ codes ": " ++ discarding_reply_text reply ++ 10 ∷ []
 
 -- a beginning of the bytes was written, and these are left
 pub record AppendsUpTo (old new : Option (List ℕ)) (bytes unwritten : List ℕ) : Type 0 where

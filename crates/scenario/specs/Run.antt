@@ -10,8 +10,8 @@ use Rattle.model.specs.Chain.{Point, tip_point, IsOpening}
 use Rattle.model.specs.Follower.{free_id}
 use Rattle.model.specs.Limits.{follower_limit}
 use Rattle.model.specs.Forging.{ForgeFault, ForgeApplies, IsNotForged, IsForged}
-use Rattle.model.specs.History.{State, opening, Event, Arrive, Submit, Open, Next, Forward, Close, Step, HasDue}
-use Rattle.model.specs.History.{Reply, Opened, OutOfMemory}
+use Rattle.model.specs.History.{State, opening, Event, Arrive, Submit, Open, Next, Forward, Close, Discard, Step}
+use Rattle.model.specs.History.{HasDue, Reply, Opened, OutOfMemory}
 use Rattle.model.specs.History.{Entry, IsRun, IsLegal, ChainTheorem}
 use Rattle.model.specs.Asked.{Why, IsWhyOf, TxPlace, IsTxPlaceOf}
 use Rattle.genesis.specs.declared.scheme.Scheme.{Scheme}
@@ -25,12 +25,13 @@ use Rattle.scenario.specs.declared.fault.ScenarioFault.TheVariants as fault
 use Rattle.script.specs.Text.{lines_of}
 use Rattle.script.specs.Names.{Named, Binding, OpenTx, AllNames, no_names}
 use Rattle.script.specs.Meaning.{Meaning, Defines, Arrives, SubmitsTx, ForgesBlock, OpensFollower, TellsFollower}
-use Rattle.script.specs.Meaning.{ForwardsFollower, ClosesFollower, PrintsTip, PrintsMempool, PrintsUtxo, bound_block}
+use Rattle.script.specs.Meaning.{ForwardsFollower, ClosesFollower, DiscardsBlock, PrintsTip, PrintsMempool, PrintsUtxo}
 use Rattle.script.specs.Meaning.{PrintsWhy, PrintsWhere, PrintsBalance, AreNamesAfter, HasNoFault, Means, formed}
+use Rattle.script.specs.Meaning.{bound_block}
 use Rattle.scenario.specs.Pieces.{IsPiece}
 use Rattle.scenario.specs.Print.{arrival_text, submission_text, ForgeAnswer, ForgedBlock, NoBlock, NoMemory}
 use Rattle.scenario.specs.Print.{forge_answer_text, forging_text, mempool_text, open_text, tip_text, utxo_text}
-use Rattle.scenario.specs.Print.{IsNextText, forwarding_text, closing_text}
+use Rattle.scenario.specs.Print.{IsNextText, forwarding_text, closing_text, discarding_text}
 use Rattle.scenario.specs.Answers.{why_text, where_text}
 use Rattle.scenario.specs.Notes.{IsNote}
 use Rattle.scenario.specs.Balances.{outputs_of_address, IsBalanceText}
@@ -109,6 +110,12 @@ pub record WasClosed (network : Network) (s : Scene) (id : ℕ) (reply : Reply) 
   pub enough : reply ≢ OutOfMemory
   pub names : t.names ≡ s.names
 
+-- the discarding of a block was answered so, by a step of the definitions, for which no memory is asked
+pub record WasDiscarded (network : Network) (s : Scene) (hash : List ℕ) (reply : Reply) (t : Scene) : Type 0 where
+  pub step : Step network s.state (Discard hash) reply t.state
+  pub enough : reply ≢ OutOfMemory
+  pub names : t.names ≡ s.names
+
 -- an event with its reply, as the one entry of a history
 abbrev pub entry : Event → Reply → List Entry
 entry event reply = record { event = event; reply = reply } ∷ []
@@ -133,6 +140,8 @@ Acts network s (ForwardsFollower name id points) out entries t = (reply : Reply)
     × (out ≡ forwarding_text s.names.of_bytes name reply) × (entries ≡ entry (Forward id points) reply)
 Acts network s (ClosesFollower name id) out entries t = (reply : Reply) × WasClosed network s id reply t
     × (out ≡ closing_text name reply) × (entries ≡ entry (Close id) reply)
+Acts network s (DiscardsBlock name hash) out entries t = (reply : Reply) × WasDiscarded network s hash reply t
+    × (out ≡ discarding_text name reply) × (entries ≡ entry (Discard hash) reply)
 Acts network s PrintsTip out entries t = (out ≡ tip_text s.names.of_bytes (tip_point s.state.chain)) × (entries ≡ [])
     × (t ≡ s)
 Acts network s PrintsMempool out entries t = (out ≡ mempool_text s.names.of_txs s.state.mempool) × (entries ≡ [])
@@ -194,6 +203,7 @@ event_meant (OpensFollower name) = Some Open
 event_meant (TellsFollower name id) = Some (Next id)
 event_meant (ForwardsFollower name id points) = Some (Forward id points)
 event_meant (ClosesFollower name id) = Some (Close id)
+event_meant (DiscardsBlock name hash) = Some (Discard hash)
 event_meant meaning = None
 
 -- the event of a line that means this was answered so, by a step of the definitions

@@ -4,19 +4,20 @@ ghost use Rattle.std.specs.Prelude.{◌≡◌, ◌++◌, ℕ, List, OnOk, Some};
 ghost use Rattle.model.specs.Block.{SpellsBlock, block_text, block_hash_of};
 ghost use Rattle.ident.specs.PointView.{point_of};
 ghost use Rattle.chain_core.specs.Views.{instruction_of, arrive_reply_of, submit_reply_of, open_reply_of};
-ghost use Rattle.chain_core.specs.Views.{next_reply_of, forward_reply_of, close_reply_of};
+ghost use Rattle.chain_core.specs.Views.{next_reply_of, forward_reply_of, close_reply_of, discard_reply_of};
 ghost use Rattle.script.specs.Names.{AllNames, printed_name};
 ghost use Rattle.script.specs.RequestView.{AreNamed};
 ghost use Rattle.scenario.specs.Print.{arrival_text, open_reply_text, open_text, point_name, IsInstructionText};
 ghost use Rattle.scenario.specs.Print.{IsNextReplyText, IsNextText, tip_text, unspent_text};
 ghost use Rattle.scenario.specs.Print.{submission_reply_text, submission_text, forging_text};
 ghost use Rattle.scenario.specs.Print.{tx_names_text, mempool_text, forwarding_reply_text, forwarding_text};
-ghost use Rattle.scenario.specs.Print.{closing_reply_text, closing_text};
+ghost use Rattle.scenario.specs.Print.{closing_reply_text, closing_text, discarding_reply_text, discarding_text};
 ghost use Rattle.scenario.specs.ForgeView.{code_answer_text};
 
 use block::CheckedBlock;
 use chain_core::{
-    ArriveReply, FollowerId, ForgeFault, Instruction, NextFault, OpenFollowerFault, UnknownFollower,
+    ArriveReply, FollowerId, ForgeFault, Instruction, NextFault, NotBeside, OpenFollowerFault,
+    UnknownFollower,
 };
 use ident::Point;
 use mempool::{Mempool, SubmitReply};
@@ -306,6 +307,32 @@ pub fn print_closing(
     line.extend_from_slice(name)?;
     line.extend_from_slice(b": ")?;
     line.extend_from_slice(closing_reply(reply))?;
+    line.push(b'\n')?;
+    Ok(())
+}
+
+/// What the discarding of a block is answered.
+fn discarding_reply(reply: Result<(), NotBeside>) -> &'static [u8]
+    ensures { result.now ≡ discarding_reply_text (discard_reply_of reply) }
+{
+    match reply {
+        Ok(()) => b"ok".as_slice(),
+        Err(NotBeside {}) => b"refused NotBeside".as_slice(),
+    }
+}
+
+/// Appends what the line `discard` prints.
+pub fn print_discarding(
+    line: &mut Vec<u8>,
+    name: &[u8],
+    reply: Result<(), NotBeside>,
+) -> Result<(), AllocError>
+    ensures { OnOk result (line.new.items ≡ line.old.items ++ discarding_text name.now (discard_reply_of reply)) }
+{
+    line.extend_from_slice(b"discard ")?;
+    line.extend_from_slice(name)?;
+    line.extend_from_slice(b": ")?;
+    line.extend_from_slice(discarding_reply(reply))?;
     line.push(b'\n')?;
     Ok(())
 }

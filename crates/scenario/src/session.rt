@@ -11,7 +11,7 @@ ghost use Rattle.ident.specs.PointView.{point_of};
 ghost use Rattle.chain_core.specs.Views.{arrive_reply_of, submit_reply_of};
 ghost use Rattle.script.specs.Names.{AllNames, Bound, bound_to, no_names};
 ghost use Rattle.script.specs.Meaning.{Arrives, ForgesBlock, OpensFollower, PrintsMempool, PrintsTip, PrintsUtxo};
-ghost use Rattle.script.specs.Meaning.{SubmitsTx, TellsFollower, ForwardsFollower, ClosesFollower};
+ghost use Rattle.script.specs.Meaning.{SubmitsTx, TellsFollower, ForwardsFollower, ClosesFollower, DiscardsBlock};
 ghost use Rattle.script.specs.Meaning.{PrintsWhy, PrintsWhere, PrintsBalance};
 ghost use Rattle.script.specs.PartView.{owner_of};
 ghost use Rattle.tx.specs.View.{address_of};
@@ -29,8 +29,8 @@ use crate::balance::balance_lines;
 use crate::form::formed;
 use crate::notes::{note_arrival, note_submission};
 use crate::print::{
-    print_arrival, print_closing, print_forging, print_forwarding, print_mempool, print_next,
-    print_open, print_submission, print_tip, print_utxo,
+    print_arrival, print_closing, print_discarding, print_forging, print_forwarding, print_mempool,
+    print_next, print_open, print_submission, print_tip, print_utxo,
 };
 use chain_core::{ArriveReply, Core, FollowerId, ForgeFault};
 use genesis::{Genesis, Scheme};
@@ -345,6 +345,20 @@ impl<S: SigScheme> Session<S> {
         }
     }
 
+    /// The block of this hash is to be kept no more. The room for what it prints is taken first.
+    fn discard(&mut self, name: Name<'_>, hash: BlockHash) -> Result<Vec<u8>, Stop>
+        ensures obeyed { (s : Scene) → Holds self.old s → IsDone (network_held self.old.core S.verifies) s
+            (DiscardsBlock name.entry.text.now hash.bytes) result self.new }
+        ensures start { KeepsStart self.old.core self.new.core }
+    {
+        let mut line = line_room(self.alloc, name)?;
+        let reply = self.core.discard(hash);
+        match print_discarding(&mut line, name.text, reply) {
+            Ok(()) => Ok(line),
+            Err(AllocError) => Err(Stop::OutOfMemory),
+        }
+    }
+
     /// The question where the selected chain ends.
     fn tip(&self) -> Result<Vec<u8>, Stop>
         ensures { (s : Scene) → Holds self.now s
@@ -448,6 +462,7 @@ impl<S: SigScheme> Session<S> {
             Ok(Request::Next { name, id }) => self.next(name, id),
             Ok(Request::Forward { name, id, points }) => self.forward(name, id, &points),
             Ok(Request::Close { name, id }) => self.close(name, id),
+            Ok(Request::Discard { name, hash }) => self.discard(name, hash),
             Ok(Request::Tip) => self.tip(),
             Ok(Request::Mempool) => self.mempool(),
             Ok(Request::Utxo) => self.utxo(),

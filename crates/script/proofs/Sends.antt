@@ -13,7 +13,7 @@ use Rattle.script.specs.declared.request.Request.TheVariants as request
 use Rattle.script.specs.declared.names.Names.{Names}
 use Rattle.script.specs.declared.open_tx.OpenTx as code
 use Rattle.script.specs.declared.sending.SendRequest.{SendRequest}
-use Rattle.script.specs.Line.{Line, NamedPlace, Nothing, DefineKey, DefineSeed, DefineScript, BeginTx, AddPart, EndTx, DefineBlock, DefineRaw, Arrive, SubmitTx, ForgeBlock, OpenFollower, AskNext, AskForward, CloseFollower, AskTip, AskMempool, AskUtxo, AskWhy, AskWhere, AskBalance, parse_line}
+use Rattle.script.specs.Line.{Line, NamedPlace, Nothing, DefineKey, DefineSeed, DefineScript, BeginTx, AddPart, EndTx, DefineBlock, DefineRaw, Arrive, SubmitTx, ForgeBlock, OpenFollower, AskNext, AskForward, CloseFollower, DiscardBlock, AskTip, AskMempool, AskUtxo, AskWhy, AskWhere, AskBalance, parse_line}
 use Rattle.script.specs.Names.{AllNames, Bound, OpenTx, Named, bound_to}
 use Rattle.script.specs.Text.{script_size_limit}
 use Rattle.script.specs.WordsView.{has_no_words}
@@ -101,6 +101,7 @@ defines number names making (OpenFollower name) m so is = cc
 defines number names making (AskNext name) m so is = cc
 defines number names making (AskForward name places) m so is = cc
 defines number names making (CloseFollower name) m so is = cc
+defines number names making (DiscardBlock name) m so is = cc
 defines number names making AskTip m so is = cc
 defines number names making AskMempool m so is = cc
 defines number names making AskUtxo m so is = cc
@@ -122,6 +123,7 @@ is_defined names c (request.Open name) m d is also = let no = is.0 in cc
 is_defined names c (request.Next name id) m d is also = let no = is.0 in cc
 is_defined names c (request.Forward name id points) m d is also = let no = is.0 in cc
 is_defined names c (request.Close name id) m d is also = let no = is.0 in cc
+is_defined names c (request.Discard name hash) m d is also = let no = is.0 in cc
 is_defined names c request.Tip m d is also = let no = is.0 in cc
 is_defined names c request.Mempool m d is also = let no = is.0 in cc
 is_defined names c request.Utxo m d is also = let no = is.0 in cc

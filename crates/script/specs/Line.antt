@@ -42,9 +42,9 @@ pub data Part : Type 0 where
 -- a line: nothing, a key, a secret key or a script of a name, a transaction of a name that begins, a part of it, its
 -- end, a block of a name, on a parent, in a slot, with transactions, bytes of a name, an arrival, a submission, a block
 -- of a name to forge in a slot, a follower to open, the question what a follower is told next, a follower to set to the
--- first of some places that is on the selected chain, a follower to close, the question where that chain ends, what
--- waits in the mempool, or what is unspent on the chain, why the block of a name isn't selected, where the transaction
--- of a name stands, or how much an owner has
+-- first of some places that is on the selected chain, a follower to close, a block of a name to keep no more, the
+-- question where that chain ends, what waits in the mempool, or what is unspent on the chain, why the block of a name
+-- isn't selected, where the transaction of a name stands, or how much an owner has
 pub data Line : Type 0 where
   Nothing : Line
   DefineKey : (name bytes : List ℕ) → Line
@@ -62,6 +62,7 @@ pub data Line : Type 0 where
   AskNext : (name : List ℕ) → Line
   AskForward : (name : List ℕ) → List NamedPlace → Line
   CloseFollower : (name : List ℕ) → Line
+  DiscardBlock : (name : List ℕ) → Line
   AskTip : Line
   AskMempool : Line
   AskUtxo : Line
@@ -205,6 +206,7 @@ named_line word name =
     if bytes_eq word (codes "open") then where_name name (Some (OpenFollower name))
     else if bytes_eq word (codes "next") then where_name name (Some (AskNext name))
     else if bytes_eq word (codes "close") then where_name name (Some (CloseFollower name))
+    else if bytes_eq word (codes "discard") then where_name name (Some (DiscardBlock name))
     else if bytes_eq word (codes "submit") then where_name name (Some (SubmitTx name))
     else if bytes_eq word (codes "tx") then where_name name (Some (BeginTx name))
     else if bytes_eq word (codes "fee") then number_part SetFee name

@@ -24,6 +24,7 @@ line_of (line.Open name) = spec.OpenFollower name.text.now
 line_of (line.Next name) = spec.AskNext name.text.now
 line_of (line.Forward name points) = spec.AskForward name.text.now (spec.said_places (words_left points.words))
 line_of (line.Close name) = spec.CloseFollower name.text.now
+line_of (line.Discard name) = spec.DiscardBlock name.text.now
 line_of line.Tip = spec.AskTip
 line_of line.Mempool = spec.AskMempool
 line_of line.Utxo = spec.AskUtxo

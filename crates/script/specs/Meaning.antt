@@ -25,8 +25,8 @@ use Rattle.script.specs.Line.{SpendGrant, Spend, Pay}
 use Rattle.script.specs.Line.{SetFee, SetStart, SetEnd, MintAsset, SignBy, Supply, Line, Nothing, DefineKey}
 use Rattle.script.specs.Line.{DefineSeed, DefineScript, BeginTx}
 use Rattle.script.specs.Line.{AddPart, EndTx, DefineBlock, DefineRaw, Arrive, SubmitTx, ForgeBlock, OpenFollower}
-use Rattle.script.specs.Line.{AskNext, AskForward, CloseFollower, AskTip, AskMempool, AskUtxo, AskWhy, AskWhere}
-use Rattle.script.specs.Line.{AskBalance}
+use Rattle.script.specs.Line.{AskNext, AskForward, CloseFollower, DiscardBlock, AskTip, AskMempool, AskUtxo, AskWhy}
+use Rattle.script.specs.Line.{AskWhere, AskBalance}
 use Rattle.script.specs.Line.{parse_line, is_quantity}
 use Rattle.script.specs.Keys.{Key, key_bytes, key_in, secret_key_in, signer_with}
 use Rattle.script.specs.Names.{Named, Bound, Binding, OpenTx, AllNames, bound_to}
@@ -43,8 +43,9 @@ pub data Definition : Type 0 where
 
 -- what a line does: it defines something, bytes arrive, a transaction is submitted, a block of a name is forged in a
 -- slot, a follower is opened, the follower of a number is told what comes next, is set to the first of some points that
--- is on the selected chain, or is closed, the tip is printed, what waits in the mempool, what is unspent, why the block
--- of a hash isn't selected, where the transaction of an identifier stands, or how much is unspent at an owner's address
+-- is on the selected chain, or is closed, the block of a hash is to be kept no more, the tip is printed, what waits in
+-- the mempool, what is unspent, why the block of a hash isn't selected, where the transaction of an identifier stands,
+-- or how much is unspent at an owner's address
 pub data Meaning : Type 0 where
   Defines : Definition → Meaning
   Arrives : Form → (name bytes : List ℕ) → Meaning
@@ -54,6 +55,7 @@ pub data Meaning : Type 0 where
   TellsFollower : (name : List ℕ) → (id : ℕ) → Meaning
   ForwardsFollower : (name : List ℕ) → (id : ℕ) → (points : List Point) → Meaning
   ClosesFollower : (name : List ℕ) → (id : ℕ) → Meaning
+  DiscardsBlock : (name hash : List ℕ) → Meaning
   PrintsTip : Meaning
   PrintsMempool : Meaning
   PrintsUtxo : Meaning
@@ -275,6 +277,8 @@ meaning_outside number names (AskForward name places) =
     (λ points. Ok (ForwardsFollower name id points)))
 meaning_outside number names (CloseFollower name) =
     where_known (bound_to name names.of_followers) (λ id. Ok (ClosesFollower name id))
+meaning_outside number names (DiscardBlock name) =
+    where_known (block_point names.of_bytes name) (λ point. Ok (DiscardsBlock name point.hash))
 meaning_outside number names AskTip = Ok PrintsTip
 meaning_outside number names AskMempool = Ok PrintsMempool
 meaning_outside number names AskUtxo = Ok PrintsUtxo

@@ -20,8 +20,9 @@ use Rattle.script.specs.KnownView.{AreKnown}
 use Rattle.script.specs.SignerView.{key_signer_of}
 use Rattle.script.specs.Line.{Line}
 use Rattle.script.specs.Meaning.{Meaning, Defines, Definition, Arrives, SubmitsTx, ForgesBlock, OpensFollower}
-use Rattle.script.specs.Meaning.{TellsFollower, ForwardsFollower, ClosesFollower, PrintsTip, PrintsMempool, PrintsUtxo}
-use Rattle.script.specs.Meaning.{PrintsWhy, PrintsWhere, PrintsBalance, AreNamesAfter, MeansLine, is_late}
+use Rattle.script.specs.Meaning.{TellsFollower, ForwardsFollower, ClosesFollower, DiscardsBlock, PrintsTip}
+use Rattle.script.specs.Meaning.{PrintsMempool, PrintsUtxo, PrintsWhy, PrintsWhere, PrintsBalance, AreNamesAfter}
+use Rattle.script.specs.Meaning.{MeansLine, is_late}
 use Rattle.script.specs.PartView.{owner_of}
 
 -- the code holds this transaction in the making
@@ -72,6 +73,8 @@ IsRequest names code (request.Next name id) meaning = (meaning ≡ TellsFollower
 IsRequest names code (request.Forward name id points) meaning =
     (meaning ≡ ForwardsFollower name.text.now id (map point_of points.items)) × AreNamed code names
 IsRequest names code (request.Close name id) meaning = (meaning ≡ ClosesFollower name.text.now id) × AreNamed code names
+IsRequest names code (request.Discard name hash) meaning =
+    (meaning ≡ DiscardsBlock name.text.now hash.bytes) × AreNamed code names
 IsRequest names code request.Tip meaning = (meaning ≡ PrintsTip) × AreNamed code names
 IsRequest names code request.Mempool meaning = (meaning ≡ PrintsMempool) × AreNamed code names
 IsRequest names code request.Utxo meaning = (meaning ≡ PrintsUtxo) × AreNamed code names

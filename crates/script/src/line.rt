@@ -4,7 +4,7 @@ ghost use Rattle.std.specs.Prelude.{◌≡◌, Some, option_map};
 ghost use Rattle.script.specs.Line.{parse_line, said_by, said_with, form_of, word_of, where_name, parse_place};
 ghost use Rattle.script.specs.Line.{word_line, arrive_line, named_line, spend_line, pair_line, mint_line, long_line};
 ghost use Rattle.script.specs.Line.{OpenFollower, AskNext, CloseFollower, SubmitTx, BeginTx, AddPart, SignBy, Supply};
-ghost use Rattle.script.specs.Line.{AskWhy, AskWhere, AskBalance, OwnedByKey};
+ghost use Rattle.script.specs.Line.{DiscardBlock, AskWhy, AskWhere, AskBalance, OwnedByKey};
 ghost use Rattle.script.specs.Line.{asking_line, balance_line, forge_line, forward_line};
 ghost use Rattle.script.specs.Line.{block_of_parts, pay_of_parts, parse_owner, parse_assets};
 ghost use Rattle.script.specs.Text.{parse_number};
@@ -132,6 +132,10 @@ pub enum Line<'a> {
     Close {
         name: Name<'a>,
     },
+    /// The block of a name is to be kept no more.
+    Discard {
+        name: Name<'a>,
+    },
     /// Where does the selected chain end?
     Tip,
     /// What waits in the mempool?
@@ -200,6 +204,14 @@ fn close_line<'a>(name: &'a [u8]) -> Option<Line<'a>>
 {
     let name = Name::of_word(name)?;
     Some(Line::Close { name })
+}
+
+/// The line in which a block is discarded.
+fn discard_line<'a>(name: &'a [u8]) -> Option<Line<'a>>
+    ensures { option_map line_of result ≡ where_name name.entry.now (Some (DiscardBlock name.entry.now)) }
+{
+    let name = Name::of_word(name)?;
+    Some(Line::Discard { name })
 }
 
 /// The line in which a transaction is submitted.
@@ -285,6 +297,8 @@ fn named_line<'a>(word: &[u8], name: &'a [u8]) -> Option<Line<'a>>
         next_line(name)
     } else if word == b"close".as_slice() {
         close_line(name)
+    } else if word == b"discard".as_slice() {
+        discard_line(name)
     } else if word == b"submit".as_slice() {
         submit_line(name)
     } else if word == b"tx".as_slice() {

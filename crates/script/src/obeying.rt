@@ -3,8 +3,8 @@
 ghost use Rattle.std.specs.Prelude.{◌≡◌, None, Some, false};
 ghost use Rattle.script.specs.LineView.{line_of};
 ghost use Rattle.script.specs.Meaning.{ForgesBlock, OpensFollower, SubmitsTx, TellsFollower, ForwardsFollower};
-ghost use Rattle.script.specs.Meaning.{ClosesFollower, arrival_meaning, is_late, meaning_inside, points_at};
-ghost use Rattle.script.specs.Meaning.{address_on, block_point, where_free, where_known};
+ghost use Rattle.script.specs.Meaning.{ClosesFollower, DiscardsBlock, arrival_meaning, is_late, meaning_inside};
+ghost use Rattle.script.specs.Meaning.{points_at, address_on, block_point, where_free, where_known};
 ghost use Rattle.script.specs.Meaning.{PrintsWhy, PrintsWhere, PrintsBalance};
 ghost use Rattle.model.specs.Transaction.{transaction_id_of};
 ghost use Rattle.script.specs.Names.{AllNames, OpenTx, bound_to};
@@ -114,6 +114,21 @@ impl Names {
         }
     }
 
+    /// A line in which a block is discarded.
+    fn ask_discarding<'a>(&self, name: Name<'a>) -> Result<Request<'a>, Stop>
+        ensures { (names : AllNames) → AreNamed self.now names → AsksFor names
+            (where_known (block_point names.of_bytes name.entry.text.now)
+            (λ point. Ok (DiscardsBlock name.entry.text.now point.hash))) false result self.now }
+    {
+        match self.bytes.point_at(NamedPlace::Block(name)) {
+            Some(point) => Ok(Request::Discard {
+                name,
+                hash: point.hash,
+            }),
+            None => Err(Stop::Fault(LineFault::UnknownName)),
+        }
+    }
+
     /// The question why a block isn't selected.
     fn ask_why<'a>(&self, name: Name<'a>) -> Result<Request<'a>, Stop>
         ensures { (names : AllNames) → AreNamed self.now names → AsksFor names
@@ -214,6 +229,7 @@ impl Names {
             Line::Next { name } => self.ask_next(name),
             Line::Forward { name, points } => self.ask_forward(name, points),
             Line::Close { name } => self.ask_closing(name),
+            Line::Discard { name } => self.ask_discarding(name),
             Line::Tip => Ok(Request::Tip),
             Line::Mempool => Ok(Request::Mempool),
             Line::Utxo => Ok(Request::Utxo),

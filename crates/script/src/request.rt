@@ -46,6 +46,11 @@ pub enum Request<'a> {
         name: Name<'a>,
         id: u64,
     },
+    /// The block of this name and hash is to be kept no more.
+    Discard {
+        name: Name<'a>,
+        hash: BlockHash,
+    },
     /// Where does the selected chain end?
     Tip,
     /// What waits in the mempool?

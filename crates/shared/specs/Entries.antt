@@ -5,9 +5,9 @@ use Rattle.model.specs.History.{Event, Reply}
 use Rattle.model.specs.Journal.{JournalEntry}
 use Rattle.ident.specs.PointView.{point_of}
 use Rattle.chain_core.specs.Views.{arrive_reply_of, submit_reply_of, open_reply_of, next_reply_of}
-use Rattle.chain_core.specs.Views.{forward_reply_of, close_reply_of}
+use Rattle.chain_core.specs.Views.{forward_reply_of, close_reply_of, discard_reply_of}
 use Rattle.shared.specs.declared.call.Call.{Call}
-use Rattle.shared.specs.declared.call.Call.TheVariants.{Arrive, Submit, Open, Next, Forward, Close}
+use Rattle.shared.specs.declared.call.Call.TheVariants.{Arrive, Submit, Open, Next, Forward, Close, Discard}
 use Rattle.shared.specs.declared.journal_entry.JournalEntry.TheInside.{Inside}
 
 -- the peer that an arrival came from
@@ -18,6 +18,7 @@ peer_of (Open reply) = None
 peer_of (Next id reply) = None
 peer_of (Forward id points reply) = None
 peer_of (Close id reply) = None
+peer_of (Discard hash reply) = None
 
 abbrev pub asked : {S : Type 0} → Call S → Event
 asked (Arrive peer bytes reply) = history.Arrive bytes.now
@@ -26,6 +27,7 @@ asked (Open reply) = history.Open
 asked (Next id reply) = history.Next id.number
 asked (Forward id points reply) = history.Forward id.number (map point_of points.now)
 asked (Close id reply) = history.Close id.number
+asked (Discard hash reply) = history.Discard hash.bytes
 
 abbrev pub answered : {S : Type 0} → Call S → Reply
 answered (Arrive peer bytes reply) = arrive_reply_of (Ok reply.now)
@@ -34,6 +36,7 @@ answered (Open reply) = open_reply_of reply.now
 answered (Next id reply) = next_reply_of reply.now
 answered (Forward id points reply) = forward_reply_of reply.now
 answered (Close id reply) = close_reply_of reply.now
+answered (Discard hash reply) = discard_reply_of reply.now
 
 -- the caller made this call
 abbrev pub entry_of : {S : Type 0} → ℕ → Call S → JournalEntry

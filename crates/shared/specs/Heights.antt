@@ -96,6 +96,7 @@ no_genesis =
       };
       k = 0;
       max_volatile = 0;
+      max_volatile_bytes = None;
       max_mempool = 0;
       grants = [];
     }

@@ -1,9 +1,9 @@
 //! Calls under the lock.
 
 use chain_core::{
-    ArriveReply, FollowerId, Instruction, NextFault, OpenFollowerFault, UnknownFollower,
+    ArriveReply, FollowerId, Instruction, NextFault, NotBeside, OpenFollowerFault, UnknownFollower,
 };
-use ident::Point;
+use ident::{BlockHash, Point};
 use mempool::SubmitReply;
 use witness_pool::SigScheme;
 
@@ -41,5 +41,10 @@ pub enum Call<'a, S: SigScheme> {
     Close {
         id: FollowerId,
         reply: &'a Result<(), UnknownFollower>,
+    },
+    /// A live block of this hash was to be kept no more.
+    Discard {
+        hash: BlockHash,
+        reply: &'a Result<(), NotBeside>,
     },
 }

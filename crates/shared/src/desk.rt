@@ -3,7 +3,7 @@
 ghost use Rattle.std.specs.Prelude.{◌≡◌, ◌↔◌, ◌≤◌, ◌++◌, [], ◌∷◌, length, map, Ok, Err, IfOk, IfErr};
 ghost use Rattle.std.specs.Prelude.{OnOk, OnErr, IsTrue};
 ghost use Rattle.shared.specs.Starts.{network_from};
-ghost use Rattle.model.specs.History.{Arrive, Submit, Open, Next, Forward, Close};
+ghost use Rattle.model.specs.History.{Arrive, Submit, Open, Next, Forward, Close, Discard};
 ghost use Rattle.model.specs.Journal.{IsCalled, IsLook, IsMeeting, height_of};
 ghost use Rattle.model.specs.Chain.{IsOpening};
 ghost use Rattle.model.specs.Limits.{block_size_limit};
@@ -12,7 +12,7 @@ ghost use Rattle.std.specs.List.{AllByRecursion};
 ghost use Rattle.ident.specs.PointView.{point_of};
 ghost use Rattle.inbox.specs.Arrivals.{IsPeer};
 ghost use Rattle.chain_core.specs.Views.{arrive_reply_of, submit_reply_of, open_reply_of, next_reply_of};
-ghost use Rattle.chain_core.specs.Views.{forward_reply_of, close_reply_of};
+ghost use Rattle.chain_core.specs.Views.{forward_reply_of, close_reply_of, discard_reply_of};
 ghost use Rattle.mempool.specs.Calls.{IsWantAtSubmission};
 ghost use Rattle.chain_core.specs.declared.follower.NextFault.TheVariants as fault;
 ghost use Rattle.shared.specs.Entries.{call_by, arrival_by};
@@ -33,10 +33,10 @@ use crate::journal::Journal;
 use crate::room::Room;
 use block::Seen;
 use chain_core::{
-    ArriveReply, Core, FollowerId, ForgeFault, Forged, Instruction, NextFault, OpenFollowerFault,
-    UnknownFollower,
+    ArriveReply, Core, FollowerId, ForgeFault, Forged, Instruction, NextFault, NotBeside,
+    OpenFollowerFault, UnknownFollower,
 };
-use ident::Point;
+use ident::{BlockHash, Point};
 use mempool::SubmitReply;
 use std::alloc::AllocError;
 use std::marker::Model;
@@ -231,6 +231,29 @@ impl<S: SigScheme, B: Room> Desk<S, B> {
     {
         let answer = self.core.close(id);
         let entry = caller.entry(Call::Close { id, reply: &answer });
+        self.journal.write(heights, caller, &self.core, &entry);
+        answer
+    }
+
+    /// The caller has a live block discarded that is beside the selected chain. Takes no memory.
+    pub fn discard(
+        &mut self,
+        heights: &Heights<S>,
+        caller: &mut CallerSeat<B>,
+        hash: BlockHash,
+    ) -> Result<(), NotBeside>
+        requires { IsHeightOf B.table B.start heights.now }
+        ensures journal { self.new ≡ self.old
+            ++ call_by caller.old.caller (Discard hash.bytes) (discard_reply_of result) ∷ [] }
+        ensures seen { caller.new.seen ≡ self.new }
+        ensures called { IsCalled (network_from B.start S.verifies) caller.old
+            (call_by caller.old.caller (Discard hash.bytes) (discard_reply_of result)) caller.new }
+    {
+        let answer = self.core.discard(hash);
+        let entry = caller.entry(Call::Discard {
+            hash,
+            reply: &answer,
+        });
         self.journal.write(heights, caller, &self.core, &entry);
         answer
     }

@@ -5,7 +5,7 @@ ghost use Rattle.std.specs.Arc.{arc_value};
 ghost use Rattle.std.specs.List.{AllByRecursion};
 ghost use Rattle.model.specs.Ledger.{Ledger, ledger_of};
 ghost use Rattle.shared.specs.Starts.{network_from};
-ghost use Rattle.model.specs.History.{Submit, Open, Next, Forward, Close};
+ghost use Rattle.model.specs.History.{Submit, Open, Next, Forward, Close, Discard};
 ghost use Rattle.model.specs.Journal.{IsCalled, IsLook, IsMeeting};
 ghost use Rattle.model.specs.Chain.{IsOpening, genesis_tip, tip_after, tip_point, immutable_length};
 ghost use Rattle.model.specs.Follower.{Follower, follower_of};
@@ -14,7 +14,7 @@ ghost use Rattle.model.specs.Log.{IsLogBlock};
 ghost use Rattle.ident.specs.PointView.{point_of};
 ghost use Rattle.inbox.specs.Arrivals.{IsPeer};
 ghost use Rattle.chain_core.specs.Views.{arrive_reply_of, submit_reply_of, open_reply_of, next_reply_of};
-ghost use Rattle.chain_core.specs.Views.{forward_reply_of, close_reply_of};
+ghost use Rattle.chain_core.specs.Views.{forward_reply_of, close_reply_of, discard_reply_of};
 ghost use Rattle.mempool.specs.Calls.{IsWantAtSubmission};
 ghost use Rattle.shared.specs.Answers.{IsAnswered};
 ghost use Rattle.chain_core.specs.Numbers.{block_numbered};
@@ -35,10 +35,10 @@ use crate::held::SeenArrival;
 use crate::room::Room;
 use block::CheckedBlock;
 use chain_core::{
-    ArriveReply, FollowerId, ForgeFault, Forged, Instruction, NextFault, OpenFollowerFault,
-    UnknownFollower,
+    ArriveReply, FollowerId, ForgeFault, Forged, Instruction, NextFault, NotBeside,
+    OpenFollowerFault, UnknownFollower,
 };
-use ident::Point;
+use ident::{BlockHash, Point};
 use mempool::SubmitReply;
 use std::alloc::{AllocError, Global};
 use std::sync::{Arc, Mutex, Wait};
@@ -162,6 +162,24 @@ impl<S: SigScheme, B: Room> Shared<S, B> {
     {
         let mut desk = self.desk.lock(rt);
         desk.close(&self.heights, &mut caller.seat, id)
+    }
+
+    /// The live block with this hash is kept no more, if it is beside the selected chain, as
+    /// [`chain_core::Core::discard`] does it; it may arrive again. The call stands in the journal with its reply, also
+    /// where there is no such block. Waits for the lock, and holds it for what that call costs: a few look-ups, and one
+    /// more for each live block to which a way led only by this one; where a block was found to be invalid since the
+    /// last such call, all live blocks are looked at. Takes no memory, and so it can't run out.
+    pub fn discard<R: Wait>(
+        &self,
+        rt: &R,
+        caller: &mut Caller<B>,
+        hash: BlockHash,
+    ) -> Result<(), NotBeside>
+        ensures { IsCalled (network_from B.start S.verifies) caller.old
+            (call_by caller.old.caller (Discard hash.bytes) (discard_reply_of result)) caller.new }
+    {
+        let mut desk = self.desk.lock(rt);
+        desk.discard(&self.heights, &mut caller.seat, hash)
     }
 
     /// Copies of the texts of the blocks that are never rolled back, but for the first `from` of them: what a log still

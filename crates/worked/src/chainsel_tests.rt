@@ -5,7 +5,7 @@ use super::fixture::{MEMORY, boxed, same};
 use super::ledgerdb_tests::{new_db, switch};
 use super::payments::{block_of, hash_of, names_of};
 use block::CheckedBlock;
-use blockstore::BlockStore;
+use blockstore::{BlockStore, Capacity};
 use chainsel::{Choice, Selection, Switch, chain_tip, select};
 use ident::BlockHash;
 use ledgerdb::LedgerDb;
@@ -28,7 +28,13 @@ fn new_chains(rt: &(impl Abort + AllocGlobal), k: u64, blocks: &str) -> Box<Chai
         rt,
         Chains {
             names: names_of(rt, blocks),
-            store: BlockStore::new(rt.alloc(), 100),
+            store: BlockStore::new(
+                rt.alloc(),
+                Capacity {
+                    blocks: 100,
+                    bytes: None,
+                },
+            ),
             db: new_db(rt, k),
             chain: Vec::new(rt.alloc()),
         },

@@ -5,8 +5,8 @@ ghost use Rattle.std.specs.Prelude.{◌≡◌};
 use super::fixture::{
     MEMORY, Parts, adds, bytes_of, names_of, next_of, open, parts_of, same, sends,
 };
-use chain_core::{Instruction, NextFault};
-use ident::Point;
+use chain_core::{Instruction, NextFault, NotBeside};
+use ident::{BlockHash, Point};
 use inbox::Mailroom;
 use mempool::SubmitReply;
 use script::Names;
@@ -94,7 +94,49 @@ fn calls_beside_an_adder<B: Room, M: Mailroom, R: Threads + Wait + Abort + Alloc
     same(rt, "after", shared.height(&mut other), 1);
 }
 
-/// Does so, at a core and an inbox that were opened for it.
+/// The caller's call to discard the block of this hash answers that there is none beside the chain.
+fn discards_none<B: Room, R: Wait + Abort>(
+    rt: &R,
+    shared: &Shared<TestScheme, B>,
+    caller: &mut Caller<B>,
+    hash: BlockHash,
+) {
+    let answer = shared.discard(rt, caller, hash);
+    assert!(rt; matches!(answer, Err(NotBeside {})));
+}
+
+/// Two blocks are forged on the tip. The first one to arrive is put on, and isn't discarded; the other one is, and then
+/// isn't there, until it arrives again.
+fn discards_beside_the_chain<B, M, R>(rt: &R, parts: &mut Parts<OpenGate, B, M>)
+where
+    B: Room,
+    M: Mailroom,
+    R: Threads + Wait + Abort + AllocGlobal + Sync,
+{
+    let Parts {
+        shared,
+        adder,
+        peers,
+        callers,
+    } = parts;
+    let mut caller = next_of(rt, callers);
+    let next = shared.forge(rt, &mut caller, 2).expect(rt, "a block");
+    let beside = shared.forge(rt, &mut caller, 3).expect(rt, "a block");
+    let hash = beside.point.hash;
+    sends(rt, &mut peers[0], &next.bytes);
+    adds(rt, adder, shared, 1, 1);
+    discards_none(rt, shared, &mut caller, next.point.hash);
+    discards_none(rt, shared, &mut caller, hash);
+    for _ in 0..2 {
+        sends(rt, &mut peers[0], &beside.bytes);
+        adds(rt, adder, shared, 1, 1);
+        assert!(rt; shared.discard(rt, &mut caller, hash).is_ok());
+        discards_none(rt, shared, &mut caller, hash);
+    }
+    assert!(rt; shared.tip(rt, &mut caller) == next.point);
+}
+
+/// Does so, and then discards blocks, at a core and an inbox that were opened for it.
 fn called_beside_an_adder<B: Room, M: Mailroom, R: Threads + Wait + Abort + AllocGlobal + Sync>(
     rt: &R,
     opened: Opened<TestScheme>,
@@ -108,11 +150,12 @@ fn called_beside_an_adder<B: Room, M: Mailroom, R: Threads + Wait + Abort + Allo
     let names = names_of(rt, "block A1 genesis 1");
     let mut parts = parts_of::<OpenGate, B, M>(rt, OpenGate, opened, inbox);
     calls_beside_an_adder(rt, &mut parts, &names);
+    discards_beside_the_chain(rt, &mut parts);
 }
 
 #[test]
 fn adder_and_callers(rt: HostRuntime) {
-    let opened = open(&rt, 3).expect(&rt, "a shared core");
+    let opened = open(&rt, 4).expect(&rt, "a shared core");
     let inbox = inbox::Opened::new(rt.alloc(), 8).expect(&rt, "an inbox");
     called_beside_an_adder::<Brand, Brand, _>(&rt, opened, inbox);
 }

@@ -1,4 +1,5 @@
-use Rattle.std.proofs.Common.{◌≡◌, ◌<◌, true, false, refl, sym, ap, ◌∙◌, inl, inr, arith}
+use Rattle.std.proofs.Common.{◌≡◌, ◌<◌, true, false, refl, sym, ap, subst, ◌∙◌, inl, inr, arith, length}
+use Rattle.blockstore.specs.Insertion.{IsFull}
 use Rattle.model.specs.Block.{block_text}
 use Rattle.model.specs.Chain.{immutable_length}
 use Rattle.model.proofs.BlockTexts.{block_text_is}
@@ -33,13 +34,14 @@ returns-then-clashes_with_chain g c = λ network s b whole has read at.
     let found = c.if-clashes_with_chain.ensures network whole c.in_default.ensures.found in
     judged_clash network c.args.chain_db.now s whole has b young none.0 (inr (clash.0 (found.0 refl)))
 
-pub returns-then-is_full : goal.returns-then-is_full
-returns-then-is_full g c = λ network s b whole has read at.
+pub returns-then-is_full_for : goal.returns-then-is_full_for
+returns-then-is_full_for g c = λ network s b whole has read at.
     let young : immutable_length network c.args.chain_db.now.chain.items < b.header.number = let number = at.0 in let young = c.if-point-immutable.false in let is = c.immutable.ensures.immutable network whole in omega arith in
     let none = none_at c.args.chain_db.now.store b c.args.point.hash.bytes (c.get.ensures.one b (read_again b c.args.bytes.now read)) c.in_default.ensures.found at.1 in
     let clash = clash_in s b c.args.point.hash.bytes c.args.bytes.now c.args.chain_db.now.chain.items has.chain read at.1 in
     let found = c.if-clashes_with_chain.ensures network whole c.in_default.ensures.found in
-    judged_full network c.args.chain_db.now s whole has b young none.0 none.1 (λ is. let e : false ≡ true = found.1 (clash.1 is) in cc) (c.if-is_full.ensures.0 refl)
+    judged_full network c.args.chain_db.now s whole has b young none.0 none.1 (λ is. let e : false ≡ true = found.1 (clash.1 is) in cc)
+    (subst (IsFull c.args.chain_db.now.store) (ap length (sym (block_text_is b c.args.bytes.now read.read))) (c.if-is_full_for.ensures.0 refl))
 
 pub returns : goal.returns
 returns g c = λ network s b whole has read at.
@@ -47,4 +49,5 @@ returns g c = λ network s b whole has read at.
     let none = none_at c.args.chain_db.now.store b c.args.point.hash.bytes (c.get.ensures.one b (read_again b c.args.bytes.now read)) c.in_default.ensures.found at.1 in
     let clash = clash_in s b c.args.point.hash.bytes c.args.bytes.now c.args.chain_db.now.chain.items has.chain read at.1 in
     let found = c.if-clashes_with_chain.ensures network whole c.in_default.ensures.found in
-    judged_none network c.args.chain_db.now s whole has b young none.0 none.1 (λ is. let e : false ≡ true = found.1 (clash.1 is) in cc) (λ full. let e : false ≡ true = c.if-is_full.ensures.1 full in cc)
+    judged_none network c.args.chain_db.now s whole has b young none.0 none.1 (λ is. let e : false ≡ true = found.1 (clash.1 is) in cc) (λ full.
+    let e : false ≡ true = c.if-is_full_for.ensures.1 (subst (IsFull c.args.chain_db.now.store) (ap length (block_text_is b c.args.bytes.now read.read)) full) in cc)

@@ -2,10 +2,10 @@ use Rattle.std.proofs.Common.{◌≡◌, List, ◌∷◌, reverse}
 use Rattle.std.specs.List.{AllByRecursion}
 use Rattle.model.specs.Block.{Block, block_hash_of}
 use Rattle.model.specs.Ledger.{Network}
-use Rattle.model.specs.Chain.{tip_at, tip_after, IsLinked}
+use Rattle.model.specs.Chain.{tip_at, tip_after, IsLinked, NoneHas}
 use Rattle.model.specs.History.{State}
 use Rattle.blockstore.specs.Stored.{HasBlock}
-use Rattle.model.specs.Asked.{NoneHas, IsBeside}
+use Rattle.model.specs.Asked.{IsBeside}
 use Rattle.chain_core.specs.ChainDbs.{IsWhole, HasState}
 use Rattle.chain_core.proofs.why.way_back.Given as goal
 

@@ -9,6 +9,7 @@ use Rattle.blockstore.specs.declared.keys.Link.{Link}
 use Rattle.blockstore.proofs.KeySets.{keys_same, none_some}
 use Rattle.blockstore.proofs.Shelves.{apart_on, value_at, holds_at, blocks_same, stored_same, keyed_same}
 use Rattle.blockstore.proofs.LinkRanges.{are_links}
+use Rattle.blockstore.proofs.Sizes.{bytes_of, AreSized}
 use Rattle.blockstore.proofs.Noting.{WaitsBehind, behind_begins, behind_ends, goes_on}
 use Rattle.blockstore.proofs.shelf.Shelf.look_behind.Goals as goal
 
@@ -85,6 +86,8 @@ invariant_of-self g c =
       keyed = keyed_same m p same c.self.invariant.keyed;
       links = keys_same IsLinkOf _ (stored_at m) (stored_at p) (stored_same m p same) c.self.invariant.links;
       ages = keys_same IsAgeOf _ (stored_at m) (stored_at p) (stored_same m p same) c.self.invariant.ages;
+      counted = c.self.invariant.counted ∙ ap bytes_of (sym (blocks_same m p same));
+      sized = subst AreSized (sym (blocks_same m p same)) c.self.invariant.sized;
     }
 
 pub returns-clause-blocks : goal.returns-clause-blocks

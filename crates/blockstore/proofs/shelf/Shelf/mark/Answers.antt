@@ -13,7 +13,8 @@ use Rattle.blockstore.specs.Ways.{IsNotedAt, IsPlaceOf}
 use Rattle.blockstore.specs.declared.keys.Link.{Link}
 use Rattle.blockstore.specs.declared.keys.Age.{Age}
 use Rattle.blockstore.proofs.KeySets.{BecomesAt, becomes, exact_link, exact_age, link_names, one_link, age_names, one_age, keys_marked}
-use Rattle.blockstore.proofs.Shelves.{stands_at, none_at, apart_on, noted_none, noted_becomes, place_at, keyed_marked, same_marked, same_unmarked, none_found}
+use Rattle.blockstore.proofs.Shelves.{stands_at, none_at, apart_on, noted_none, noted_becomes, place_at, distinct_on, keyed_marked, same_marked, same_unmarked, none_found}
+use Rattle.blockstore.proofs.Sizes.{bytes_marked, sized_marked}
 use Rattle.blockstore.proofs.shelf.Shelf.mark.Goals as goal
 
 pub returns-in_default-clause-blocks : goal.returns-in_default-clause-blocks
@@ -57,11 +58,15 @@ invariant_of-self-2 g c =
     let wrote : BecomesAt (stored_at m) (stored_at p) q (Some (marked x.stored)) =
     subst (λ (w : Placed). BecomesAt (stored_at m) (stored_at p) q (Some w.stored)) c.mark.ensures.marked (becomes m p q (Some c.mark.new.self) (holds.3 (ap is_some found))) in
     let there = stands_at m q x found in
+    let same = same_marked m p q x.stored there wrote c.self.invariant.keyed c.self.invariant.ordered holds.4 holds.2 in
+    let keyed = keyed_marked m p q x.stored there wrote c.self.invariant.keyed in
     record {
       ordered = holds.4;
-      keyed = keyed_marked m p q x.stored there wrote c.self.invariant.keyed;
+      keyed = keyed;
       links = keys_marked link_cmp exact_link IsLinkOf (λ (l : Link). l.hash) link_names one_link c.self.inside.links (stored_at m) (stored_at p) q x.stored (marked x.stored) c.self.invariant.links wrote there refl;
       ages = keys_marked age_cmp exact_age IsAgeOf (λ (a : Age). a.hash) age_names one_age c.self.inside.ages (stored_at m) (stored_at p) q x.stored (marked x.stored) c.self.invariant.ages wrote there refl;
+      counted = c.self.invariant.counted ∙ sym (bytes_marked (blocks_in m) (blocks_in p) q same (distinct_on p holds.4 keyed));
+      sized = sized_marked (blocks_in m) (blocks_in p) q same c.self.invariant.sized;
     }
 
 pub returns-clause-blocks : goal.returns-clause-blocks

@@ -8,7 +8,7 @@ use Rattle.blockstore.proofs.store.BlockStore.get.Goals as goal
 
 pub returns-clause-found : goal.returns-clause-found
 returns-clause-found g c =
-    let old : Store = record { capacity = c.self.inside.max_volatile; root = tip_of c.self.inside.root; blocks = c.self.inside.blocks.blocks } in
+    let old : Store = record { capacity = c.self.inside.capacity; root = tip_of c.self.inside.root; blocks = c.self.inside.blocks.blocks } in
     subst (λ (s : Store). MatchOption c.with_hash.result (HasNoneAt s c.args.hash.bytes) (λ found. IsAt s c.args.hash.bytes found.now)) c.self.view_is
     (get_answer old c.args.hash.bytes c.with_hash.result c.with_hash.ensures)
 

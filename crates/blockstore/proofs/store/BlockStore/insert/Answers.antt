@@ -1,4 +1,5 @@
-use Rattle.std.proofs.Common.{◌≡◌, ◌∙◌, ◌++◌, ◌∷◌, [], ap, subst, sym, refl, false, true, List}
+use Rattle.std.proofs.Common.{◌≡◌, ◌∙◌, ◌++◌, ◌∷◌, [], ap, subst, sym, refl, false, true, length, List, Contains, inl, inr}
+use Rattle.std.proofs.lemmas.List.Elements.{Contains-push_cases}
 use Rattle.block.specs.Read.{IsRead}
 use Rattle.model.specs.Block.{block_text, block_hash_of}
 use Rattle.model.proofs.BlockTexts.{block_text_is}
@@ -47,27 +48,27 @@ returns-in-Some-clause-one g c =
     let read_too : IsRead c.args.block (block_text c.args.block) = read_again c.args.block c.bytes-text.result.now c.bytes-text.ensures in
     known_is_live c.args.self.now c.args.block read read_too
 
-pub returns-then-is_full-clause-err : goal.returns-then-is_full-clause-err
-returns-then-is_full-clause-err g c =
+pub returns-then-is_full_for-clause-err : goal.returns-then-is_full_for-clause-err
+returns-then-is_full_for-clause-err g c =
     let read : AreRead c.args.self.now.blocks = subst (λ (s : Store). AreRead s.blocks) c.self.view_is c.self.invariant.read in
     let read_too : IsRead c.args.block (block_text c.args.block) = read_again c.args.block c.bytes-text.result.now c.bytes-text.ensures in (
       (
         unknown c.args.self.now c.args.block c.hash.result.bytes read read_too c.hash.ensures c.in_default.ensures.found,
         no_clash c.args.self.now c.args.block c.hash.result.bytes c.hash.ensures c.in_default.ensures.found,
-        c.if-is_full.ensures.0 refl,
+        subst (IsFull c.args.self.now) (ap length (sym (block_text_is c.args.block c.bytes-text.result.now c.bytes-text.ensures.read))) (c.if-is_full_for.ensures.0 refl),
       ),
       refl,
     )
 
-pub returns-then-is_full-clause-one : goal.returns-then-is_full-clause-one
-returns-then-is_full-clause-one g c =
+pub returns-then-is_full_for-clause-one : goal.returns-then-is_full_for-clause-one
+returns-then-is_full_for-clause-one g c =
     let read : AreRead c.args.self.now.blocks = subst (λ (s : Store). AreRead s.blocks) c.self.view_is c.self.invariant.read in
     let read_too : IsRead c.args.block (block_text c.args.block) = read_again c.args.block c.bytes-text.result.now c.bytes-text.ensures in
     known_is_live c.args.self.now c.args.block read read_too
 
 pub take_in-requires-clause-alone : goal.take_in-requires-clause-alone
 take_in-requires-clause-alone g c =
-    let old : Store = record { capacity = c.self.inside.max_volatile; root = tip_of c.self.inside.root; blocks = c.self.inside.blocks.blocks } in
+    let old : Store = record { capacity = c.self.inside.capacity; root = tip_of c.self.inside.root; blocks = c.self.inside.blocks.blocks } in
     let none : HasNoneAt old (block_hash_of c.args.block) =
     subst (HasNoneAt old) c.hash.ensures (subst (λ (s : Store). HasNoneAt s c.hash.result.bytes) (sym c.self.view_is) c.in_default.ensures.found) in
     λ x member at. none x.block (contains_map block_of old.blocks x member) at
@@ -76,11 +77,12 @@ pub invariant_of-self : goal.invariant_of-self
 invariant_of-self g c =
     let same : c.take_in.new.blocks.blocks ≡ c.self.inside.blocks.blocks = ap (λ (h : Held). h.blocks) (on_err _ c.take_in.result c.if-is_err.ensures.value c.take_in.ensures.err) in
     record {
-      is_set = subst (λ (xs : List Stored). IsSet (record { capacity = c.self.inside.max_volatile; root = tip_of c.self.inside.root; blocks = xs })) (sym same) c.self.invariant.is_set;
+      is_set = subst (λ (xs : List Stored). IsSet (record { capacity = c.self.inside.capacity; root = tip_of c.self.inside.root; blocks = xs })) (sym same) c.self.invariant.is_set;
       read = subst AreRead (sym same) c.self.invariant.read;
       notes = c.take_in.ensures.notes;
       none_waits = c.take_in.ensures.waiting;
       room = c.take_in.ensures.room;
+      marks = λ none x member. c.self.invariant.marks none x (subst (λ (xs : List Stored). Contains xs x) same member);
     }
 
 pub returns-then-is_err-clause-err : goal.returns-then-is_err-clause-err
@@ -90,10 +92,10 @@ returns-then-is_err-clause-err g c =
     let allowed : IsAllowed c.args.self.now c.args.block = record {
       unknown = unknown c.args.self.now c.args.block c.hash.result.bytes read read_too c.hash.ensures c.in_default.ensures.found;
       alone = no_clash c.args.self.now c.args.block c.hash.result.bytes c.hash.ensures c.in_default.ensures.found;
-      not_full = λ full. let e : false ≡ true = c.if-is_full.ensures.1 full in absurd {A = ⊥} cc;
+      not_full = λ full. let e : false ≡ true = c.if-is_full_for.ensures.1 (subst (IsFull c.args.self.now) (ap length (block_text_is c.args.block c.bytes-text.result.now c.bytes-text.ensures.read)) full) in absurd {A = ⊥} cc;
     } in
     let same : c.take_in.new.blocks.blocks ≡ c.self.inside.blocks.blocks = ap (λ (h : Held). h.blocks) (on_err _ c.take_in.result c.if-is_err.ensures.value c.take_in.ensures.err) in
-    (allowed, ap (λ (xs : List Stored). record { capacity = c.self.inside.max_volatile; root = tip_of c.self.inside.root; blocks = xs }) same ∙ c.self.view_is)
+    (allowed, ap (λ (xs : List Stored). record { capacity = c.self.inside.capacity; root = tip_of c.self.inside.root; blocks = xs }) same ∙ c.self.view_is)
 
 pub returns-then-is_err-clause-one : goal.returns-then-is_err-clause-one
 returns-then-is_err-clause-one g c =
@@ -103,24 +105,28 @@ returns-then-is_err-clause-one g c =
 
 pub invariant_of-self-2 : goal.invariant_of-self-2
 invariant_of-self-2 g c =
-    let old : Store = record { capacity = c.self.inside.max_volatile; root = tip_of c.self.inside.root; blocks = c.self.inside.blocks.blocks } in
+    let old : Store = record { capacity = c.self.inside.capacity; root = tip_of c.self.inside.root; blocks = c.self.inside.blocks.blocks } in
     let more : List Stored = old.blocks ++ unmarked c.args.block ∷ [] in
     let same : IsSame c.take_in.new.blocks.blocks more = on_ok _ c.take_in.result c.if-is_err.ensures.value c.take_in.ensures.ok in
     let read_too : IsRead c.args.block (block_text c.args.block) = read_again c.args.block c.bytes-text.result.now c.bytes-text.ensures in
     let none : HasNoneAt old (block_hash_of c.args.block) =
     subst (HasNoneAt old) c.hash.ensures (subst (λ (s : Store). HasNoneAt s c.hash.result.bytes) (sym c.self.view_is) c.in_default.ensures.found) in
-    let room : IsFull old → ⊥ = λ full. let e : false ≡ true = c.if-is_full.ensures.1 (subst IsFull c.self.view_is full) in absurd {A = ⊥} cc in
+    let room : IsFull old (length (block_text c.args.block)) → ⊥ = λ full. let e : false ≡ true = c.if-is_full_for.ensures.1 (subst (IsFull c.args.self.now) (ap length (block_text_is c.args.block c.bytes-text.result.now c.bytes-text.ensures.read)) (subst (λ (s : Store). IsFull s (length (block_text c.args.block))) c.self.view_is full)) in absurd {A = ⊥} cc in
     record {
       is_set = set_same old c.take_in.new.blocks.blocks more same (set_with old c.args.block more refl c.self.invariant.is_set none room);
       read = read_same old c.take_in.new.blocks.blocks more same (read_with old c.args.block more refl c.self.invariant.read read_too);
       notes = c.take_in.ensures.notes;
       none_waits = c.take_in.ensures.waiting;
       room = c.take_in.ensures.room;
+      marks = λ none x member. elim (Contains-push_cases old.blocks (unmarked c.args.block) x ((same.members x).0 member)) [
+        | inl was ↦ c.self.invariant.marks none x was
+        | inr is ↦ ap (λ (s : Stored). s.invalid) (sym is)
+      ];
     }
 
 pub returns-clause-ok : goal.returns-clause-ok
 returns-clause-ok g c =
-    let old : Store = record { capacity = c.self.inside.max_volatile; root = tip_of c.self.inside.root; blocks = c.self.inside.blocks.blocks } in
+    let old : Store = record { capacity = c.self.inside.capacity; root = tip_of c.self.inside.root; blocks = c.self.inside.blocks.blocks } in
     let more : List Stored = old.blocks ++ unmarked c.args.block ∷ [] in
     let same : IsSame c.take_in.new.blocks.blocks more = on_ok _ c.take_in.result c.if-is_err.ensures.value c.take_in.ensures.ok in
     let read : AreRead c.args.self.now.blocks = subst (λ (s : Store). AreRead s.blocks) c.self.view_is c.self.invariant.read in
@@ -128,7 +134,7 @@ returns-clause-ok g c =
     let allowed : IsAllowed c.args.self.now c.args.block = record {
       unknown = unknown c.args.self.now c.args.block c.hash.result.bytes read read_too c.hash.ensures c.in_default.ensures.found;
       alone = no_clash c.args.self.now c.args.block c.hash.result.bytes c.hash.ensures c.in_default.ensures.found;
-      not_full = λ full. let e : false ≡ true = c.if-is_full.ensures.1 full in absurd {A = ⊥} cc;
+      not_full = λ full. let e : false ≡ true = c.if-is_full_for.ensures.1 (subst (IsFull c.args.self.now) (ap length (block_text_is c.args.block c.bytes-text.result.now c.bytes-text.ensures.read)) full) in absurd {A = ⊥} cc;
     } in
     (allowed, subst (λ (s : Store). IsInserted s c.args.block (with_blocks old c.take_in.new.blocks.blocks)) c.self.view_is (inserted_same old c.take_in.new.blocks.blocks more same c.args.block (inserted old c.args.block more refl)))
 
@@ -140,17 +146,17 @@ returns-clause-one g c =
 
 pub returns-clause-set : goal.returns-clause-set
 returns-clause-set g c =
-    let old : Store = record { capacity = c.self.inside.max_volatile; root = tip_of c.self.inside.root; blocks = c.self.inside.blocks.blocks } in
+    let old : Store = record { capacity = c.self.inside.capacity; root = tip_of c.self.inside.root; blocks = c.self.inside.blocks.blocks } in
     let more : List Stored = old.blocks ++ unmarked c.args.block ∷ [] in
     let same : IsSame c.take_in.new.blocks.blocks more = on_ok _ c.take_in.result c.if-is_err.ensures.value c.take_in.ensures.ok in
     let none : HasNoneAt old (block_hash_of c.args.block) =
     subst (HasNoneAt old) c.hash.ensures (subst (λ (s : Store). HasNoneAt s c.hash.result.bytes) (sym c.self.view_is) c.in_default.ensures.found) in
-    let room : IsFull old → ⊥ = λ full. let e : false ≡ true = c.if-is_full.ensures.1 (subst IsFull c.self.view_is full) in absurd {A = ⊥} cc in
+    let room : IsFull old (length (block_text c.args.block)) → ⊥ = λ full. let e : false ≡ true = c.if-is_full_for.ensures.1 (subst (IsFull c.args.self.now) (ap length (block_text_is c.args.block c.bytes-text.result.now c.bytes-text.ensures.read)) (subst (λ (s : Store). IsFull s (length (block_text c.args.block))) c.self.view_is full)) in absurd {A = ⊥} cc in
     set_same old c.take_in.new.blocks.blocks more same (set_with old c.args.block more refl c.self.invariant.is_set none room)
 
 pub returns-clause-live : goal.returns-clause-live
 returns-clause-live g c =
-    let old : Store = record { capacity = c.self.inside.max_volatile; root = tip_of c.self.inside.root; blocks = c.self.inside.blocks.blocks } in
+    let old : Store = record { capacity = c.self.inside.capacity; root = tip_of c.self.inside.root; blocks = c.self.inside.blocks.blocks } in
     let more : List Stored = old.blocks ++ unmarked c.args.block ∷ [] in
     let same : IsSame c.take_in.new.blocks.blocks more = on_ok _ c.take_in.result c.if-is_err.ensures.value c.take_in.ensures.ok in
     subst (λ (s : Store). GainsLive s c.args.block (with_blocks old c.take_in.new.blocks.blocks)) c.self.view_is (gains_same old c.take_in.new.blocks.blocks more same c.args.block (live_with old c.args.block more refl))

@@ -1,4 +1,4 @@
-use Rattle.std.proofs.Common.{subst, refl, map, List}
+use Rattle.std.proofs.Common.{◌≡◌, true, false, subst, refl, map, List}
 use Rattle.block.specs.View.{tip_of}
 use Rattle.blockstore.specs.Stored.{Stored, Store}
 use Rattle.blockstore.specs.Tests.{marked_at}
@@ -10,7 +10,7 @@ use Rattle.blockstore.proofs.store.BlockStore.mark_invalid.Goals as goal
 
 pub invariant_of-self : goal.invariant_of-self
 invariant_of-self g c =
-    let old : Store = record { capacity = c.self.inside.max_volatile; root = tip_of c.self.inside.root; blocks = c.self.inside.blocks.blocks } in
+    let old : Store = record { capacity = c.self.inside.capacity; root = tip_of c.self.inside.root; blocks = c.self.inside.blocks.blocks } in
     let hash = c.args.hash.bytes in
     let more : List Stored = map (marked_at hash) c.self.inside.blocks.blocks in
     record {
@@ -19,11 +19,12 @@ invariant_of-self g c =
       notes = c.mark.ensures.notes;
       none_waits = c.mark.ensures.waiting;
       room = c.mark.ensures.room;
+      marks = λ none. absurd (let e : true ≡ false = none in cc);
     }
 
 pub returns-clause-marks : goal.returns-clause-marks
 returns-clause-marks g c =
-    let old : Store = record { capacity = c.self.inside.max_volatile; root = tip_of c.self.inside.root; blocks = c.self.inside.blocks.blocks } in
+    let old : Store = record { capacity = c.self.inside.capacity; root = tip_of c.self.inside.root; blocks = c.self.inside.blocks.blocks } in
     let hash = c.args.hash.bytes in
     let more : List Stored = map (marked_at hash) c.self.inside.blocks.blocks in
     subst (λ (s : Store). IsMarkSet s hash (with_blocks old c.mark.new.blocks.blocks)) c.self.view_is
@@ -31,14 +32,14 @@ returns-clause-marks g c =
 
 pub returns-clause-set : goal.returns-clause-set
 returns-clause-set g c =
-    let old : Store = record { capacity = c.self.inside.max_volatile; root = tip_of c.self.inside.root; blocks = c.self.inside.blocks.blocks } in
+    let old : Store = record { capacity = c.self.inside.capacity; root = tip_of c.self.inside.root; blocks = c.self.inside.blocks.blocks } in
     let hash = c.args.hash.bytes in
     let more : List Stored = map (marked_at hash) c.self.inside.blocks.blocks in
     set_same old c.mark.new.blocks.blocks more c.mark.ensures.blocks (set_marked old hash more refl c.self.invariant.is_set)
 
 pub returns-clause-live : goal.returns-clause-live
 returns-clause-live g c =
-    let old : Store = record { capacity = c.self.inside.max_volatile; root = tip_of c.self.inside.root; blocks = c.self.inside.blocks.blocks } in
+    let old : Store = record { capacity = c.self.inside.capacity; root = tip_of c.self.inside.root; blocks = c.self.inside.blocks.blocks } in
     let hash = c.args.hash.bytes in
     let more : List Stored = map (marked_at hash) c.self.inside.blocks.blocks in
     subst (λ (s : Store). KeepsLive s (with_blocks old c.mark.new.blocks.blocks)) c.self.view_is

@@ -30,7 +30,7 @@ returns-clause-whole g c =
       opened = omega (arith, c.len-opened.ensures);
       settled = settled_at_start network c.behind-store.result c.new-db.result opens (ap (λ s. s.blocks) c.behind-store.ensures.empty) (ap (λ s. s.root) c.behind-store.ensures.empty ∙ (c.chain_tip.ensures ∙ ap (tip_after genesis_tip) c.deref-3.ensures.value)) (c.new-db.ensures.chain network chain is) c.new-db.ensures.depth c.new-db.ensures.sides;
       k = c.new-db.ensures.k ∙ (least ∙ c.k.ensures.k);
-      capacity = ap (λ s. s.capacity) c.behind-store.ensures.empty ∙ c.max_volatile.ensures;
+      capacity = ap (λ s. s.capacity) c.behind-store.ensures.empty ∙ (λ i. record { blocks = c.max_volatile.ensures i; bytes = c.max_volatile_bytes.ensures i });
       mempool = mempool_at_start network chain c.args.on.state is c.in_ok-mempool.mempool _ _ c.max_mempool.ensures c.utxo.ensures c.in_ok-mempool.ensures;
       past = past;
     }

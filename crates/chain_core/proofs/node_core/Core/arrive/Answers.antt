@@ -2,7 +2,7 @@ use Rattle.std.proofs.Common.{List, ◌≡◌, ◌-◌, ◌∙◌, None, length,
 use Rattle.std.proofs.lemmas.Result.{IfOk-at_ok, IfErr-at_err}
 use Rattle.block.specs.Read.{IsRead, IsBadBytes}
 use Rattle.block.proofs.ForCallers.{block_begins}
-use Rattle.model.specs.Block.{Block}
+use Rattle.model.specs.Block.{Block, block_text}
 use Rattle.model.specs.Chain.{IsOpening}
 use Rattle.model.specs.Ledger.{network_on}
 use Rattle.blockstore.specs.Insertion.{IsFull}
@@ -33,7 +33,7 @@ returns-in-Some-clause-step g c =
     (λ s has. c.in-Some.ensures (network_held (held c.self.inside) g.S.SigScheme.verifies) s c.in-Ok.found c.self.invariant.whole has c.bytes.ensures (c.point.ensures.number, c.point.ensures.hash))
 
 -- the block may be put in
-fits : (g : given.Over) (c : In_ok-block g) → IsReady (network_held (held c.self.inside) g.S.SigScheme.verifies) c.self.inside.chain_db.chain.items c.self.inside.chain_db.store c.self.inside.chain_db.db c.in_ok-block.block × (IsFull c.self.inside.chain_db.store → ⊥)
+fits : (g : given.Over) (c : In_ok-block g) → IsReady (network_held (held c.self.inside) g.S.SigScheme.verifies) c.self.inside.chain_db.chain.items c.self.inside.chain_db.store c.self.inside.chain_db.db c.in_ok-block.block × (IsFull c.self.inside.chain_db.store (length (block_text c.in_ok-block.block)) → ⊥)
 fits g c =
     let judged : IsFirstRefusalAt (network_held (held c.self.inside) g.S.SigScheme.verifies) c.self.inside.chain_db c.in_ok-block.block None = subst (λ (b : Block). IsFirstRefusalAt (network_held (held c.self.inside) g.S.SigScheme.verifies) c.self.inside.chain_db b None) (sym c.in_ok-block.ensures) (λ (s : State) (has : HasState (network_held (held c.self.inside) g.S.SigScheme.verifies) c.self.inside.chain_db s). c.in_default.ensures (network_held (held c.self.inside) g.S.SigScheme.verifies) s c.in-Ok.found c.self.invariant.whole has c.bytes.ensures (c.point.ensures.number, c.point.ensures.hash)) in
     let read : IsRead c.in_ok-block.block c.args.bytes.now = subst (λ (b : Block). IsRead b c.args.bytes.now) (sym c.in_ok-block.ensures) (IfOk-at_ok (λ b. IsRead b c.args.bytes.now) c.in-Ok.is c.in_ok-found.ensures.block) in

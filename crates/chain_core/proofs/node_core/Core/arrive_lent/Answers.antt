@@ -1,6 +1,6 @@
 use Rattle.std.proofs.Common.{subst, sym, List, ◌≡◌, ◌-◌, ◌∙◌, None, length, ap, rules}
 use Rattle.block.specs.Read.{IsRead}
-use Rattle.model.specs.Block.{Block}
+use Rattle.model.specs.Block.{Block, block_text}
 use Rattle.model.specs.Chain.{IsOpening}
 use Rattle.model.specs.Ledger.{network_on}
 use Rattle.blockstore.specs.Insertion.{IsFull}
@@ -40,7 +40,7 @@ read : (g : given.Over) (c : In_ok-shared g) → IsRead c.in_ok-shared.shared c.
 read g c = subst (λ (b : Block). IsRead b c.args.seen.now) (sym c.in_ok-shared.ensures.same) c.in-Ok.ensures.block
 
 -- the block may be put in
-fits : (g : given.Over) (c : In_ok-shared g) → IsReady (network_held (held c.self.inside) g.S.SigScheme.verifies) c.self.inside.chain_db.chain.items c.self.inside.chain_db.store c.self.inside.chain_db.db c.in_ok-shared.shared × (IsFull c.self.inside.chain_db.store → ⊥)
+fits : (g : given.Over) (c : In_ok-shared g) → IsReady (network_held (held c.self.inside) g.S.SigScheme.verifies) c.self.inside.chain_db.chain.items c.self.inside.chain_db.store c.self.inside.chain_db.db c.in_ok-shared.shared × (IsFull c.self.inside.chain_db.store (length (block_text c.in_ok-shared.shared)) → ⊥)
 fits g c =
     may_be_added (network_held (held c.self.inside) g.S.SigScheme.verifies) c.self.inside.chain_db c.in_ok-shared.shared c.args.seen.now c.self.invariant.whole (read g c) (judged g c (at_rest c.self.inside.chain_db) (rests (network_held (held c.self.inside) g.S.SigScheme.verifies) c.self.inside.chain_db c.self.invariant.whole))
 

@@ -4,7 +4,7 @@ use Rattle.model.specs.Block.{block_hash_of}
 use Rattle.model.specs.History.{State, live_of}
 use Rattle.chain_core.specs.Held.{Held, Stands, network_held}
 use Rattle.chain_core.specs.Inside.{held}
-use Rattle.model.specs.Asked.{NoneHas}
+use Rattle.model.specs.Chain.{NoneHas}
 use Rattle.chain_core.proofs.Arrivals.{state_of}
 use Rattle.chain_core.proofs.node_core.Core.block_by_hash.Goals as goal
 

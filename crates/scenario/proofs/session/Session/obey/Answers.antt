@@ -2,7 +2,7 @@ use Rattle.std.proofs.Common.{◌∙◌, ap, sym, map}
 use Rattle.ident.specs.PointView.{point_of}
 use Rattle.script.specs.PartView.{owner_of}
 use Rattle.tx.specs.View.{address_of}
-use Rattle.script.specs.Meaning.{Arrives, SubmitsTx, ForgesBlock, OpensFollower, TellsFollower, ForwardsFollower, ClosesFollower, PrintsTip, PrintsMempool, PrintsUtxo, PrintsWhy, PrintsWhere, PrintsBalance, Means, is_late_line, parse_within}
+use Rattle.script.specs.Meaning.{Arrives, SubmitsTx, ForgesBlock, OpensFollower, TellsFollower, ForwardsFollower, ClosesFollower, DiscardsBlock, PrintsTip, PrintsMempool, PrintsUtxo, PrintsWhy, PrintsWhere, PrintsBalance, Means, is_late_line, parse_within}
 use Rattle.script.proofs.ForCallers.{never_both}
 use Rattle.chain_core.specs.Held.{network_held}
 use Rattle.scenario.proofs.AskedLines.{defined, done_so, told_so}
@@ -112,3 +112,11 @@ returns-in-Ok-Close-clause-obeyed g c = λ s holds.
     done_so (network_held c.args.self.now.core g.S.SigScheme.verifies) c.args.explain s (Means c.args.at.number c.args.at.before s.names c.args.line.now) (is_late_line (parse_within c.args.at.before c.args.line.now)) asked.meaning
     (ClosesFollower c.in-Ok-Close.name.text.now c.in-Ok-Close.id) c.close.result c.close.new.self tt asked.is_meant request.0
     (λ fault. never_both c.args.at.number c.args.at.before s.names c.args.line.now asked.meaning fault asked.is_meant) (c.close.ensures.obeyed s (record { stands = holds.stands; names = request.1 }))
+
+pub returns-in-Ok-Discard-clause-obeyed : goal.returns-in-Ok-Discard-clause-obeyed
+returns-in-Ok-Discard-clause-obeyed g c = λ s holds.
+    let asked = c.in-Ok-Discard.ensures.asks s.names holds.names in
+    let request = rw c.in-Ok-Discard.field-0-is at asked.is_request in
+    done_so (network_held c.args.self.now.core g.S.SigScheme.verifies) c.args.explain s (Means c.args.at.number c.args.at.before s.names c.args.line.now) (is_late_line (parse_within c.args.at.before c.args.line.now)) asked.meaning
+    (DiscardsBlock c.in-Ok-Discard.name.text.now c.in-Ok-Discard.hash.bytes) c.discard.result c.discard.new.self tt asked.is_meant request.0
+    (λ fault. never_both c.args.at.number c.args.at.before s.names c.args.line.now asked.meaning fault asked.is_meant) (c.discard.ensures.obeyed s (record { stands = holds.stands; names = request.1 }))
