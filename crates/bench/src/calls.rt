@@ -161,6 +161,18 @@ fn first_of<M: Mailroom>(alloc: Global, ends: [PeerEnd<M>; PEERS]) -> Option<Pee
     Vec::from_array(alloc, ends).ok()?.pop()
 }
 
+/// Has the last of the callers open a follower and make its calls. None where one can't be opened or printed.
+fn run_caller<B: Room, R: Files<File = File> + AllocGlobal + Threads + Wait + Clock + Print>(
+    rt: &R,
+    shared: &Shared<TestScheme, B>,
+    callers: &mut Vec<Caller<B>>,
+) -> Option<()> {
+    let mut caller = callers.pop()?;
+    let id = shared.open(rt, &mut caller).ok()?;
+    measure_calls(rt, shared, &mut caller, id, 50_000).ok()?;
+    measure_calls(rt, shared, &mut caller, id, 500_000).ok()
+}
+
 /// Opens the inbox under a name, and runs all. None where it can't be made.
 fn run_inbox<
     B: Room,
@@ -175,10 +187,7 @@ fn run_inbox<
     requires queue { inbox.table ≡ M.table }
     requires capacity { inbox.capacity ≡ M.capacity }
 {
-    let mut caller = callers.pop()?;
-    let id = shared.open(rt, &mut caller).ok()?;
-    measure_calls(rt, shared, &mut caller, id, 50_000).ok()?;
-    measure_calls(rt, shared, &mut caller, id, 500_000).ok()?;
+    run_caller(rt, shared, &mut callers)?;
     let (ends, end) = inbox.named::<M>().ok()?;
     let mut peer = first_of(rt.alloc(), ends)?;
     let mut adder = Adder::new(rt.alloc(), end, callers.pop()?, Pool::new(OpenGate), 1);

@@ -22,20 +22,20 @@ clients_rule =
 abbrev pub explain_rule : Rule
 explain_rule = record (new_rule (codes "explain")) { long = Some (codes "explain"); action = Some SetTrue }
 
+-- a command of this name with the files of a genesis and of a script
+abbrev pub on_script : Text → App
+on_script name = with_rule (with_rule (new_app name) (required_rule (codes "genesis"))) (required_rule (codes "script"))
+
 -- the command `run` with its three options that are files, and with the flag
 abbrev pub files_app : App
-files_app =
-    with_rule (with_rule (with_rule (new_app (codes "run")) (required_rule (codes "genesis")))
-    (required_rule (codes "script"))) (option_rule (codes "log"))
+files_app = with_rule (on_script (codes "run")) (option_rule (codes "log"))
 
 abbrev pub run_app : App
 run_app = with_rule files_app explain_rule
 
 -- the command `sim` with its three
 abbrev pub sim_app : App
-sim_app =
-    with_rule (with_rule (with_rule (new_app (codes "sim")) (required_rule (codes "genesis")))
-    (required_rule (codes "script"))) clients_rule
+sim_app = with_rule (on_script (codes "sim")) clients_rule
 
 -- the command `replay` with its two
 abbrev pub replay_app : App

@@ -3,8 +3,8 @@
 ghost use Rattle.std.specs.Prelude.{◌≡◌, map, IfOk, IfSome, false, string_bytes};
 ghost use Rattle.clap.specs.Words.{app_of, rule_of, rows_of, found_of, first_of, subcommand_of, subcommand_rows_of};
 ghost use Rattle.clap.specs.declared.builder.command.Command.TheViews.{out-Command};
-ghost use Rattle.commands.specs.CommandLine.{option_rule, required_rule, clients_rule, explain_rule, files_app};
-ghost use Rattle.commands.specs.CommandLine.{run_app, sim_app, replay_app, bare_app, script_app, node_app};
+ghost use Rattle.commands.specs.CommandLine.{option_rule, required_rule, clients_rule, explain_rule, on_script};
+ghost use Rattle.commands.specs.CommandLine.{files_app, run_app, sim_app, replay_app, bare_app, script_app, node_app};
 ghost use Rattle.commands.specs.JobView.{is_given, IsJobOf, IsRunJob, IsSimJob, IsReplayJob};
 
 use crate::jobs::Job;
@@ -61,20 +61,33 @@ fn explain_flag<'a>(alloc: Global) -> Arg<'a>
         )
 }
 
+/// A command of this name with the files of a genesis and of a script.
+fn script_files<'a>(
+    alloc: Global,
+    name: &'a str,
+    about: &'a str,
+    script: &'a str,
+) -> Result<Command<'a>, AllocError>
+    ensures app { IfOk result (λ c. app_of c ≡ on_script name.entry.now) }
+    ensures local { IfOk result (λ c. (out-Command c).has_globals ≡ false) }
+{
+    Command::new(alloc, name)
+        .about(about)
+        .arg(required_path(alloc, "genesis", "What the network agrees on"))?
+        .arg(required_path(alloc, "script", script))
+}
+
 /// The command `run` with the options that are files.
 fn files_command<'a>(alloc: Global) -> Result<Command<'a>, AllocError>
     ensures app { IfOk result (λ c. app_of c ≡ files_app) }
     ensures local { IfOk result (λ c. (out-Command c).has_globals ≡ false) }
 {
-    Command::new(alloc, "run")
-        .about("Run a script, and print what it prints")
-        .arg(required_path(alloc, "genesis", "What the network agrees on"))?
-        .arg(required_path(alloc, "script", "What happens"))?
-        .arg(path_option(
-            alloc,
-            "log",
-            "The blocks that are kept, from this run on or before",
-        ))
+    let about = "Run a script, and print what it prints";
+    script_files(alloc, "run", about, "What happens")?.arg(path_option(
+        alloc,
+        "log",
+        "The blocks that are kept, from this run on or before",
+    ))
 }
 
 /// The command `run`.
@@ -90,11 +103,8 @@ fn sim_command<'a>(alloc: Global) -> Result<Command<'a>, AllocError>
     ensures app { IfOk result (λ c. app_of c ≡ sim_app) }
     ensures local { IfOk result (λ c. (out-Command c).has_globals ≡ false) }
 {
-    Command::new(alloc, "sim")
-        .about("Have peers send blocks at once, and print what came of it")
-        .arg(required_path(alloc, "genesis", "What the network agrees on"))?
-        .arg(required_path(alloc, "script", "What the peers send"))?
-        .arg(clients_option(alloc))
+    let about = "Have peers send blocks at once, and print what came of it";
+    script_files(alloc, "sim", about, "What the peers send")?.arg(clients_option(alloc))
 }
 
 /// The command `replay`.

@@ -39,43 +39,86 @@ fn misfit_after(rt: &(impl Abort + AllocGlobal), parent: &Made) -> Made {
     after(rt, &other, 30)
 }
 
-// A chain of four blocks, of which two are never rolled back, a fork behind the second, a block behind a missing one of
-// the fork, one that doesn't fit, and one behind the first, which comes too late.
+/// A chain of four blocks, of which two are never rolled back, a fork behind the second, a missing block of the fork and
+/// one that waits for it, one that doesn't fit, and one behind the first, which comes too late.
+#[derive(Drop)]
+struct Around {
+    chain: Vec<Made>,
+    fork: Made,
+    missing: Made,
+    waiting: Made,
+    misfit: Made,
+    late: Made,
+}
+
+/// The block of the chain at this index.
+fn on_chain<'a>(rt: &impl Abort, blocks: &'a [Made], index: usize) -> &'a Made {
+    blocks.get(index).expect(rt, "a block")
+}
+
+/// These blocks.
+fn blocks_around(rt: &(impl Abort + AllocGlobal)) -> Box<Around> {
+    let chain = chain_of(rt, 4);
+    let fork = after(rt, on_chain(rt, &chain, 1), 10);
+    let missing = after(rt, &fork, 11);
+    let waiting = after(rt, &missing, 12);
+    let misfit = misfit_after(rt, on_chain(rt, &chain, 2));
+    let late = after(rt, on_chain(rt, &chain, 0), 20);
+    let around = Around {
+        chain,
+        fork,
+        missing,
+        waiting,
+        misfit,
+        late,
+    };
+    boxed(rt, around)
+}
+
+/// A core to which they came, but for the missing one and the one that comes too late.
+fn core_of(rt: &(impl Abort + AllocGlobal), around: &Around) -> Box<Core<TestScheme>> {
+    let mut core = core_on(rt, SMALL_NETWORK);
+    for made in around.chain.iter() {
+        answers(rt, &mut core, &made.text, kept(0, 1));
+    }
+    for made in [&around.fork, &around.waiting, &around.misfit] {
+        answers(rt, &mut core, &made.text, kept(0, 0));
+    }
+    core
+}
+
 #[test]
 fn places_of_blocks(rt: HostRuntime) {
-    let blocks = boxed(&rt, chain_of(&rt, 4));
-    let mut core = core_on(&rt, SMALL_NETWORK);
-    for made in blocks.iter() {
-        answers(&rt, &mut core, &made.text, kept(0, 1));
-    }
-    let (Some(first), Some(second), Some(third)) = (blocks.get(0), blocks.get(1), blocks.get(2))
-    else {
-        panic!(rt; "four blocks");
-    };
-    let fork = boxed(&rt, after(&rt, second, 10));
-    let missing = boxed(&rt, after(&rt, &fork, 11));
-    let waiting = boxed(&rt, after(&rt, &missing, 12));
-    let misfit = boxed(&rt, misfit_after(&rt, third));
-    let late = boxed(&rt, after(&rt, first, 20));
-    answers(&rt, &mut core, &fork.text, kept(0, 0));
-    answers(&rt, &mut core, &waiting.text, kept(0, 0));
-    answers(&rt, &mut core, &misfit.text, kept(0, 0));
+    let around = blocks_around(&rt);
+    let core = core_of(&rt, &around);
+    let first = on_chain(&rt, &around.chain, 0);
+    let third = on_chain(&rt, &around.chain, 2);
     stands(&rt, &core, first.hash, Place::Chain(1));
     stands(&rt, &core, third.hash, Place::Chain(3));
-    stands(&rt, &core, fork.hash, Place::Beside(3));
-    stands(&rt, &core, misfit.hash, Place::Beside(8));
-    stands(&rt, &core, missing.hash, Place::Unknown);
-    stands(&rt, &core, late.hash, Place::Unknown);
-    told(&rt, &core, first.hash, Why::Selected);
-    told(&rt, &core, third.hash, Why::Selected);
-    told(&rt, &core, fork.hash, Why::NotLonger);
-    told(&rt, &core, waiting.hash, Why::Waits(missing.hash));
-    told(&rt, &core, misfit.hash, Why::Misfit(misfit.hash));
-    told(&rt, &core, missing.hash, Why::Unknown);
+    stands(&rt, &core, around.fork.hash, Place::Beside(3));
+    stands(&rt, &core, around.misfit.hash, Place::Beside(8));
+    stands(&rt, &core, around.missing.hash, Place::Unknown);
+    stands(&rt, &core, around.late.hash, Place::Unknown);
     has_text(&rt, &core, first);
     has_text(&rt, &core, third);
-    has_text(&rt, &core, &fork);
-    assert!(rt; core.block_by_hash(missing.hash).is_none());
+    has_text(&rt, &core, &around.fork);
+    assert!(rt; core.block_by_hash(around.missing.hash).is_none());
+}
+
+#[test]
+fn why_blocks_are_not_selected(rt: HostRuntime) {
+    let around = blocks_around(&rt);
+    let core = core_of(&rt, &around);
+    let missing = around.missing.hash;
+    let misfit = around.misfit.hash;
+    for index in [0, 2] {
+        let selected = on_chain(&rt, &around.chain, index);
+        told(&rt, &core, selected.hash, Why::Selected);
+    }
+    told(&rt, &core, around.fork.hash, Why::NotLonger);
+    told(&rt, &core, around.waiting.hash, Why::Waits(missing));
+    told(&rt, &core, misfit, Why::Misfit(misfit));
+    told(&rt, &core, missing, Why::Unknown);
 }
 
 // The blocks of a chain of four from a number on.
