@@ -11,7 +11,7 @@ use std::io;
 /// How many arrivals that extend a chain are measured.
 const EXTENDING: u64 = 100;
 
-/// Those that extend a chain of so many blocks.
+/// Those that extend a chain of `blocks` blocks.
 fn extending(alloc: Global, blocks: u64) -> Plan {
     let mut plan = Plan::new(alloc, Act::Arrive, EXTENDING);
     let mut end = End::genesis();
@@ -21,7 +21,7 @@ fn extending(alloc: Global, blocks: u64) -> Plan {
     plan
 }
 
-/// Those that extend the chain beside so many live blocks, each of which names a block before it that there isn't.
+/// Those that extend the chain beside `blocks` live blocks, each of which names a block before it that there isn't.
 fn beside(alloc: Global, blocks: u64) -> Plan {
     let mut plan = extending(alloc, 0);
     for late in 0..blocks {
@@ -34,7 +34,7 @@ fn beside(alloc: Global, blocks: u64) -> Plan {
     plan
 }
 
-/// That of the first block of so many, all others of which came before and wait for it.
+/// That of the first of `blocks` blocks, all others of which came before and wait for it.
 fn late_predecessor(alloc: Global, blocks: u64) -> Plan {
     let mut plan = Plan::new(alloc, Act::Arrive, 1);
     let mut end = End::genesis();
@@ -44,7 +44,7 @@ fn late_predecessor(alloc: Global, blocks: u64) -> Plan {
     plan
 }
 
-/// Those of so many blocks that all follow one, of which the first to come becomes the tip.
+/// Those of `forks` blocks that all follow one, of which the first to come becomes the tip.
 fn forks(alloc: Global, forks: u64) -> Plan {
     let mut plan = Plan::new(alloc, Act::Arrive, forks);
     let mut first = End::genesis();
@@ -57,7 +57,7 @@ fn forks(alloc: Global, forks: u64) -> Plan {
     plan
 }
 
-/// Those of so many blocks, one after the other.
+/// Those of `blocks` blocks, one after the other.
 fn in_a_row(alloc: Global, blocks: u64) -> Plan {
     let mut plan = Plan::new(alloc, Act::Arrive, blocks);
     End::genesis().put_chain(alloc, &mut plan.measured, blocks);
@@ -65,7 +65,7 @@ fn in_a_row(alloc: Global, blocks: u64) -> Plan {
     plan
 }
 
-/// That of the last block of a fork, which rolls so many blocks of a hundred payments back and puts one more without
+/// That of the last block of a fork, which rolls `blocks` blocks of a hundred payments back and puts one more without
 /// transactions in their place.
 fn rolling_back(alloc: Global, blocks: u64) -> Plan {
     let mut plan = Plan::new(alloc, Act::Arrive, 1);

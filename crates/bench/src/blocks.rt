@@ -16,7 +16,7 @@ const SMALLEST: &[u8] = b"\x83\xa3\x00\x80\x01\x80\x02\x00\xa0\xf6";
 /// How many of the smallest are read.
 const SMALL_COUNT: u64 = 100_000;
 
-/// How many large ones are read, each with so many outputs of coin alone: 16,392 bytes.
+/// How many large ones are read, each with `LARGE_OUTPUTS` outputs of coin alone: 16,392 bytes.
 const LARGE_COUNT: u64 = 61;
 
 const LARGE_OUTPUTS: u64 = 420;
@@ -48,7 +48,7 @@ fn put_large(out: &mut Vec<u8>) {
     put(out, b"\x02\x00\xa0\xf6");
 }
 
-/// The text of the first block, which has the same transaction so many times.
+/// The text of the first block, which has the same transaction `count` times.
 fn text_of(alloc: Global, count: u64, transaction: &[u8]) -> Vec<u8> {
     let mut body = Vec::new(alloc);
     put_array(&mut body, count);
@@ -76,7 +76,7 @@ fn is_read(alloc: Global, text: &[u8]) -> bool {
     block::read(alloc, text).is_ok()
 }
 
-/// How long it takes to read the block so many times.
+/// How long it takes to read the block `calls` times.
 fn time_reading(rt: &HostRuntime, text: &[u8], calls: u64) -> Option<u128> {
     let start = now(rt);
     let mut all = true;
@@ -86,7 +86,7 @@ fn time_reading(rt: &HostRuntime, text: &[u8], calls: u64) -> Option<u128> {
     nanos_if(rt, start, all)
 }
 
-/// How long it takes to write a block of these transactions so many times.
+/// How long it takes to write a block of these transactions `calls` times.
 fn time_writing(rt: &HostRuntime, txs: &[Tx], calls: u64) -> Option<u128> {
     let start = now(rt);
     let mut all = true;
@@ -110,7 +110,7 @@ fn time_work(rt: &HostRuntime, work: Work, text: &[u8], calls: u64) -> Option<u1
     }
 }
 
-/// Measures how long it takes to read or to write a block of this content, so many times in each repetition.
+/// Measures how long it takes to read or to write a block of this content, `count` times in each repetition.
 fn measure_work(
     rt: &HostRuntime,
     telling: Telling,

@@ -24,7 +24,7 @@ const MEGABYTE: usize = 1_000_000;
 
 const MEGABYTES: u64 = 1_000;
 
-/// Prints how many bytes of memory the program holds after so many of these.
+/// Prints how many bytes of memory the program holds after `many` of these.
 fn print_held<R: Files<File = File> + AllocGlobal + Print>(
     rt: &R,
     name: &str,
@@ -36,7 +36,7 @@ fn print_held<R: Files<File = File> + AllocGlobal + Print>(
     println!(rt; "{name} {many}: {bytes} bytes are held")
 }
 
-/// Submits bytes that are no transaction's so many times, and answers whether each was refused.
+/// Submits bytes that are no transaction's, `calls` times, and answers whether each was refused.
 fn are_refused<B: Room, R: Wait>(
     rt: &R,
     shared: &Shared<TestScheme, B>,
@@ -53,7 +53,7 @@ fn are_refused<B: Room, R: Wait>(
     all
 }
 
-/// Asks so many times what the follower is told next, and answers whether there was never anything.
+/// Asks `calls` times what the follower is told next, and answers whether there was never anything.
 fn are_untold<B: Room, R: Wait>(
     rt: &R,
     shared: &Shared<TestScheme, B>,
@@ -71,7 +71,7 @@ fn are_untold<B: Room, R: Wait>(
     all
 }
 
-/// Makes so many calls of each kind, and prints what one takes and what is held then.
+/// Makes `calls` calls of each kind, and prints what one takes and what is held then.
 fn measure_calls<B: Room, R: Files<File = File> + AllocGlobal + Wait + Clock + Print>(
     rt: &R,
     shared: &Shared<TestScheme, B>,
@@ -111,7 +111,7 @@ fn megabyte(alloc: Global) -> Vec<u8> {
     bytes
 }
 
-/// Sends such bytes and brings them so many times, and answers whether each was brought.
+/// Sends such bytes and brings them `arrivals` times, and answers whether each was brought.
 fn are_brought<B: Room, M: Mailroom, R: AllocGlobal + Threads + Wait + Sync>(
     rt: &R,
     shared: &Shared<TestScheme, B>,
@@ -130,7 +130,7 @@ fn are_brought<B: Room, M: Mailroom, R: AllocGlobal + Threads + Wait + Sync>(
     all
 }
 
-/// Has so many such bytes arrive, and prints what one takes and what is held before and then.
+/// Has such bytes arrive `MEGABYTES` times, and prints what one takes and what is held before and then.
 fn measure_arrivals<
     B: Room,
     M: Mailroom,

@@ -67,7 +67,7 @@ pub struct Plan {
 }
 
 impl Plan {
-    /// So many calls at one core, to which nothing comes before.
+    /// `calls` calls at one core, to which nothing comes before.
     pub fn new(alloc: Global, act: Act, calls: u64) -> Plan {
         Plan {
             depth: Depth::Usual,
@@ -91,7 +91,7 @@ pub fn open(alloc: Global, depth: Depth) -> Option<Box<Core<TestScheme>>> {
     Box::new(alloc, core).ok()
 }
 
-/// Opens so many followers, and answers whether all are open.
+/// Opens `followers` followers, and answers whether all are open.
 fn are_open(core: &mut Core<TestScheme>, followers: u64) -> bool {
     let mut all = true;
     for _ in 0..followers {
@@ -126,7 +126,7 @@ fn are_submitted(core: &mut Core<TestScheme>, texts: &[Vec<u8>]) -> bool {
     all
 }
 
-/// Forges the next block so many times, and answers whether it could be.
+/// Forges the next block `blocks` times, and answers whether it could be.
 fn are_forged(core: &Core<TestScheme>, blocks: u64) -> bool {
     let slot = core.height().saturating_add(1);
     let mut all = true;
@@ -144,7 +144,7 @@ fn is_told(core: &mut Core<TestScheme>) -> bool {
     }
 }
 
-/// Tells the first follower so many blocks, and answers whether there were as many.
+/// Tells the first follower `blocks` blocks, and answers whether there were as many.
 fn are_told(core: &mut Core<TestScheme>, blocks: u64) -> bool {
     let mut all = true;
     for _ in 0..blocks {

@@ -9,7 +9,7 @@ use std::io;
 /// How many blocks are told, and how many switches are made, while it is measured.
 const MEASURED: u64 = 100;
 
-/// What is told to a follower that was told so many blocks before.
+/// What is told to a follower that was told `along` blocks before.
 fn next(alloc: Global, along: u64) -> Plan {
     let mut plan = Plan::new(alloc, Act::Tell, MEASURED);
     let mut end = End::genesis();
@@ -20,8 +20,8 @@ fn next(alloc: Global, along: u64) -> Plan {
     plan
 }
 
-/// An arrival that switches the chain, beside so many followers: after a block and another at its place comes one on
-/// that.
+/// An arrival that switches the chain, beside `followers` followers: after a block and another at its place comes one
+/// on that.
 fn switch(alloc: Global, followers: u64) -> Plan {
     let mut plan = Plan::new(alloc, Act::Arrive, 1);
     let mut other = End::genesis();

@@ -9,14 +9,14 @@ use std::io;
 /// How long the selected chain is beside which forks come, and each of them at most.
 const LENGTH: u64 = 8_000;
 
-/// So many arrivals at one core, of whose chain as many blocks as may be can be rolled back.
+/// `blocks` arrivals at one core, of whose chain as many blocks as may be can be rolled back.
 fn arrivals(alloc: Global, blocks: u64) -> Plan {
     let mut plan = Plan::new(alloc, Act::Arrive, blocks);
     plan.depth = Depth::Greatest;
     plan
 }
 
-/// Those of so many bad blocks that all follow one, which comes last.
+/// Those of `blocks` bad blocks that all follow one, which comes last.
 fn siblings(alloc: Global, blocks: u64) -> Plan {
     let mut plan = arrivals(alloc, blocks);
     let mut first = Vec::new(alloc);
@@ -31,7 +31,8 @@ fn siblings(alloc: Global, blocks: u64) -> Plan {
     plan
 }
 
-/// Those of a chain of so many whose first block comes last, with as many bad blocks that all follow its last one.
+/// Those of a chain of `blocks` blocks whose first block comes last, with as many bad blocks that all follow its last
+/// one.
 fn leaves(alloc: Global, blocks: u64) -> Plan {
     let mut plan = arrivals(alloc, blocks);
     let mut first = Vec::new(alloc);
@@ -47,7 +48,7 @@ fn leaves(alloc: Global, blocks: u64) -> Plan {
     plan
 }
 
-/// Those of a chain of so many whose first block never comes.
+/// Those of a chain of `blocks` blocks whose first block never comes.
 fn without_first(alloc: Global, blocks: u64) -> Plan {
     let mut plan = arrivals(alloc, blocks);
     let mut none = Vec::new(alloc);
@@ -57,7 +58,7 @@ fn without_first(alloc: Global, blocks: u64) -> Plan {
     plan
 }
 
-/// The discards of those of a chain of so many whose first block never came.
+/// The discards of those of a chain of `blocks` blocks whose first block never came.
 fn discards(alloc: Global, blocks: u64) -> Plan {
     let mut plan = arrivals(alloc, blocks);
     plan.act = Act::Discard;
@@ -98,8 +99,8 @@ fn forks(alloc: Global, blocks: u64) -> Plan {
     plan
 }
 
-/// Those of bad blocks that follow the last ones of so many forks, in turns. Each fork is as long as the chain, which
-/// has so many blocks.
+/// Those of bad blocks that follow the last ones of `forks` forks, in turns. Each fork is as long as the chain, which
+/// has `length` blocks.
 fn tips(alloc: Global, forks: u64, length: u64, blocks: u64) -> Plan {
     let mut plan = arrivals(alloc, blocks);
     End::genesis().put_chain(alloc, &mut plan.blocks, length);
@@ -123,7 +124,7 @@ fn tips(alloc: Global, forks: u64, length: u64, blocks: u64) -> Plan {
     plan
 }
 
-/// Those of so many pairs of a good block and a bad one behind it, each at the end of one fork, which is as long as the
+/// Those of `pairs` pairs of a good block and a bad one behind it, each at the end of one fork, which is as long as the
 /// chain with the good one.
 fn pairs(alloc: Global, length: u64, pairs: u64) -> Plan {
     let mut plan = arrivals(alloc, pairs.saturating_mul(2));

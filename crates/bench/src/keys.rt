@@ -26,7 +26,7 @@ fn random_key(seed: u64) -> Key {
     Key { digest, index: 0 }
 }
 
-/// So many random keys, the same ones at each run.
+/// `count` random keys, the same ones at each run.
 pub fn random_keys(alloc: Global, count: usize) -> Result<Vec<Key>, AllocError> {
     let mut keys = Vec::with_capacity(alloc, count)?;
     let mut seed = 88_172_645_463_325_252;

@@ -54,7 +54,7 @@ pub fn grow(alloc: Global, growing: &mut Growing, state: &LedgerState) -> Option
     after(alloc, state, &block)
 }
 
-/// Grows until so many outputs are unspent.
+/// Grows until `pairs` outputs are unspent.
 fn grow_to(
     alloc: Global,
     growing: &mut Growing,
@@ -70,7 +70,7 @@ fn grow_to(
     Some(())
 }
 
-/// The block after a state of so many transactions, each of which spends an output of the genesis.
+/// The block of `count` transactions after a state, each of which spends an output of the genesis.
 fn block_after(
     alloc: Global,
     growing: Growing,
@@ -96,7 +96,7 @@ fn time_applying(
     nanos_if(rt, start, all)
 }
 
-/// The same for the block of so many transactions.
+/// The same for the block of `count` transactions.
 fn time_block(rt: &HostRuntime, state: &LedgerState, growing: Growing, count: u16) -> Option<u128> {
     let block = block_after(rt.alloc(), growing, count)?;
     time_applying(rt, state, &block)

@@ -55,7 +55,7 @@ fn opened<R: Files>(rt: &R) -> Option<R::File> {
         .ok()
 }
 
-/// So many blocks of one size. None where a log takes none of that size.
+/// `many` blocks of one size. None where a log takes none of that size.
 #[tactic(auto, using(crate::proofs::LogBlocks::all_and_one))]
 fn blocks_of(alloc: Global, many: usize, size: usize) -> Option<Vec<Vec<u8>>>
     ensures { IfSome result (λ blocks. AllByRecursion IsLogBlock (lists_of blocks.items)) }
@@ -81,7 +81,7 @@ fn time_append<R: Files + AllocGlobal + Clock>(rt: &R, size: usize, many: usize)
     nanos_if(rt, start, done)
 }
 
-/// Writes the bytes so many times, each behind those before and made sure, and one byte behind them, made sure as well:
+/// Writes the bytes `many` times, each behind those before and made sure, and one byte behind them, made sure as well:
 /// as many writes and syncs as a log makes for as many blocks.
 fn write_each<F: Write + OpenFile>(file: &mut F, bytes: &[u8], many: usize) -> io::Result<()> {
     for _ in 0..many {
@@ -113,7 +113,7 @@ fn fill<R: Files + AllocGlobal>(rt: &R) -> Option<()> {
     Some(())
 }
 
-/// How long it takes to open the log, which has so many blocks.
+/// How long it takes to open the log, which has `blocks` blocks.
 fn time_open<R: Files + AllocGlobal + Clock + Threads + Sync>(
     rt: &R,
     blocks: usize,

@@ -144,7 +144,7 @@ fn measure_plain(
     tell(rt, "BTreeMap::remove", count, count, start)
 }
 
-/// Prints how long one of so many calls took, which began then, with so many keys.
+/// Prints how long one of `calls` calls took, which began then, with `keys` keys.
 fn tell(
     rt: &HostRuntime,
     name: &str,
@@ -163,7 +163,7 @@ fn measure_with(rt: &HostRuntime, keys: Keys<'_>) -> io::Result<()> {
     measure_plain(rt, &mut BTreeMap::new(rt.alloc()), keys, &value)
 }
 
-/// Measures both maps with so many keys.
+/// Measures both maps with `count` keys.
 fn measure_at(rt: &HostRuntime, count: usize) -> io::Result<()> {
     let all = keys::random_keys(rt.alloc(), count)?;
     let picked = keys::picked(rt.alloc(), &all)?;

@@ -32,7 +32,7 @@ pub fn held<R: Files<File = File> + AllocGlobal>(rt: &R) -> Option<u64> {
     pages.checked_mul(4_096)
 }
 
-/// Prints how many bytes were taken for each of so many.
+/// Prints how many bytes were taken for each one of `many`.
 fn print_bytes(rt: &HostRuntime, name: &str, many: u64, before: Option<u64>) -> io::Result<()> {
     let (Some(before), Some(after)) = (before, held(rt)) else {
         return Err(io::ErrorKind::Other.into());
@@ -118,7 +118,7 @@ fn put_diffs(alloc: Global, kept: &mut Kept, texts: &[Vec<u8>]) -> Option<()> {
     Some(())
 }
 
-/// The state so many blocks ago, by undoing.
+/// The state `back` blocks ago, by undoing.
 fn undone(kept: &Kept, back: usize) -> Option<LedgerState> {
     let mut state = kept.state.try_clone().ok()?;
     for diff in kept.diffs.iter().rev().take(back) {
@@ -127,7 +127,7 @@ fn undone(kept: &Kept, back: usize) -> Option<LedgerState> {
     Some(state)
 }
 
-/// Prints how long it takes to have the state so many blocks ago.
+/// Prints how long it takes to have the state `back` blocks ago.
 fn measure_undoing(rt: &HostRuntime, kept: &Kept, back: usize) -> io::Result<()> {
     let start = now(rt);
     let done = undone(kept, back).is_some();

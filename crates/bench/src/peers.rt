@@ -69,7 +69,7 @@ pub fn send_each<M: Mailroom, R: Wait>(rt: &R, sender: Sender<M>, ended: &Atomic
     }
 }
 
-/// The first so many peers, each with every so manieth of the blocks.
+/// The first `many` peers, each with every `many`-th of the blocks.
 pub fn dealt<M: Mailroom>(
     alloc: Global,
     ends: [PeerEnd<M>; PEERS],
@@ -88,7 +88,7 @@ pub fn dealt<M: Mailroom>(
     Some(senders)
 }
 
-/// Brings so many blocks, however often it has to be tried. Where memory runs out it is tried again.
+/// Brings `blocks` blocks, however often it has to be tried. Where memory runs out it is tried again.
 fn bring_all<S: SigScheme + Send, B: Room, M: Mailroom, R: Threads + Wait + Sync>(
     rt: &R,
     shared: &Shared<S, B>,
@@ -256,7 +256,7 @@ fn run_all<
     })
 }
 
-/// What is run: blocks, which so many peers send, and whose transactions so many workers check; and what is asked
+/// What is run: blocks, which `peers` peers send, and whose transactions `workers` workers check; and what is asked
 /// meanwhile.
 #[derive(Drop)]
 struct Load {
@@ -362,7 +362,7 @@ fn measure_load<S: SigScheme + Send + Sync, R: Threads + Wait + Clock + Print + 
     )
 }
 
-/// Runs the measurement of so many blocks without transactions, from 1, 2, 4 and all peers.
+/// Runs the measurement of `blocks` blocks without transactions, from 1, 2, 4 and all peers.
 fn measure_empty<R: Threads + Wait + Clock + Print + Sync>(
     rt: &R,
     alloc: Global,

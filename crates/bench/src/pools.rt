@@ -18,7 +18,7 @@ const COUNT: u16 = 1_000;
 enum Judge {
     /// This thread, one after the other.
     Plain,
-    /// A pool of so many workers.
+    /// A pool of this many workers.
     Pool(usize),
 }
 
@@ -115,7 +115,7 @@ fn time_once<S: SigScheme + Send, R: Threads + Clock + Sync>(
     }
 }
 
-/// How long it takes to give them so many times.
+/// How long it takes to give them `calls` times.
 fn time_judge<S: SigScheme + Send, R: Threads + Clock + Sync>(
     rt: &R,
     alloc: Global,
@@ -158,7 +158,7 @@ fn measure_tests<R: Threads + Clock + Print + Sync>(
     Ok(())
 }
 
-/// Measures all of them on so many payments under Ed25519.
+/// Measures all of them on `count` payments under Ed25519.
 fn measure_ed25519<R: Threads + Clock + Print + Sync>(
     rt: &R,
     alloc: Global,

@@ -13,7 +13,7 @@ use witness_pool::TestScheme;
 /// How many payments a block has.
 pub const PAYMENTS: usize = 100;
 
-/// The texts of so many blocks without transactions.
+/// The texts of `blocks` blocks without transactions.
 pub fn empty_blocks(alloc: Global, blocks: u64) -> Vec<Vec<u8>> {
     let mut texts = Vec::new(alloc);
     End::genesis().put_chain(alloc, &mut texts, blocks);

@@ -45,7 +45,7 @@ fn put_block(script: &mut String, number: u64) {
     let _ = write!(script, "\narrive B{number}\n");
 }
 
-/// A script of so many blocks. Where memory runs out it is cut short, and has a fault or prints nothing.
+/// A script of `blocks` blocks. Where memory runs out it is cut short, and has a fault or prints nothing.
 fn script_of(alloc: Global, blocks: u64) -> String {
     let mut script = String::new(alloc);
     let _ = script.push_str(KEY);
@@ -70,7 +70,7 @@ fn printed(alloc: Global, script: &str) -> usize {
     }
 }
 
-/// Measures a script of so many blocks.
+/// Measures a script of `blocks` blocks.
 fn measure_script(rt: &HostRuntime, blocks: u64) -> io::Result<()> {
     let script = script_of(rt.alloc(), blocks);
     let start = now(rt);

@@ -39,7 +39,7 @@ struct Signed {
     signature: [u8; 64],
 }
 
-/// Verifies the signature so many times, and answers whether it was always good.
+/// Verifies the signature `CALLS` times, and answers whether it was always good.
 fn are_verified(signed: &Signed) -> bool {
     let mut all = true;
     for _ in 0..CALLS {
@@ -48,7 +48,7 @@ fn are_verified(signed: &Signed) -> bool {
     all
 }
 
-/// Signs so many times, and answers whether the signature was always this one.
+/// Signs `CALLS` times, and answers whether the signature was always this one.
 fn are_signed(signed: &Signed) -> bool {
     let mut all = true;
     for _ in 0..CALLS {

@@ -51,12 +51,12 @@ pub fn put(out: &mut Vec<u8>, bytes: &[u8]) {
     let _ = out.extend_from_slice(bytes);
 }
 
-/// Puts the head of an array of so many items behind a text.
+/// Puts the head of an array of `count` items behind a text.
 pub fn put_array(out: &mut Vec<u8>, count: u64) {
     let _ = cbor::write_array(out, count);
 }
 
-/// Puts an output of so much lovelace to the key of this hash behind a text.
+/// Puts an output of `coin` lovelace to the key of this hash behind a text.
 pub fn put_output(out: &mut Vec<u8>, hash: &KeyHash, coin: u64) {
     put(out, b"\x82\x58\x21\x60");
     put(out, hash.as_bytes());
@@ -99,7 +99,7 @@ fn put_payment<K: Signer>(out: &mut Vec<u8>, signer: &K, payment: Payment) -> Tx
     id
 }
 
-/// Puts the texts of the payments that spend the outputs of a transaction behind the others, those of so many outputs
+/// Puts the texts of the payments that spend the outputs of a transaction behind the others, those of `count` outputs
 /// from the second one on, each of this much lovelace. They are signed under the scheme for tests.
 pub fn put_payments(alloc: Global, texts: &mut Vec<Vec<u8>>, source: TxId, coin: u64, count: u16) {
     put_payments_by(alloc, &TEST_SIGNER, texts, source, coin, count);
@@ -143,7 +143,7 @@ impl End {
         }
     }
 
-    /// The text of the block with this body that comes next, in the slot that is so much later than its number. It is
+    /// The text of the block with this body that comes next, in the slot that is `late` later than its number. It is
     /// then the end.
     pub fn next_text(&mut self, alloc: Global, late: u64, body: &[u8]) -> Vec<u8> {
         let number = self.height.saturating_add(1);
@@ -190,7 +190,7 @@ impl End {
         let _ = texts.push(self.next_text(alloc, late, &body));
     }
 
-    /// Puts the texts of the next so many blocks behind the others.
+    /// Puts the texts of the next `blocks` blocks behind the others.
     pub fn put_chain(&mut self, alloc: Global, texts: &mut Vec<Vec<u8>>, blocks: u64) {
         for _ in 0..blocks {
             self.put_next(alloc, texts, 0);

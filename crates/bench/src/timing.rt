@@ -37,8 +37,8 @@ pub fn nanos_if<R: Clock>(rt: &R, start: Option<Instant>, done: bool) -> Option<
     if done { Some(elapsed.as_nanos()) } else { None }
 }
 
-/// Prints the name of a measurement, or how long one of so many calls took that took so long together, on what has this
-/// size. Err where it wasn't made.
+/// Prints the name of a measurement, or how long one of `calls` calls took that took `nanos` nanoseconds together, on
+/// what has this size. Err where it wasn't made.
 pub fn print<R: Print>(
     rt: &R,
     telling: Telling,

@@ -14,7 +14,7 @@ const TAKEN: usize = 1_000;
 
 const ROUNDS: u64 = 10;
 
-/// Has so many payments wait, each of which spends an output of a block of its own thousand, and answers where the
+/// Has `waiting` payments wait, each of which spends an output of a block of its own thousand, and answers where the
 /// chain of these blocks ends.
 fn put_waiting(alloc: Global, plan: &mut Plan, waiting: u64) -> Growing {
     let mut growing = Growing::genesis();
@@ -28,7 +28,7 @@ fn put_waiting(alloc: Global, plan: &mut Plan, waiting: u64) -> Growing {
     growing
 }
 
-/// Submissions beside so many payments.
+/// Submissions beside `waiting` payments.
 fn submitting(alloc: Global, waiting: u64) -> Plan {
     let mut plan = Plan::new(alloc, Act::Submit, u64::from(MEASURED));
     let mut growing = put_waiting(alloc, &mut plan, waiting);
@@ -39,14 +39,14 @@ fn submitting(alloc: Global, waiting: u64) -> Plan {
     plan
 }
 
-/// The forging of a block of so many payments.
+/// The forging of a block of `waiting` payments.
 fn forging(alloc: Global, waiting: u64) -> Plan {
     let mut plan = Plan::new(alloc, Act::Forge, u64::from(MEASURED));
     put_waiting(alloc, &mut plan, waiting);
     plan
 }
 
-/// The arrival of a block that takes many of so many payments out.
+/// The arrival of a block that takes many of `waiting` payments out.
 fn taking(alloc: Global, waiting: u64) -> Plan {
     let mut plan = Plan::new(alloc, Act::Arrive, 1);
     let mut end = put_waiting(alloc, &mut plan, waiting).end;

@@ -51,7 +51,7 @@ pub record IsReadable (bytes : List ℕ) : Type 0 where
   pub begins : BeginsLikeBlock bytes
   pub empty : (b : Block) → SpellsBlock b bytes → b.transactions ≡ [] → IsRead b bytes
 
--- when each fault comes: the first reason that applies, or want of memory
+-- when each fault comes: the first reason that applies, or OutOfMemory
 abbrev pub IsReadFault : List ℕ → ReadFault → Type 0
 IsReadFault bytes TooLarge = block_size_limit < length bytes
 IsReadFault bytes Malformed = IsMalformed bytes

@@ -12,7 +12,7 @@ use Rattle.block.specs.declared.fault.WriteFault.TheVariants.{OutOfRange, OutOfM
 use Rattle.block.specs.declared.fault.NoText.{NoText}
 use Rattle.block.specs.declared.fault.NoText.TheVariants as no
 
--- when each fault comes: out of range, or want of memory for a header that has a text
+-- when each fault comes: out of range, or out of memory for a header that has a text
 abbrev pub IsWriteFault : Header → WriteFault → Type 0
 IsWriteFault header OutOfRange = IsHeader header → ⊥
 IsWriteFault header OutOfMemory = IsHeader header
@@ -61,13 +61,13 @@ pub record IsWritable (block : Block) : Type 0 where
   pub header : IsHeader block.header
   pub transactions : AllByRecursion FitsBlock block.transactions
 
--- when each fault of a block of transactions comes: the first reason that applies, or want of memory where none does
+-- when each fault of a block of transactions comes: the first reason that applies, or OutOfMemory where none does
 abbrev pub IsNoText : Block → NoText → Type 0
 IsNoText block no.OutOfRange = IsHeader block.header → ⊥
 IsNoText block (no.TooDeep index) = IsTooDeep index block
 IsNoText block no.OutOfMemory = IsWritable block
 
--- but for want of memory no bytes are its text
+-- no bytes are its text, except where the fault is OutOfMemory
 abbrev pub IsUnspelled : Block → NoText → Type 0
 IsUnspelled block no.OutOfRange = (bytes : List ℕ) → SpellsBlock block bytes → ⊥
 IsUnspelled block (no.TooDeep index) = (bytes : List ℕ) → SpellsBlock block bytes → ⊥

@@ -43,7 +43,7 @@ pub enum ReadFault {
     OutOfMemory,
 }
 
-/// Bytes that were not read, for want of memory or of workers. They come back.
+/// Bytes that were not read, for lack of memory or of workers. They come back.
 #[derive(Debug, Drop, Error)]
 #[error("{fault}")]
 pub struct NotRead {

@@ -7,8 +7,8 @@ ghost use Rattle.block.specs.Read.{IsRead, IsReadFault};
 ghost use Rattle.block.specs.declared.fault.ReadFault.{ReadFault};
 ghost use Rattle.block.specs.declared.fault.ReadFault.TheVariants.{OutOfMemory};
 
-/// Bytes have one answer, but for want of memory: they are read as at most one block, there is at most one
-/// fault, and not both. And there is one, whatever the bytes.
+/// Bytes have one answer, except where memory runs out: they are read as at most one block, there is at most one fault,
+/// and not both. And there is one, whatever the bytes.
 pub fn one_answer()
     ensures one_block { (bytes : List ℕ) (a b : Block) → IsRead a bytes → IsRead b bytes → a ≡ b }
     ensures one_fault { (bytes : List ℕ) (e f : ReadFault) → IsReadFault bytes e → IsReadFault bytes f →

@@ -47,8 +47,8 @@ impl<S: SigScheme> Model for Seen<S> {
 
 impl<S: SigScheme> Seen<S> {
     /// The bytes with what they are read as, on this thread. The bytes are moved in and never copied. Err where memory
-    /// runs out, with the bytes: such as are refused take none, but for the transactions that are read before that is
-    /// known.
+    /// runs out, with the bytes: such as are refused take none, except for the transactions that are read before that
+    /// is known.
     ///
     /// The cost grows with the bytes: a digest of the body's text, one of the header's, those that identify
     /// transactions and scripts, and for each signature one call of the scheme and one digest. It is the same whether

@@ -12,3 +12,4 @@ pub mod Noting
 pub mod Rising
 pub mod Leaving
 pub mod Clearing
+pub mod OffWays

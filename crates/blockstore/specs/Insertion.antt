@@ -15,7 +15,7 @@ abbrev pub IsClash : Store → Block → Type 0
 IsClash store b =
     (c : Block) × HasBlock store c × (block_hash_of c ≡ block_hash_of b) × (block_text c ≢ block_text b)
 
--- there are as many live blocks as may be, or with so many bytes more they have more than they may have
+-- there are as many live blocks as may be, or with these bytes more they have more than they may have
 abbrev pub IsFull : Store → (bytes : ℕ) → Type 0
 IsFull store bytes =
     (store.capacity.blocks ≤ length store.blocks) ⊎ IsOver store.capacity.bytes (bytes_in (blocks_of store) + bytes)
@@ -26,7 +26,7 @@ pub record IsAllowed (store : Store) (b : Block) : Type 0 where
   pub alone : IsClash store b → ⊥
   pub not_full : IsFull store (length (block_text b)) → ⊥
 
--- why the block doesn't come in: the first reason that applies, or want of memory, which is told where none does
+-- why the block doesn't come in: the first reason that applies, or OutOfMemory, which is told where none does
 abbrev pub IsInsertFault : Store → Block → InsertFault → Type 0
 IsInsertFault store b Known = IsKnown store b
 IsInsertFault store b Clash = (IsKnown store b → ⊥) × IsClash store b

@@ -12,3 +12,4 @@ pub mod HeldPlaced
 pub mod Shelves
 pub mod HeldShelf
 pub mod Ways
+pub mod OffWays

@@ -41,7 +41,8 @@ pub record Held : Type 0 where
 
 abbrev pub coded_held : Coded Held
 coded_held =
-    code_by (List Stored × Notes) (coded× (coded_list coded_stored) (coded_list (coded× (coded_list coded_ℕ) coded_bool)))
+    code_by (List Stored × Notes)
+    (coded× (coded_list coded_stored) (coded_list (coded× (coded_list coded_ℕ) coded_bool)))
     (λ h. (h.blocks, h.notes)) (λ q. record { blocks = q.0; notes = q.1 }) (λ _. refl)
 
 -- no block

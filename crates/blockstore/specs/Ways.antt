@@ -144,7 +144,7 @@ IsLetGo held hash next leads waiting more =
     × (((tip_at x.block ≡ next) × (leads ≡ true) × (more ≡ waiting))
     ⊎ ((leads ≡ false) × ((p : Place) × (tip_of p ≡ tip_at x.block) × (more ≡ waiting ++ p ∷ [])))))
 
--- Live blocks went, with their notes. The places of those that were noted wait, but for the one at the next root: then
+-- Live blocks went, with their notes. The places of those that were noted wait, except the one at the next root: then
 -- it led on. The others' notes are what they were.
 pub record AreDropped (old new : Held) (next : Tip) (leads : Bool) (waiting : List Place) : Type 0 where
   pub within : (x : Stored) → Contains new.blocks x → Contains old.blocks x

@@ -19,8 +19,10 @@ mod reach;
 mod shelf;
 mod store;
 mod stored_block;
+mod unconnected;
 
 pub use capacity::Capacity;
 pub use insert_fault::InsertFault;
 pub use store::BlockStore;
 pub use stored_block::StoredBlock;
+pub use unconnected::Unconnected;

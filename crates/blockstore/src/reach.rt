@@ -86,7 +86,8 @@ impl Reach {
     }
 
     /// Takes out the live block with this hash, if there is one, and brings up to date which of the others a way leads
-    /// to. Look-ups; where a way led to it, it looks behind it, and behind each block whose note turns. Takes no memory.
+    /// to. Look-ups; where a way led to it, it looks behind it, and behind each block whose note turns. Takes no
+    /// memory.
     pub fn discard<S: SigScheme>(&mut self, blocks: &mut Shelf<S>, root: Tip, hash: BlockHash)
         requires distinct { HaveDistinctHashes (map (λ s. s.block) blocks.old.blocks) }
         requires notes { AreNotes (Some (tip_of root)) blocks.old.blocks blocks.old.notes }

@@ -18,12 +18,14 @@ ghost use Rattle.blockstore.specs.Placed.{IsKeyed, AreSameBlocks};
 ghost use Rattle.blockstore.specs.Shelves.{IsSame, AreApart, AreAfter, HasAfter, AreLinksAfter};
 ghost use Rattle.blockstore.specs.Shelves.{HasNone, HasPast, ArePast, HasAge, IsWithout};
 ghost use Rattle.blockstore.specs.Ways.{HasStep, HasParent, IsNotedAt, IsPlaceOf, FollowsOne, Stands, AllStand};
+ghost use Rattle.blockstore.specs.OffWays.{AreUnnoted};
 ghost use Rattle.blockstore.specs.Ways.{AreTurning, AreSameNotes, IsLookedAt, may_turn};
 
 use crate::hash_key::HashKey;
 use crate::keys::{Age, Link};
 use crate::placed_block::PlacedBlock;
 use crate::stored_block::StoredBlock;
+use crate::unconnected::Unconnected;
 use block::{CheckedBlock, Tip};
 use ident::BlockHash;
 use std::alloc::{AllocError, Global};
@@ -274,6 +276,16 @@ impl<S: SigScheme> Shelf<S> {
         match self.ages.last() {
             Some(newest) => newest.number > number,
             None => false,
+        }
+    }
+
+    /// Those of which it isn't noted that a way leads to them, those with the greatest numbers first. In constant time.
+    pub fn unnoted(&self) -> Unconnected<'_, S>
+        ensures { AreUnnoted self.now result }
+    {
+        Unconnected {
+            blocks: &self.blocks,
+            ages: self.ages.iter(),
         }
     }
 

@@ -13,6 +13,7 @@ ghost use Rattle.blockstore.specs.Insertion.{IsKnown, IsFull, IsAllowed, IsInser
 ghost use Rattle.blockstore.specs.Answers.{HasNoneAt, IsAt, AreSuccessors, HasSuccessor, IsMarkSet, IsRid, IsCutTo};
 ghost use Rattle.blockstore.specs.Shelves.{HasPast};
 ghost use Rattle.blockstore.specs.Ways.{HasWay};
+ghost use Rattle.blockstore.specs.OffWays.{AreOffWays};
 ghost use Rattle.blockstore.specs.Live.{HoldsNothing, GainsLive, LosesLive, FollowsChain, KeepsLive};
 
 use crate::capacity::Capacity;
@@ -20,6 +21,7 @@ use crate::insert_fault::InsertFault;
 use crate::reach::Reach;
 use crate::shelf::Shelf;
 use crate::stored_block::StoredBlock;
+use crate::unconnected::Unconnected;
 use block::{CheckedBlock, Tip};
 use ident::BlockHash;
 use std::alloc::{AllocError, Global};
@@ -55,7 +57,7 @@ impl<S: SigScheme> Model for BlockStore<S> {
 }
 
 impl<S: SigScheme> BlockStore<S> {
-    /// A store of at most so many live blocks and bytes, without a block, of chains from genesis. Takes no memory.
+    /// A store of this capacity, without a block, of chains from genesis. Takes no memory.
     pub fn new(alloc: Global, capacity: Capacity) -> BlockStore<S>
         ensures empty { result ≡ empty_store capacity genesis_tip }
         ensures live { HoldsNothing result }
@@ -63,7 +65,7 @@ impl<S: SigScheme> BlockStore<S> {
         BlockStore::behind(alloc, capacity, Tip::genesis())
     }
 
-    /// A store of at most so many live blocks and bytes, without a block, of chains through this place. Takes no memory.
+    /// A store of this capacity, without a block, of chains through this place. Takes no memory.
     pub fn behind(alloc: Global, capacity: Capacity, root: Tip) -> BlockStore<S>
         ensures empty { result ≡ empty_store capacity (tip_of root) }
         ensures live { HoldsNothing result }
@@ -96,7 +98,7 @@ impl<S: SigScheme> BlockStore<S> {
         self.blocks.len() == 0
     }
 
-    /// Whether there is no room for a block of so many bytes: there are as many live blocks as may be, or with these
+    /// Whether there is no room for a block of `size` bytes: there are as many live blocks as may be, or with these
     /// bytes they have more than they may have. In constant time.
     pub fn is_full_for(&self, size: usize) -> bool
         ensures { IsTrue result ↔ IsFull self.now size }
@@ -104,7 +106,7 @@ impl<S: SigScheme> BlockStore<S> {
         self.blocks.len() as u64 >= self.capacity.blocks || self.is_over(size)
     }
 
-    /// Whether the live blocks have more bytes than they may have, with so many more.
+    /// Whether the live blocks have more bytes than they may have, with `size` more.
     fn is_over(&self, size: usize) -> bool
         ensures { IsTrue result ↔ IsOver self.now.capacity.bytes (bytes_in (blocks_of self.now) + size) }
     {
@@ -146,6 +148,15 @@ impl<S: SigScheme> BlockStore<S> {
         ensures { IsTrue result ↔ HasWay self.now.root self.now.blocks block.now }
     {
         self.blocks.connects(&self.root, block)
+    }
+
+    /// The live blocks that no way leads to, or that have a mark, each once, those with the greatest numbers first. In
+    /// constant time; each step of the iterator takes a look-up for the block that it gives and for each that it passes
+    /// over, since a way leads to it. Takes no memory.
+    pub fn unconnected(&self) -> Unconnected<'_, S>
+        ensures { AreOffWays self.now result }
+    {
+        self.blocks.unnoted()
     }
 
     /// Whether a live block has a number past this one: where none has, none goes on from a block with this number.

@@ -1,4 +1,4 @@
-//! Bytes written in words: hexadecimal, names of bytes, and either so many times.
+//! Bytes written in words: hexadecimal, names of bytes, and either a given number of times.
 
 use std::alloc::{AllocError, Global};
 
@@ -93,7 +93,7 @@ impl<'a> NamedBytes<'a> {
     }
 }
 
-/// Puts bytes so many times behind others.
+/// Puts bytes `times` times behind others.
 fn put_times(bytes: &mut Vec<u8>, one: &[u8], times: u64) -> Result<(), AllocError> {
     for _ in 0..times {
         bytes.extend_from_slice(one)?;

@@ -28,7 +28,7 @@ no_string bytes lt e text rest spelled =
     let again = bytes_again text rest (omega arith) in
     cc
 
--- where no byte string of exactly so many bytes is read none stands
+-- where no byte string of exactly `count` bytes is read none stands
 pub no_fixed : (count : ℕ) (bytes : List ℕ) → count < 2 ^ 64 → fixed_at count bytes ≡ None → (text rest : List ℕ) → length text ≡ count → bytes ≡ head 2 count ++ text ++ rest → ⊥
 no_fixed count bytes lt e text rest len spelled = let again = fixed_again count text rest lt len in cc
 

@@ -23,7 +23,7 @@ abbrev pub HasKeys : ℕ → ℕ → List Field → Type 0
 HasKeys least limit [] = least ≤ limit
 HasKeys least limit (f ∷ fs) = (key : ℕ) × (f.0 ≡ Unsigned key) × (least ≤ key) × (key < limit) × HasKeys (suc key) limit fs
 
--- each value has a text, but for how deep it nests
+-- each value has a text, except for how deep it nests
 abbrev pub ValuesFit : List Field → Type 0
 ValuesFit [] = Unit {0}
 ValuesFit (f ∷ fs) = Fits f.1 × ValuesFit fs

@@ -15,7 +15,7 @@ use Rattle.cbor.specs.Reading.{front}
 use Rattle.cbor.proofs.Steps.{IsBytes, AllByRecursion-bytes, bind_some, guard-true, guard_some, chosen, some_is, Takes, Takes-then, Takes-length}
 use Rattle.cbor.proofs.Reading.{head_takes, head_again, bytes_takes, bytes_again, null_takes, null_again}
 
--- an item that has a text, but that it nests at most so deep
+-- an item that has a text, except that it nests at most `depth` deep
 pub record IsItem (depth : ℕ) (item : Item) : Type 0 where
   pub in_range : IsInRange item
   pub rising : HasRisingKeys item

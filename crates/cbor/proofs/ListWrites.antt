@@ -6,7 +6,7 @@ use Rattle.cbor.specs.Texts.{Keeps}
 use Rattle.cbor.proofs.ShapeWrites.{drop_here, kept, kept_on, kept_same}
 
 module _ {E : Type 0} (item : E → Item) where
-  -- of these items so many were written after bytes
+  -- the first `i` of these items were written after bytes
   pub record IsListPartWritten (before now : List ℕ) (es : List E) (i : ℕ) : Type 0 where
     pub whole : now ++ items_text (items_of (map item (drop i es))) ≡ before ++ items_text (items_of (map item es))
     pub keeps : Keeps before now
@@ -46,7 +46,7 @@ module _ {E : Type 0} (item : E → Item) where
       let counted : n ≡ items_count (items_of (map item es)) = sym len ∙ sym (items_counted es) in
       a ∙ ap (λ (t : List ℕ). t ++ items_text (items_of (map item es))) (h ∙ ap (λ (n : ℕ). before ++ head 4 n) counted) ∙ append_assoc before (head 4 (items_count (items_of (map item es)))) (items_text (items_of (map item es)))
 
-  -- ---- want of room
+  -- ---- lack of room
 
   -- where an item does not fit, the items do not
   pub item_lacks_room : (before now : List ℕ) (es : List E) (i : ℕ) (e : E) (old cap : ℕ) → i < length es → e ≡ get_or es i e → IsListPartWritten before now es i → old ≤ cap → cap < length now + length (text_of (item e))

@@ -90,7 +90,7 @@ form_64 = record {
   read = λ bytes. refl;
 }
 
--- the first bytes, so many
+-- the first `count` bytes
 pub taken_takes : (count : ℕ) (bytes text rest : List ℕ) → IsBytes bytes → taken_at count bytes ≡ Some (text, rest) → Takes bytes text rest × (length text ≡ count) × IsBytes text
 taken_takes count bytes text rest fits e =
     let g = guard_none (ltb (length bytes) count) (Some (take count bytes, drop count bytes)) (text, rest) e in
@@ -270,7 +270,7 @@ unfolding bytes_at
 bytes_again text rest lt =
     ap bytes_at (append_assoc (head 2 (length text)) text rest) ∙ rw (head_again 2 (length text) (text ++ rest) lt) (taken_again (length text) text rest refl)
 
--- a byte string of exactly so many bytes that was read
+-- a byte string of exactly `count` bytes that was read
 pub fixed_takes : (count : ℕ) (bytes text rest : List ℕ) → IsBytes bytes → fixed_at count bytes ≡ Some (text, rest) → Takes bytes (head 2 count ++ text) rest × (length text ≡ count) × IsBytes text
 unfolding fixed_at
 fixed_takes count bytes text rest fits e =
@@ -281,7 +281,7 @@ fixed_takes count bytes text rest fits e =
     subst (λ (p : List ℕ × List ℕ). Takes bytes (head 2 count ++ p.0) p.1 × (length p.0 ≡ count) × IsBytes p.0) (some_is (a.0.0, a.0.1) (text, rest) g.1)
     (subst (λ (k : ℕ). Takes bytes (head 2 k ++ a.0.0) a.0.1) len t.0, len, t.2)
 
--- a byte string of exactly so many bytes that was written is read
+-- a byte string of exactly `count` bytes that was written is read
 pub fixed_again : (count : ℕ) (text rest : List ℕ) → count < 2 ^ 64 → length text ≡ count → fixed_at count ((head 2 count ++ text) ++ rest) ≡ Some (text, rest)
 unfolding fixed_at
 fixed_again count text rest lt len =

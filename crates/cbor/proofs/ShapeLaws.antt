@@ -76,7 +76,7 @@ string_reads depth = record {
   again = λ text rest fits p. bytes_again text rest fits.in_range.0;
 }
 
--- a byte string of exactly so many bytes
+-- a byte string of exactly `count` bytes
 pub fixed_reads : (depth count : ℕ) → count < 2 ^ 64 → ReadsItem Bytes (λ text. length text ≡ count) (suc depth) (fixed_at count)
 fixed_reads depth count lt = record {
   takes = λ bytes text rest fits e.
@@ -167,7 +167,7 @@ pub bounded_reads : (depth limit : ℕ) → ReadsItem Unsigned (λ n. n < limit)
 unfolding bounded_at
 bounded_reads depth limit = such_reads (λ n. ltb n limit) (λ n. n < limit) (λ n p t. ltb-true _ _ t) (λ n lt. (tt, lt-ltb n limit lt)) (unsigned_reads depth)
 
--- a byte string of at most so many bytes
+-- a byte string of at most `most` bytes
 pub short_reads : (depth most : ℕ) → ReadsItem Bytes (λ text. length text ≤ most) (suc depth) (short_at most)
 unfolding short_at
 short_reads depth most = such_reads (λ text. leb (length text) most) (λ text. length text ≤ most) (λ text p t. leb-true _ _ t) (λ text le. (tt, le-leb _ _ le)) (string_reads depth)
@@ -356,7 +356,7 @@ as_members_read {A} {B} {items} {P} {depth} {read} to other Q onto back laws = r
     found : {B : Type 0} → B → List ℕ → Option (B × List ℕ)
     found y rest = Some (y, rest)
 
--- the head of an array of exactly so many members that was read
+-- the head of an array of exactly `count` members that was read
 pub members_takes : (count : ℕ) (bytes rest : List ℕ) → IsBytes bytes → members_at count bytes ≡ Some rest → Takes bytes (head 4 count) rest
 unfolding members_at
 members_takes count bytes rest fits e =
@@ -370,7 +370,7 @@ pub members_again : (count : ℕ) (rest : List ℕ) → count < 2 ^ 64 → membe
 unfolding members_at
 members_again count rest lt = rw (head_again 4 count rest lt, eq-eqb count count refl) refl
 
--- an array of exactly so many members
+-- an array of exactly `count` members
 pub array_reads : {A : Type 0} {items : A → Items} {P : A → Type 0} {depth : ℕ} {read : Reading A} (count : ℕ) → count < 2 ^ 64 → ((a : A) → items_count (items a) ≡ count) → ReadsItems items P depth read
     → ReadsItem (λ a. Array (items a)) P (suc depth) (array_at count read)
 unfolding array_at

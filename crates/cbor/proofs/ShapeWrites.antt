@@ -34,7 +34,7 @@ map_twice f g [] = refl
 map_twice f g (x ∷ xs) = ap (λ t. f (g x) ∷ t) (map_twice f g xs)
 
 module _ {E : Type 0} (pair : E → Item × Item) where
-  -- of these entries so many were written after bytes
+  -- the first `i` of these entries were written after bytes
   pub record IsPartWritten (before now : List ℕ) (es : List E) (i : ℕ) : Type 0 where
     pub whole : now ++ pairs_text (pairs_of (map pair (drop i es))) ≡ before ++ pairs_text (pairs_of (map pair es))
     pub keeps : Keeps before now
@@ -76,7 +76,7 @@ module _ {E : Type 0} (pair : E → Item × Item) where
       let counted : n ≡ pairs_count (pairs_of (map pair es)) = sym len ∙ sym (count_is es) in
       a ∙ ap (λ (t : List ℕ). t ++ pairs_text (pairs_of (map pair es))) (h ∙ ap (λ (n : ℕ). before ++ head 5 n) counted) ∙ append_assoc before (head 5 (pairs_count (pairs_of (map pair es)))) (pairs_text (pairs_of (map pair es)))
 
-  -- ---- want of room
+  -- ---- lack of room
 
   -- what is written and what is still to write are as long as the whole
   pub lengths : (before now : List ℕ) (es : List E) (i : ℕ) → IsPartWritten before now es i → length now + length (pairs_text (pairs_of (map pair (drop i es)))) ≡ length before + length (pairs_text (pairs_of (map pair es)))

@@ -75,7 +75,7 @@ module _ {A B : Type 0} where
       (no_first (second n rest) (λ b. Some ((a, b.0), b.1, b.2)) (λ x. Q ((a, x.0), x.1, x.2)) Q (λ x y e q. subst Q (sym (some_is ((a, x.0), x.1, x.2) y e)) q) none)
 
 module _ {A : Type 0} where
-  -- an array of so many members
+  -- an array of `count` members
   pub no_array : (count : ℕ) (read : Reading A) (Q : A × List ℕ → Type 0) (bytes members : List ℕ) → members_at count bytes ≡ Some members → GivesNo Q (read members) → GivesNo Q (array_at count read bytes)
   unfolding array_at
   no_array count read Q bytes members is none = no_second (members_at count bytes) read members Q is none

@@ -11,7 +11,7 @@ use Rattle.cbor.specs.Reading.{◌>>=◌, guard, front, head_at, bytes_at, null_
 abbrev pub Reader : Type 0
 Reader = List ℕ → Option (Item × List ℕ)
 
--- so many members, one after the other
+-- `count` members, one after the other
 unfoldable pub items_at : Reader → ℕ → List ℕ → Option (Items × List ℕ)
 items_at read zero bytes = Some (NoItems, bytes)
 items_at read (suc count) bytes = do
@@ -28,7 +28,7 @@ pair_at read before bytes = do
   value ← read key.1
   Some (key.0, value.0, front bytes key.1, value.1)
 
--- so many entries, one after the other, whose keys' texts rise strictly from this one on
+-- `count` entries, one after the other, whose keys' texts rise strictly from this one on
 unfoldable pub pairs_at : Reader → List ℕ → ℕ → List ℕ → Option (Pairs × List ℕ)
 pairs_at read before zero bytes = Some (NoPairs, bytes)
 pairs_at read before (suc count) bytes = do

@@ -56,7 +56,7 @@ bytes_at bytes = do
   count ← head_at 2 bytes
   taken_at count.0 count.1
 
--- a byte string of exactly so many bytes
+-- a byte string of exactly `count` bytes
 unfoldable pub fixed_at : ℕ → List ℕ → Option (List ℕ × List ℕ)
 fixed_at count bytes = do
   text ← bytes_at bytes

@@ -36,7 +36,7 @@ made_at make read bytes = do
 unfoldable pub bounded_at : ℕ → Reading ℕ
 bounded_at limit bytes = such_at (λ n. nat_lt n limit) (head_at 0) bytes
 
--- a byte string of at most so many bytes
+-- a byte string of at most `most` bytes
 unfoldable pub short_at : ℕ → Reading (List ℕ)
 short_at most bytes = such_at (λ text. nat_le (length text) most) bytes_at bytes
 
@@ -73,20 +73,20 @@ both_at first second bytes = do
   b ← second a.1
   Some ((a.0, b.0), b.1)
 
--- the head of an array of exactly so many members: the bytes from its first member on
+-- the head of an array of exactly `count` members: the bytes from its first member on
 unfoldable pub members_at : ℕ → List ℕ → Option (List ℕ)
 members_at count bytes = do
   n ← head_at 4 bytes
   of_count ← guard (n.0 == count)
   Some n.1
 
--- an array of exactly so many members, which are read so
+-- an array of exactly `count` members, which are read so
 unfoldable pub array_at : {A : Type 0} → ℕ → Reading A → Reading A
 array_at count read bytes = do
   members ← members_at count bytes
   read members
 
--- so many like items, one after the other
+-- `count` like items, one after the other
 unfoldable pub list_at : {A : Type 0} → Reading A → ℕ → Reading (List A)
 list_at read zero bytes = Some ([], bytes)
 list_at read (suc count) bytes = do
@@ -125,7 +125,7 @@ entry_at made key value before bytes = do
   v ← value k.1
   Some (made k.0 v.0, text, v.1)
 
--- so many entries, one after the other, whose keys' texts rise strictly from this one on
+-- `count` entries, one after the other, whose keys' texts rise strictly from this one on
 unfoldable pub entries_at : {E : Type 0} → EntryReading E → List ℕ → ℕ → Reading (List E)
 entries_at entry before zero bytes = Some ([], bytes)
 entries_at entry before (suc count) bytes = do
@@ -141,7 +141,7 @@ map_at entry bytes = do
 
 -- ---- maps of fields
 
--- A reading of a map's entries whose keys are known, of which so many are left: the entries as plain data, how
+-- A reading of a map's entries whose keys are known, of which this many are left: the entries as plain data, how
 -- many are left after them, and the bytes after them.
 abbrev pub FieldsReading : Type 0 → Type 0
 FieldsReading A = ℕ → List ℕ → Option (A × ℕ × List ℕ)

@@ -87,7 +87,7 @@ pub trait Decode: Drop {
         ensures { Gives (λ x. (plain x.0, x.1.now)) result (decoded_at depth bytes.now) };
 }
 
-/// So many like items, each of which nests at most `depth` deep, one after the other, and the bytes after them.
+/// `count` like items, each of which nests at most `depth` deep, one after the other, and the bytes after them.
 /// Malformed where one of them is. The count reserves nothing: memory is taken for what was read, and none is asked for
 /// where there is no item.
 pub fn list<T: Decode>(
@@ -152,7 +152,7 @@ pub trait DecodeEntry: Drop {
         ensures { Gives (λ x. (plain x.0, x.1.now, x.2.now)) result (decoded_at before.now bytes.now) };
 }
 
-/// So many entries, one after the other, whose keys' texts rise strictly, and the bytes after them. Malformed where one
+/// `count` entries, one after the other, whose keys' texts rise strictly, and the bytes after them. Malformed where one
 /// of them is. The count reserves nothing: memory is taken for what was read, and none is asked for where there is no
 /// entry.
 pub fn entries<E: DecodeEntry>(

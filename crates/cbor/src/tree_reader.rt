@@ -42,7 +42,7 @@ fn single(alloc: Global, major: u8, bytes: &[u8]) -> Result<(Item, &[u8]), CborF
     }
 }
 
-/// So many members, one after the other, which nest at most so deep. Where there is none no memory is asked for.
+/// `count` members, one after the other, which nest at most `depth` deep. Where there is none no memory is asked for.
 #[cycle(reading)]
 fn members(
     alloc: Global,
@@ -84,8 +84,8 @@ fn entry<'a>(
     Ok((Entry { key, value }, text, rest))
 }
 
-/// So many entries, one after the other, whose keys rise, and which nest at most so deep. Where there is none no memory
-/// is asked for.
+/// `count` entries, one after the other, whose keys rise, and which nest at most `depth` deep. Where there is none no
+/// memory is asked for.
 #[cycle(reading)]
 fn entries(
     alloc: Global,

@@ -19,3 +19,4 @@ pub mod ForCallers
 pub mod BlocksByHash
 pub mod TxPlaces
 pub mod WaysBack
+pub mod OffWays

@@ -215,7 +215,7 @@ as_range_is chain shown from to from_is to_is same f t le =
 
 -- ---- a hash that isn't noted
 
--- after the first so many blocks of a chain all numbers are past that one
+-- after the first n blocks of a chain all numbers are past n
 numbers_after : (chain : List Block) (n : ℕ) → n ≤ length chain → IsLinked genesis_tip chain → AllByRecursion (λ c. n < c.header.number) (drop n chain)
 numbers_after chain n within linked =
     let parts : IsLinked genesis_tip (take n chain ++ drop n chain) = subst (IsLinked genesis_tip) (sym (take-append-drop n chain)) linked in

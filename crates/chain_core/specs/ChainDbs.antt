@@ -79,7 +79,7 @@ pub record IsTakenIn (old : Store) (block : Block) (hashes : List BlockHash) (ne
   pub marked : AreMarked between hashes new
   pub set : IsSet new
 
--- the blocks past this number are left, and ways to them begin behind so many blocks of this chain
+-- the blocks past this number are left, and ways to them begin behind as many blocks of this chain
 pub record IsCutBack (old : Store) (chain : List Block) (number : ℕ) (new : Store) : Type 0 where
   pub root : new.root ≡ record (tip_after genesis_tip (take number chain)) { number = number }
   pub cut : IsCutTo old number new

@@ -26,6 +26,6 @@ abbrev pub Peeks : Verifies → Held → ℕ → Reply → Type 0
 Peeks verifies held id reply = (s : State) → Stands held s → (t : State)
     × history.Step (network_held held verifies) s (Next id) reply t
 
--- a block that is to be put on is one of so many
+-- a block that is to be put on is one of the chain
 abbrev pub IsWithin : ℕ → Option Due → Type 0
 IsWithin height due = (after : ℕ) → due ≡ Some (Add after) → after < height

@@ -17,7 +17,7 @@ pub record IsForgedAs (network : Network) (chain : List Block) (waiting : List T
   pub text : SpellsBlock block bytes
   pub place : IsPointOf point block
 
--- when each fault comes: the first that applies, or want of memory where none does
+-- when each fault comes: the first that applies, or OutOfMemory where none does
 abbrev pub IsForgeFault : Network → List Block → (slot : ℕ) → ForgeFault → Type 0
 IsForgeFault network chain slot fault.SlotNotAfterTip = model.IsNotForged network chain slot model.SlotNotAfterTip
 IsForgeFault network chain slot fault.OutOfRange = model.IsNotForged network chain slot model.OutOfRange

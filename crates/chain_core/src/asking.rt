@@ -6,19 +6,20 @@ ghost use Rattle.std.specs.Slice.Iter.{iter_rest};
 ghost use Rattle.model.specs.Block.{block_hash_of};
 ghost use Rattle.model.specs.History.{State, live_of};
 ghost use Rattle.model.specs.Chain.{NoneHas};
-ghost use Rattle.model.specs.Asked.{IsPlaceOf, IsTxPlaceOf, IsWhyOf, Beside, ExplainsSubmission};
+ghost use Rattle.model.specs.Asked.{IsPlaceOf, IsTxPlaceOf, IsWhyOf, Beside, AreUnconnected, ExplainsSubmission};
 ghost use Rattle.tx.specs.Bare.{BeginsLikeTransaction};
 ghost use Rattle.utxo_rules.specs.DetailView.{detail_of};
 ghost use Rattle.chain_core.specs.Asking.{place_of, tx_place_of};
 ghost use Rattle.chain_core.specs.Ways.{why_of};
 ghost use Rattle.chain_core.specs.Held.{network_held, Stands};
 
-use crate::finding::{Place, block_with, place_in};
+use crate::finding::{Place, block_with, place_in, unconnected_in};
 use crate::node_core::Core;
 use crate::place::blocks_from;
 use crate::standing::{TxPlace, tx_place_in};
 use crate::why::{Why, why_in};
 use block::CheckedBlock;
+use blockstore::Unconnected;
 use ident::{BlockHash, TxId};
 use std::alloc::AllocError;
 use std::slice::Iter;
@@ -90,6 +91,29 @@ impl<S: SigScheme> Core<S> {
             (number : ℕ) × IsPlaceOf (network_held self.now S.verifies) s hash.bytes (Beside number)) }
     {
         why_in(self.alloc, &self.chain_db, hash)
+    }
+
+    /// The live blocks beside the selected chain that no way leads to from it, one after the other, each once, those
+    /// with the greatest numbers first. None of them is in a valid chain of kept blocks through the immutable tip, so
+    /// whoever discards them loses no chain that could be selected as things are. Blocks may be among them that were
+    /// found invalid, or that go back to the chain by one that was. In constant time, and takes no memory; each step
+    /// takes time in proportion to the logarithm of the number of live blocks, once for the block that it gives and once
+    /// for each that it passes over since a way leads to it.
+    ///
+    /// ```text
+    /// let mut furthest = Vec::new(alloc); // what a node may do whose store of live blocks is full
+    /// for block in core.unconnected().take(100) {
+    ///     furthest.push(block.hash())?;
+    /// }
+    /// for hash in &furthest {
+    ///     core.discard(*hash)?;
+    /// }
+    /// ```
+    pub fn unconnected(&self) -> Unconnected<'_, S>
+        ensures { (s : State) → Stands self.now s →
+            AreUnconnected (network_held self.now S.verifies) s result }
+    {
+        unconnected_in(&self.chain_db)
     }
 
     /// Why these bytes would be refused if they were submitted: the reason against the transaction, with what it is

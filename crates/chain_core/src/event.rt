@@ -25,7 +25,7 @@ pub enum RawEvent {
     Forward(FollowerId, Vec<Point>),
     /// A follower is closed.
     Close(FollowerId),
-    /// A live block of this hash is to be kept no more.
+    /// The block of this hash is to be kept no more, if it is live and beside the selected chain.
     Discard(BlockHash),
 }
 

@@ -1,11 +1,11 @@
-//! Where a block is, by its hash.
+//! Where a block is, by its hash, and the blocks that no way leads to.
 
 ghost use Rattle.std.specs.Prelude.{◌≡◌, ◌↔◌, ◌⊎◌, Contains, IsTrue, MatchOption};
 ghost use Rattle.model.specs.Block.{block_hash_of};
 ghost use Rattle.model.specs.Ledger.{Network};
 ghost use Rattle.model.specs.History.{State, live_of};
 ghost use Rattle.model.specs.Chain.{NoneHas};
-ghost use Rattle.model.specs.Asked.{IsPlaceOf};
+ghost use Rattle.model.specs.Asked.{IsPlaceOf, AreUnconnected};
 ghost use Rattle.chain_core.specs.Asking.{place_of};
 ghost use Rattle.chain_core.specs.ChainDbs.{IsWhole, HasState};
 
@@ -13,6 +13,7 @@ use crate::chain_db::ChainDb;
 use crate::past::noted;
 use crate::place::block_at;
 use block::CheckedBlock;
+use blockstore::Unconnected;
 use ident::BlockHash;
 use witness_pool::SigScheme;
 
@@ -84,4 +85,13 @@ pub fn place_in<S: SigScheme>(chain_db: &ChainDb<S>, hash: BlockHash) -> Place
         Some(stored) => Place::Beside(stored.block().number()),
         None => Place::Unknown,
     }
+}
+
+/// The live blocks beside the selected chain that no way leads to, those that were found invalid, and those that a way
+/// leads to only by one that was, those with the greatest numbers first.
+pub fn unconnected_in<S: SigScheme>(chain_db: &ChainDb<S>) -> Unconnected<'_, S>
+    ensures { (network : Network) (s : State) → IsWhole network chain_db.now → HasState network chain_db.now s
+        → AreUnconnected network s result }
+{
+    chain_db.store.unconnected()
 }

@@ -16,10 +16,12 @@ mod past;
 mod place;
 mod refusal;
 mod reopening;
+mod shown;
 mod standing;
 mod why;
 
 pub use arrival::ArriveReply;
+pub use blockstore::Unconnected;
 pub use discarding::NotBeside;
 pub use event::{RawEvent, Reply};
 pub use finding::Place;

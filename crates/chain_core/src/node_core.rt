@@ -403,7 +403,7 @@ impl<S: SigScheme> Core<S> {
     }
 
     /// Closes the follower of this number, which may then be given again. Where no such follower is open nothing
-    /// changes. In constant time, and takes no memory.
+    /// changes. Takes time that grows with the logarithm of how many numbers are free, and no memory.
     pub fn close(&mut self, id: FollowerId) -> Result<(), UnknownFollower>
         ensures step { Steps S.verifies self.old (Close id.number) (close_reply_of result) self.new }
         ensures start { KeepsStart self.old self.new }
@@ -444,7 +444,7 @@ impl<S: SigScheme> Core<S> {
     /// Answers events in their order, one reply to each. Room for the replies is taken first: Err where memory runs
     /// out there, and then no event has come. Costs what the calls of the events cost, one after the other.
     pub fn run(&mut self, events: &[RawEvent]) -> Result<Vec<Reply<S>>, AllocError>
-        // Each is answered by its call, so what the calls promise holds of each, also of want of memory.
+        // Each is answered by its call, so what the calls promise holds of each, also of OutOfMemory.
         ensures calls { IfOk result (λ replies. AreCalls S.verifies self.old events.now replies.items self.new) }
         // Each event has a reply of its kind.
         ensures kinds { IfOk result (λ replies. AreRepliesTo events.now replies.items) }
@@ -522,7 +522,7 @@ impl<S: SigScheme> Core<S> {
         }
     }
 
-    /// Copies of the texts of the blocks that are never rolled back, but for the first `from` of them; none where
+    /// Copies of the texts of the blocks that are never rolled back, except the first `from` of them; none where
     /// there are no more. Err where memory runs out for these, and never where there are none. Copies the bytes of each
     /// once.
     pub fn copy_immutable(&self, from: u64) -> Result<Vec<Vec<u8>>, AllocError>

@@ -40,7 +40,7 @@ pub fn blocks_from<S: SigScheme>(chain: &[CheckedBlock<S>], from: u64) -> Iter<'
     chain[skipped..].iter()
 }
 
-/// Where the first so many blocks of the chain end, or all where there are fewer.
+/// Where the first `length` blocks of the chain end, or all where there are fewer.
 pub fn point_at<S: SigScheme>(chain: &[CheckedBlock<S>], length: u64) -> Point
     ensures { point_of result ≡ tip_point (take length chain.now) }
 {

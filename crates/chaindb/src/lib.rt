@@ -9,7 +9,8 @@
 //!
 //! - **Blocks** come in as bytes: [`Core::arrive`] answers how many blocks were rolled back and how many put on, or a
 //!   [`Refusal`]. [`Core::tip`], [`Core::block`], [`Core::utxo`] and [`Core::fees`] tell of the selected chain,
-//!   [`Core::place`] and [`Core::why`] of any block; [`Core::discard`] lets one go that isn't on it.
+//!   [`Core::place`] and [`Core::why`] of any block; [`Core::discard`] lets one go that isn't on it, and
+//!   [`Core::unconnected`] walks those that no way leads to from it.
 //! - **Transactions** come in as bytes too: [`Core::submit`] puts them into the mempool, and [`Core::forge`] makes the
 //!   next block of it. [`wallet`] has what they are made with.
 //! - **Followers** are told how the selected chain changes: [`Core::open`] opens one, and [`Core::next`] tells the next
@@ -30,7 +31,7 @@ pub use block::{BadBytes, CheckedBlock, MAX_BLOCK_SIZE, NotRead, Seen};
 pub use chain_core::{
     ArriveReply, Core, FollowerId, ForgeFault, Forged, Instruction, NextFault, NotBeside,
     OpenFollowerFault, Place, RawEvent, Refusal, ReopenFault, Reopening, Reply, TxPlace,
-    UnknownFollower, Why,
+    Unconnected, UnknownFollower, Why,
 };
 pub use genesis::{Genesis, GenesisDocument, GenesisFault, Grant, Scheme, SecondEra};
 pub use ident::{BlockHash, KeyHash, Point, ScriptHash, TxId};

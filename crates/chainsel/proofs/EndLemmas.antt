@@ -86,7 +86,7 @@ module _ (store : Store) (invalid : List BlockHash) (new : Block) where
     (λ by. (after b).1 (one_less n ends b are by)),
   )
 
-  -- where no path has so many blocks, none has as many or more
+  -- where no path has `n + 1` blocks, none has as many or more
   none_longer : (n m : ℕ) (b : Block) → AreEnds store invalid new (n + 1) [] → DescendsBy store invalid new m b → m ≤ n
   none_longer n m b none by =
       elim (cases_lt n m) [

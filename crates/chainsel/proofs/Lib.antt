@@ -19,3 +19,4 @@ pub mod Explaining
 pub mod Answering
 pub mod Settling
 pub mod ForCallers
+pub mod OnWays

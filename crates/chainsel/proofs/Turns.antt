@@ -36,7 +36,7 @@ pub match_some : {T : Type 0} (A : Type 0) (B : T → Type 0) (o : Option T) (x 
 match_some A B o x is some = subst (λ p. MatchOption p A B) some is
 
 module _ (network : Network) (chain : List Block) (store : Store) (db : Database) (new : Block) (ready : IsReady network chain store db new) where
-  -- so many blocks of the chain can't be rolled back
+  -- how many blocks of the chain can't be rolled back
   pub immutable_is : (n d : ℕ) → n ≡ length chain - d → d ≡ depth db → n ≡ immutable_length network chain
   immutable_is n d is depth_is = let e = ready.settled.depth in omega (arith, is, depth_is, e)
 

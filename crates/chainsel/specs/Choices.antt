@@ -32,7 +32,7 @@ IsSelected network store chain new selected =
     (kept : List Block) → HoldsLive network kept chain store → AllByRecursion (Contains kept) chain
     → IsSelection network (new ∷ kept) chain selected
 
--- The chain without its last `back` blocks, and with these after it, is selected. Just so many are rolled back, no
+-- The chain without its last `back` blocks, and with these after it, is selected. Just `back` are rolled back, no
 -- more than the database can, and just these are put on. They are live or the block that came, and what they make is
 -- prepared.
 pub record IsSwitch {S : Type 0} (network : Network) (chain : List Block) (store : Store) (db : Database)

@@ -11,12 +11,12 @@ use Rattle.blockstore.specs.Stored.{Store}
 use Rattle.chainsel.specs.Paths.{IsFitLive, Descends}
 use Rattle.chainsel.specs.declared.furthest.Walk.{Walk}
 
--- the block goes on from another by so many blocks
+-- the block goes on from another by `n` blocks
 pub record DescendsBy (store : Store) (invalid : List BlockHash) (new : Block) (n : ℕ) (b : Block) : Type 0 where
   pub descends : Descends store invalid new b
   pub count : length descends.path ≡ n
 
--- all blocks that go on from one by so many
+-- all blocks that go on from one by `n` blocks
 abbrev pub AreEnds : Store → List BlockHash → (new : Block) → (n : ℕ) → (ends : List Block) → Type 0
 AreEnds store invalid new n ends = (b : Block) → Contains ends b ↔ DescendsBy store invalid new n b
 

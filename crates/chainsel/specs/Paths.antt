@@ -10,7 +10,7 @@ use Rattle.model.specs.Chain.{genesis_tip, tip_at, tip_after, IsLinked}
 use Rattle.ident.specs.Kinds.{BlockHash}
 use Rattle.blockstore.specs.Stored.{Stored, Store}
 
--- nothing is known against a live block: it has no mark, and isn't among those that were found dead by now
+-- nothing is known against a live block: it has no mark, and isn't among those that were found dead so far
 pub record IsFit (invalid : List BlockHash) (stored : Stored) : Type 0 where
   pub unmarked : stored.invalid ≡ false
   pub unfound : AllByRecursion (λ hash. hash.bytes ≢ block_hash_of stored.block) invalid

@@ -30,7 +30,7 @@ fn index_of<S: SigScheme>(blocks: &[CheckedBlock<S>], hash: BlockHash) -> Option
 }
 
 /// The state after these blocks behind the chain without its last `back` ones, if each of them is applied. Takes the
-/// time to judge them, and to roll so many back.
+/// time to judge them, and to roll those back.
 fn state_on<S: SigScheme>(
     db: &LedgerDb,
     back: usize,

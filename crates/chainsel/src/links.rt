@@ -59,7 +59,7 @@ pub fn follows_chain<S: SigScheme>(
     chain_tip(&chain[..keep]).precedes(block)
 }
 
-/// Whether nothing is known against a live block: it has no mark, and isn't among those that were found dead by now.
+/// Whether nothing is known against a live block: it has no mark, and isn't among those that were found dead so far.
 /// Takes a look-up.
 pub fn is_fit<S: SigScheme>(found: &Found, stored: &StoredBlock<S>) -> bool
     ensures { IsTrue result ↔ IsFit found.now.hashes.items stored.now }

@@ -19,7 +19,7 @@ use std::alloc::{AllocError, Global};
 use witness_pool::SigScheme;
 
 /// What becomes of the selected chain, of which the first `immutable` blocks stay, when this block comes to the live
-/// ones, of which these were found dead by now.
+/// ones, of which these were found dead so far.
 ///
 /// Takes a look-up of successors for each block that goes on from the new one, a look-up for each block on the way to
 /// the new one, and the time to judge the longest path. Where a block of that is dead, the blocks before it are judged

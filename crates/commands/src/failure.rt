@@ -43,8 +43,7 @@ pub enum Failure<'a> {
 }
 
 impl<'a> Failure<'a> {
-    /// The same with what the fault of a line is about, where so much of the script was kept and there is memory for
-    /// it.
+    /// The same with what the fault of a line is about, where enough of the script was kept and there is memory for it.
     pub fn explained(self, alloc: Global, script: Option<&[u8]>) -> Failure<'a> {
         match (self, script) {
             (

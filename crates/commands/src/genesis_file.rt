@@ -5,10 +5,14 @@ ghost use Rattle.genesis.specs.Meaning.{NamesScheme};
 ghost use Rattle.commands.specs.GenesisFile.{IsFileAnswer, IsDocumentOfFile, IsReadFault, IsNoGenesis, IsUnhinted};
 ghost use Rattle.hints.specs.HintView.{Tells};
 
+use crate::failure::Failure;
 use genesis::{GenesisDocument, GenesisFault};
 use hints::GenesisHint;
+use scenario::ScenarioFault;
 use std::alloc::Global;
+use std::fs::File;
 use std::io::{Error, ErrorKind, Read};
+use std::rt::Files;
 use std::str;
 
 /// The most bytes that a genesis file may have. One of 10,000 outputs takes a tenth of them, without comments.
@@ -92,5 +96,38 @@ pub fn read_genesis<R: Read>(
             let hint = hint_of(alloc, &bytes, explain);
             Err(NoGenesis::Fault { fault, hint })
         }
+    }
+}
+
+/// Why a genesis file of this path says no genesis.
+fn genesis_failure<'a>(path: &'a str, why: NoGenesis) -> Failure<'a> {
+    match why {
+        NoGenesis::Unread => Failure::CannotRead(path),
+        NoGenesis::Fault { fault, hint } => match fault.number() {
+            Some(number) => Failure::Genesis {
+                number,
+                fault,
+                hint,
+            },
+            None => Failure::Scenario(ScenarioFault::OutOfMemory),
+        },
+    }
+}
+
+/// The genesis that a file says, and the scheme of its network. What a fault is about is told where it is to be
+/// explained.
+pub fn genesis_of_file<'a, R: Files + AllocGlobal>(
+    rt: &R,
+    path: &'a str,
+    explain: bool,
+) -> Result<GenesisDocument, Failure<'a>> {
+    let Ok(file) = File::open(rt, path) else {
+        return Err(Failure::CannotRead(path));
+    };
+    // One byte more than a genesis file may have makes it too large, so a file without end takes no more memory.
+    let mut bytes = file.take(MAX_GENESIS_SIZE + 1);
+    match read_genesis(rt.alloc(), &mut bytes, explain) {
+        Ok(document) => Ok(document),
+        Err(why) => Err(genesis_failure(path, why)),
     }
 }

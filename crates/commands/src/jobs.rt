@@ -14,7 +14,7 @@ pub enum Job<'a> {
         explain: bool,
     },
     /// Have the peers of this file's script send blocks under the genesis of this one, each in a thread of its own, and
-    /// so many clients follow the chain.
+    /// this many clients follow the chain.
     Sim {
         genesis: &'a str,
         script: &'a str,

@@ -6,9 +6,12 @@ mod descriptors;
 mod failure;
 mod genesis_file;
 mod jobs;
+mod log_file;
 mod log_runs;
 mod program;
 mod recorded;
+mod runs;
+mod script_file;
 
 pub use command_line::job;
 pub use descriptors::hold_descriptors;

@@ -1,143 +1,25 @@
 //! The start of the program: from its words to its status.
 
-ghost use Rattle.std.specs.Prelude.{◌≡◌, ◌≢◌, ◌≤◌, ◌⊎◌, IfErr, IfSome, OnOk};
+ghost use Rattle.std.specs.Prelude.{◌≡◌, ◌≢◌, ◌≤◌, ◌⊎◌};
 ghost use Rattle.clap.specs.Words.{kind_of};
-ghost use Rattle.model.specs.Ledger.{network_of};
-ghost use Rattle.scenario.specs.Run.{EndsWell};
-ghost use Rattle.commands.specs.Ending.{EndsBySome, options_by};
 ghost use Rattle.commands.specs.Schemes.{verifies_by};
 
 use crate::command_line::job;
 use crate::failure::Failure;
-use crate::genesis_file::{MAX_GENESIS_SIZE, NoGenesis, read_genesis};
+use crate::genesis_file::genesis_of_file;
 use crate::jobs::Job;
 use crate::log_runs::{replay, run_logged};
-use crate::recorded::Recorded;
+use crate::runs::{run_file, sim_file};
 use clap::Error;
 use clap::error::ErrorKind;
 use genesis::{GenesisDocument, Scheme};
-use scenario::{Options, ScenarioFault};
-use simulation::{Clients, sim};
-use std::alloc::{AllocError, Global};
+use scenario::ScenarioFault;
 use std::fs::File;
-use std::io::{BufReader, Read, Write};
+use std::io::Write;
 use std::rt::Files;
 use std::sync::Wait;
 use std::thread::Threads;
-use witness_pool::{Ed25519, OpenGate, SigScheme, TestScheme};
-
-/// Why a genesis file of this path says no genesis.
-fn genesis_failure<'a>(path: &'a str, why: NoGenesis) -> Failure<'a> {
-    match why {
-        NoGenesis::Unread => Failure::CannotRead(path),
-        NoGenesis::Fault { fault, hint } => match fault.number() {
-            Some(number) => Failure::Genesis {
-                number,
-                fault,
-                hint,
-            },
-            None => Failure::Scenario(ScenarioFault::OutOfMemory),
-        },
-    }
-}
-
-/// The genesis that a file says, and the scheme of its network. What a fault is about is told where it is to be
-/// explained.
-fn genesis_of_file<'a, R: Files + AllocGlobal>(
-    rt: &R,
-    path: &'a str,
-    explain: bool,
-) -> Result<GenesisDocument, Failure<'a>> {
-    let Ok(file) = File::open(rt, path) else {
-        return Err(Failure::CannotRead(path));
-    };
-    // One byte more than a genesis file may have makes it too large, so a file without end takes no more memory.
-    let mut bytes = file.take(MAX_GENESIS_SIZE + 1);
-    match read_genesis(rt.alloc(), &mut bytes, explain) {
-        Ok(document) => Ok(document),
-        Err(why) => Err(genesis_failure(path, why)),
-    }
-}
-
-/// Runs the script that a reader gives, read through a buffer, on a network of this genesis. Where it is explained, more
-/// is told of a transaction that is refused and a block that isn't selected.
-fn run_reader<S: SigScheme, R: Read, W: Write>(
-    alloc: Global,
-    document: GenesisDocument,
-    explain: bool,
-    reader: &mut R,
-    out: &mut W,
-) -> Result<(), ScenarioFault>
-    requires { S.verifies ≡ verifies_by document.scheme }
-    // What is signed and what is judged goes by the scheme of the genesis file.
-    ensures ok { OnOk result (IfSome (R.remaining reader.old)
-        (λ text. EndsWell (options_by document.scheme explain)
-        (network_of document.genesis (verifies_by document.scheme)) text (W.contents out.old) (W.contents out.new))) }
-    ensures fault { IfErr result (λ why. IfSome (R.remaining reader.old)
-        (λ text. EndsBySome (options_by document.scheme explain)
-        (network_of document.genesis (verifies_by document.scheme)) text (W.contents out.old) (W.contents out.new)
-        why)) }
-{
-    let GenesisDocument { genesis, scheme } = document;
-    let Ok(mut reader) = BufReader::new(alloc, reader) else {
-        return Err(ScenarioFault::OutOfMemory);
-    };
-    let options = Options { scheme, explain };
-    scenario::run::<S, _, _>(alloc, genesis, options, &mut reader, out)
-}
-
-/// Runs the script of a file on a network of this genesis. What is refused or not selected and what a fault is about is
-/// told where it is to be explained.
-fn run_file<'a, S: SigScheme, R: Files + AllocGlobal, W: Write>(
-    rt: &R,
-    document: GenesisDocument,
-    path: &'a str,
-    explain: bool,
-    out: &mut W,
-) -> Result<(), Failure<'a>>
-    requires { S.verifies ≡ verifies_by document.scheme }
-{
-    let Ok(file) = File::open(rt, path) else {
-        return Err(Failure::CannotRead(path));
-    };
-    // One byte more than a script may have makes its line a bad one, so a line without end takes no more memory.
-    let script = file.take(scenario::MAX_SCRIPT_SIZE + 1);
-    let mut script = Recorded::new(rt.alloc(), script, explain);
-    match run_reader::<S, _, _>(rt.alloc(), document, explain, &mut script, out) {
-        Ok(()) => Ok(()),
-        Err(fault) => Err(Failure::Scenario(fault).explained(rt.alloc(), script.kept())),
-    }
-}
-
-/// Runs the simulation that the script of a file says, with so many clients, on a network of this genesis.
-fn sim_file<
-    'a,
-    S: SigScheme + Send + Sync,
-    R: Files + AllocGlobal + Threads + Wait + Sync,
-    W: Write,
->(
-    rt: &R,
-    document: GenesisDocument,
-    path: &'a str,
-    clients: Clients,
-    out: &mut W,
-) -> Result<(), Failure<'a>>
-    requires { S.verifies ≡ verifies_by document.scheme }
-{
-    let GenesisDocument { genesis, scheme } = document;
-    let Ok(file) = File::open(rt, path) else {
-        return Err(Failure::CannotRead(path));
-    };
-    // One byte more than a script may have makes its line a bad one, so a line without end takes no more memory.
-    let script = file.take(scenario::MAX_SCRIPT_SIZE + 1);
-    let Ok(mut reader) = BufReader::new(rt.alloc(), script) else {
-        return Err(Failure::Scenario(ScenarioFault::OutOfMemory));
-    };
-    match sim::<S, _, _, _, _>(rt, genesis, scheme, &mut reader, out, clients, &OpenGate) {
-        Ok(()) => Ok(()),
-        Err(fault) => Err(Failure::Scenario(fault)),
-    }
-}
+use witness_pool::{Ed25519, SigScheme, TestScheme};
 
 /// Tells why a command line is no job, and answers the status.
 fn refuse<O: Write, E: Write>(error: &Error, out: &mut O, err: &mut E) -> u8

@@ -193,13 +193,13 @@ abbrev pub without_witnesses : Draft → Draft
 without_witnesses d = record d { signers = []; scripts = [] }
 
 -- whatever is minted and whatever identifier is signed, no transaction of the parts of the draft is refused for another
--- fault than want of memory
+-- fault than OutOfMemory
 abbrev pub IsFaultless : Draft → Type 0
 IsFaultless d =
     (outputs : List Output) (mint : Mint) (id : List ℕ) → AllZip IsOutputOf d.outputs outputs
     → IsPartsFault (parts_with d outputs mint id) faults.OutOfMemory
 
--- No mint of what is minted is refused for another fault than want of memory, and no transaction of the parts is, with
+-- No mint of what is minted is refused for another fault than OutOfMemory, and no transaction of the parts is, with
 -- witnesses or without them.
 pub record HasNoFault (d : Draft) : Type 0 where
   pub mint : values.IsAssetFault (λ quantity. quantity) d.mint asset_faults.OutOfMemory

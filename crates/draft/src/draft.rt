@@ -195,7 +195,7 @@ impl<K: Signer + Drop> Draft<K> {
     pub fn finish(self) -> Result<Tx, AllocError>
         ensures tx { (draft : model.Draft) → IsDraftOf K.signer self draft → IfOk result (λ tx. IsTxOfDraft draft tx) }
         ensures spelled { IfOk result (λ tx. SpellsTransaction tx (text_of (item_of_transaction tx))) }
-        // Neither mint nor transaction is refused for a fault of the parts, so want of memory alone ends it.
+        // Neither mint nor transaction is refused for a fault of the parts, so only a lack of memory ends it.
         ensures err { OnErr result ((draft : model.Draft) → IsDraftOf K.signer self draft → HasNoFault draft) }
     {
         let mint = mint_of(self.alloc, self.mint.into_items())?;

@@ -46,7 +46,7 @@ fn witnesses_by<K: Signer>(
 }
 
 /// The transaction of these parts. Err where they are at fault, or memory ran out. Those of a draft have no fault, with
-/// or without witnesses (`Draft::finish`), so for them Err tells want of memory alone.
+/// or without witnesses (`Draft::finish`), so for them Err tells only that memory ran out.
 fn tx_of(alloc: Global, parts: TxParts) -> Result<Tx, AllocError>
     ensures { IfOk result (λ tx. IsTxOf tx (parts_of parts)) }
 {

@@ -76,7 +76,7 @@ pub not_shared : (network : Network) (texts : List (List ℕ)) (callers : ℕ) (
 not_shared network texts callers opening.BadCallers is = is
 not_shared network texts callers opening.OutOfMemory is = is
 
--- where the core's fault is want of memory the shared one's tells of no block, nor does that of a shared core
+-- where the core's fault is OutOfMemory the shared one's tells of no block, nor does that of a shared core
 pub reopening_tells_none : (fault : ReopenFault) → fault ≡ OutOfMemory → TellsNoBlock (reopening_fault fault)
 reopening_tells_none fault is = subst (λ (f : ReopenFault). TellsNoBlock (reopening_fault f)) (sym is) tt
 

@@ -22,7 +22,7 @@ use std::sync::Wait;
 use witness_pool::SigScheme;
 
 impl<S: SigScheme> Restart<S> {
-    /// A shared core for so many callers, 1 to 64, on the blocks that were given: its journal begins there, and its
+    /// A shared core for `callers` callers, 1 to 64, on the blocks that were given: its journal begins there, and its
     /// height is how many they are. Err where the callers are fewer or more, else at the first block that is none or
     /// can't come next, or where memory ran out.
     pub fn shared(self, callers: usize) -> Result<Opened<S>, SharedOnFault>

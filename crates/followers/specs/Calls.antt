@@ -26,7 +26,7 @@ pub record IsMovedOn (old : Places) (id height : ℕ) (due : Option Due) (new : 
   pub told : due ≡ due_of height place
   pub after : new ≡ slice_set old id (Some (place_after height place))
 
--- the follower of this number is open, and then stands at the end of so many blocks
+-- the follower of this number is open, and then stands at the end of the first `n` blocks
 pub record IsForwarded (old : Places) (id n : ℕ) (new : Places) : Type 0 where
   pub place : Place
   pub is_open : follower_of old id ≡ Some place

@@ -8,11 +8,11 @@ use Rattle.followers.specs.declared.place.Due.TheVariants.{Add, RollBack}
 abbrev pub Places : Type 0
 Places = List (Option Place)
 
--- at the end of so many blocks
+-- at the end of the first `n` blocks
 abbrev pub standing : ℕ → Place
 standing n = record { told = n; agreed = n }
 
--- of what was agreed the selected chain has so many blocks at most
+-- of what was agreed the selected chain has `common` blocks at most
 abbrev pub moved_place : ℕ → Place → Place
 moved_place common place = record { told = place.told; agreed = min place.agreed common }
 

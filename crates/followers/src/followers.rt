@@ -11,7 +11,7 @@ use std::cmp::Reverse;
 use std::collections::BinaryHeap;
 use std::marker::Model;
 
-/// Where a follower stands once the selected chain has only so many of the blocks that it had, if one is open.
+/// Where a follower stands once the selected chain has only `common` of the blocks that it had, if one is open.
 fn moved_if_open(place: Option<Place>, common: u64) -> Option<Place>
     ensures { result ≡ option_map (moved_place common) place }
 {
@@ -103,7 +103,7 @@ impl Followers {
         self.place(id).is_some()
     }
 
-    /// What the follower of this number is told next, beside a selected chain of so many blocks. Nothing changes. In
+    /// What the follower of this number is told next, beside a selected chain of `height` blocks. Nothing changes. In
     /// constant time, and takes no memory.
     pub fn due(&self, id: FollowerId, height: u64) -> Result<Option<Due>, UnknownFollower>
         ensures ok { IfOk result (λ due. (place : Standing) × (follower_of self.now id.number ≡ Some place)
@@ -116,8 +116,8 @@ impl Followers {
         }
     }
 
-    /// Tells the follower of this number what comes next, beside a selected chain of so many blocks. Where none is open
-    /// nothing changes. In constant time, and takes no memory.
+    /// Tells the follower of this number what comes next, beside a selected chain of `height` blocks. Where none is
+    /// open nothing changes. In constant time, and takes no memory.
     pub fn next(&mut self, id: FollowerId, height: u64) -> Result<Option<Due>, UnknownFollower>
         ensures ok { IfOk result (λ due. IsMovedOn self.old id.number height due self.new) }
         ensures unknown { OnErr result (follower_of self.old id.number ≡ None) }
@@ -130,7 +130,7 @@ impl Followers {
         Ok(place.due(height))
     }
 
-    /// Sets the follower of this number to the end of the first so many blocks of the selected chain. Where none is
+    /// Sets the follower of this number to the end of the first `length` blocks of the selected chain. Where none is
     /// open nothing changes. In constant time, and takes no memory.
     pub fn forward(&mut self, id: FollowerId, length: u64) -> Result<(), UnknownFollower>
         ensures ok { OnOk result (IsForwarded self.old id.number length self.new) }
@@ -161,8 +161,8 @@ impl Followers {
         Ok(())
     }
 
-    /// Another chain is selected, which has so many blocks in common with the old one. Looks at each follower once, and
-    /// takes no memory.
+    /// Another chain is selected, which has `common` blocks in common with the old one. Looks at each follower once,
+    /// and takes no memory.
     pub fn moved(&mut self, common: u64)
         ensures { self.new ≡ moved_places common self.old }
     {

@@ -4,11 +4,11 @@
 //! ```text
 //! let id = followers.open()?; // it stands at genesis
 //! match followers.next(id, chain.len())? {
-//!     Some(Due::Add { after }) => .., // the block behind the first so many
-//!     Some(Due::RollBack { to }) => .., // to the end of the first so many
+//!     Some(Due::Add { after }) => .., // the block behind the first `after`
+//!     Some(Due::RollBack { to }) => .., // to the end of the first `to`
 //!     None => .., // it was told the whole chain
 //! }
-//! followers.moved(common); // of the old chain the new one has so many blocks
+//! followers.moved(common); // of the old chain the new one has `common` blocks
 //! ```
 #![tactic(auto)]
 

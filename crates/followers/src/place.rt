@@ -13,14 +13,14 @@ pub struct Place {
 /// What a follower is told next, in blocks of the selected chain.
 #[derive(Clone, Copy, Debug, PartialEq, Eq)]
 pub enum Due {
-    /// To put on the block behind the first so many.
+    /// To put on the block behind the first `after`.
     Add { after: u64 },
-    /// To go back to the end of the first so many.
+    /// To go back to the end of the first `to`.
     RollBack { to: u64 },
 }
 
 impl Place {
-    /// The end of so many blocks.
+    /// The end of the first `length` blocks.
     pub fn standing(length: u64) -> Place
         ensures { result ≡ standing length }
     {
@@ -30,7 +30,7 @@ impl Place {
         }
     }
 
-    /// The selected chain has only so many of the blocks that it had.
+    /// The selected chain has only `common` of the blocks that it had.
     pub fn moved(self, common: u64) -> Place
         ensures { result ≡ moved_place common self }
     {

@@ -137,8 +137,7 @@ fn body_of(alloc: Global, text: &[u8]) -> &[u8] {
     text.get(begin..).unwrap_or(&[])
 }
 
-/// Makes `out` the text of the block of this body in the place of the one of a text, or in a slot that is so much
-/// later.
+/// Makes `out` the text of the block of this body in the place of the one of a text, or in a slot that is `late` later.
 fn put_made(alloc: Global, out: &mut Vec<u8>, text: &[u8], body: &[u8], late: u64) {
     out.clear();
     if let Ok(block) = block::read(alloc, text) {
@@ -196,7 +195,7 @@ impl Cores {
     }
 }
 
-/// So many arrivals, at new cores.
+/// `rounds` arrivals, at new cores.
 fn run_some(
     alloc: Global,
     blocks: &[Vec<u8>],
@@ -218,7 +217,7 @@ fn run_some(
     }
 }
 
-/// So many arrivals, at new cores after some.
+/// `rounds` arrivals, at new cores after some.
 pub fn run(
     alloc: Global,
     blocks: &[Vec<u8>],

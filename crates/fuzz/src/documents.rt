@@ -45,7 +45,7 @@ fn count(alloc: Global, text: &[u8], behind: &[u8], tally: &mut Tally) {
     }
 }
 
-/// So many rounds of changed texts.
+/// `rounds` rounds of changed texts.
 pub fn run(alloc: Global, texts: &[Vec<u8>], rounds: u64, random: &mut Random, tally: &mut Tally) {
     let mut changed = Vec::new(alloc);
     let mut behind = Vec::new(alloc);

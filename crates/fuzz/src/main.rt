@@ -3,7 +3,7 @@
 //! that get random trees of good and bad blocks select a longest chain of good ones, and a comment before a genesis
 //! file or a script changes nothing.
 //!
-//! `fuzz SEED ROUNDS` does so many rounds of each kind, and a hundredth as many trees, the same ones for the same seed.
+//! `fuzz SEED ROUNDS` does ROUNDS rounds of each kind, and a hundredth as many trees, the same ones for the same seed.
 #![tactic(auto)]
 
 mod arrivals;
@@ -50,7 +50,7 @@ fn good_texts(alloc: Global) -> Option<Good> {
     })
 }
 
-/// So many rounds of texts of one kind, of which this is told.
+/// `rounds` rounds of texts of one kind, of which this is told.
 fn run_texts(
     alloc: Global,
     name: &'static str,
@@ -113,7 +113,7 @@ fn run_trees(
     }
 }
 
-/// So many rounds of each kind, with the numbers of this seed.
+/// `rounds` rounds of each kind, with the numbers of this seed.
 fn run_all(alloc: Global, good: &Good, seed: u64, rounds: u64, out: &mut String) {
     let mut random = Random::new(seed);
     let r = &mut random;

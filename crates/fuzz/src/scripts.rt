@@ -60,7 +60,7 @@ fn count(alloc: Global, script: &[u8], behind: &[u8], tally: &mut Tally) {
     }
 }
 
-/// So many rounds of changed scripts, of what one asks behind what defines its names.
+/// `rounds` rounds of changed scripts, of what one asks behind what defines its names.
 pub fn run(alloc: Global, rounds: u64, random: &mut Random, tally: &mut Tally) {
     let mut whole = Vec::new(alloc);
     put(&mut whole, DEFINING.as_bytes());

@@ -127,7 +127,7 @@ fn count(alloc: Global, kind: Kind, bytes: &[u8], tally: &mut Tally) {
     }
 }
 
-/// So many rounds of changed texts of this kind.
+/// `rounds` rounds of changed texts of this kind.
 pub fn run(
     alloc: Global,
     kind: Kind,

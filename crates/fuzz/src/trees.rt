@@ -94,7 +94,7 @@ impl Tree {
         }
     }
 
-    /// A tree of so many blocks, some of which have the payment.
+    /// A tree of `BLOCKS` blocks, some of which have the payment.
     fn grow(alloc: Global, payment: &[u8], random: &mut Random) -> Tree {
         let mut tree = Tree {
             texts: Vec::new(alloc),
@@ -195,7 +195,7 @@ fn do_agree(alloc: Global, tree: &Tree, random: &mut Random) -> Option<bool> {
     Some(selected && tree.is_selected(&again))
 }
 
-/// Grows so many trees, and tells how many cores didn't select what they are to.
+/// Grows `trees` trees, and tells how many cores didn't select what they are to.
 pub fn run(alloc: Global, payment: &[u8], trees: u64, random: &mut Random, out: &mut String) {
     let mut differing: u64 = 0;
     let mut bad: u64 = 0;

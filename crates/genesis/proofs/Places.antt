@@ -23,7 +23,7 @@ bytes_of : (answer : Result (List ℕ) FromHexError) (bytes : List ℕ) → resu
 bytes_of (Ok found) bytes is = ap Ok (same_Some found bytes is)
 bytes_of (Err e) bytes is = absurd (none-some bytes is)
 
--- and so many
+-- and how many these are
 decoded_length : (text bytes : List ℕ) (count : ℕ) → decode_sized text count ≡ Ok bytes → length bytes ≡ count
 decoded_length text bytes count is =
     let twice = decode_sized-ok text count bytes is in

@@ -81,7 +81,7 @@ settings_of numbers = do
 
 -- ---- the addresses
 
--- so many bytes, written in hexadecimal digits of either case
+-- `count` bytes, written in hexadecimal digits of either case
 abbrev pub decoded : List ℕ → (count : ℕ) → Option (List ℕ)
 decoded text count = result_ok (decode_sized text count)
 

@@ -20,7 +20,7 @@ use Rattle.genesis.specs.declared.scheme.Scheme.TheVariants as schemes
 use Rattle.genesis.specs.Steps.{Paired}
 use Rattle.genesis.specs.Document.{EraNumbers, Numbers, Lock, ByAddress, ByKey, Entry, Written, written_in}
 
--- the number of a fault, 1 to 6; want of memory is none of the text's faults
+-- the number of a fault, 1 to 6; OutOfMemory is none of the text's faults
 abbrev pub number_of : GenesisFault → ℕ
 number_of faults.OutOfMemory = 0
 number_of faults.NotToml = 1
@@ -174,7 +174,7 @@ Applies text faults.OutOfMemory = ⊥
 abbrev pub IsLeastFault : List ℕ → GenesisFault → Type 0
 IsLeastFault text fault = IsFirst number_of (Applies text) fault
 
--- a fault is the least of the text's; want of memory says nothing
+-- a fault is the least of the text's; OutOfMemory says nothing
 abbrev pub IsToldFault : List ℕ → GenesisFault → Type 0
 IsToldFault text faults.OutOfMemory = Unit {0}
 IsToldFault text fault = IsLeastFault text fault

@@ -68,11 +68,11 @@ impl Genesis {
 
     /// The genesis that a TOML document says: `network` (0 to 15), `k` (1 to 10,000), `min_fee_a` (at most
     /// 1,000,000), `min_fee_b` and `min_utxo` (at most 1,000,000,000,000), `max_tx_size` (1 to 65,536), `max_body_size`
-    /// (1 to 1,048,000), `max_volatile` and `max_mempool` (1 to 100,000), `max_volatile_bytes` (1 to 2^40), which may be
-    /// missing, both or none of `era2_slot` (1 to 2^63 - 1) and `per_asset` (at most 1,000,000,000,000), and `output`,
-    /// an array of tables, each with `coin` and just one of `address` (66 hexadecimal digits) and `key` (64 of them).
-    /// `scheme` may stand there too, `"test"` or `"ed25519"`, and where it is missing the scheme is the tests':
-    /// `GenesisDocument::from_toml` tells it. Err is the first of the faults that applies to the whole text, or
+    /// (1 to 1,048,000), `max_volatile` and `max_mempool` (1 to 100,000), `max_volatile_bytes` (1 to 2^40), which may
+    /// be missing, both or none of `era2_slot` (1 to 2^63 - 1) and `per_asset` (at most 1,000,000,000,000), and
+    /// `output`, an array of tables, each with `coin` and just one of `address` (66 hexadecimal digits) and `key` (64
+    /// of them). `scheme` may stand there too, `"test"` or `"ed25519"`, and where it is missing the scheme is the
+    /// tests': `GenesisDocument::from_toml` tells it. Err is the first of the faults that applies to the whole text, or
     /// OutOfMemory. Takes time and memory in proportion to the text.
     pub fn from_toml(alloc: Global, text: &str) -> Result<Genesis, GenesisFault>
         ensures exact { Gives (λ genesis. genesis) result (genesis_of text.now) }

@@ -16,7 +16,7 @@ use tx::Address;
 /// The largest sum of all coins.
 const MAX_SUPPLY: u64 = (1 << 63) - 1;
 
-/// So much lovelace, which stands at an address from the start: 1 or more.
+/// An amount of lovelace, which stands at an address from the start: 1 or more.
 #[derive(Clone, Copy, Debug, PartialEq, Eq)]
 pub struct Grant {
     pub address: Address,

@@ -23,7 +23,7 @@ pub struct Placed {
     pub coin: i64,
 }
 
-/// The address of so many hexadecimal digits, where it is of this network.
+/// The address of these hexadecimal digits, where it is of this network.
 #[tactic(auto, unfolding(crate::specs::Judgement::address_of_lock))]
 fn address_of_text(network: u8, text: &str) -> Option<Address>
     ensures { option_map address_of result ≡ address_of_lock network (ByAddress text.now) }

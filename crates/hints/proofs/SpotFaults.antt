@@ -299,11 +299,11 @@ coin_of_grant grant = grant.coin
 abbrev limited_after : ℕ → List Grant → Option (List Grant)
 limited_after sum grants = if nat_lt (sum + sum_by coin_of_grant grants) number_limit then Some grants else None
 
--- one more coin, of so much
+-- one more coin, of this much
 abbrev with_coin : Placed → ℕ → Grant
 with_coin placed coin = record { address = placed.address; coin = coin }
 
--- what was found doesn't matter, but that something was
+-- what was found doesn't matter, only that something was
 told_some : {X Y : Type 0} (fault : GenesisFault) (x : X) (y : Y) (spot : Option Spot) → Told fault (Some x) spot → Told fault (Some y) spot
 told_some fault x y None told = tt
 told_some fault x y (Some s) told = absurd told

@@ -47,7 +47,7 @@ fn key_start(alloc: Global, document: &[u8], key: &str) -> Result<Option<usize>,
 }
 
 /// Where the header of an output stands, counted from 0: a line that begins with two brackets. None where there are
-/// not so many.
+/// not that many.
 fn header_start(document: &[u8], output: usize) -> Option<usize> {
     let mut left = output;
     let mut begins = true;
@@ -68,7 +68,7 @@ fn is_header(document: &[u8], place: usize) -> bool {
     document.get(place) == Some(&b'[') && document.get(place.saturating_add(1)) == Some(&b'[')
 }
 
-/// Whether a document has so many outputs, as its reader reads it.
+/// Whether a document has `count` outputs, as its reader reads it.
 fn has_outputs(alloc: Global, document: &[u8], count: usize) -> Result<bool, AllocError> {
     match toml::table_from_slice(alloc, document) {
         Ok(table) => match table.get("output") {

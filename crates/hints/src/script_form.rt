@@ -89,7 +89,7 @@ impl Form {
         })
     }
 
-    /// The form of a line that begins with this word, and has so many behind it.
+    /// The form of a line that begins with this word, and has `behind` words behind it.
     pub fn of_line(first: &str, behind: usize) -> Option<Form> {
         match first {
             "tip" | "mempool" | "utxo" => Form::line(NONE, Rest::Nothing),

@@ -228,7 +228,7 @@ fn found_in(words: &[&str], fault: LineFault, bound: &BoundSoFar<'_>) -> Found {
     }
 }
 
-/// Where the line of this number begins, counted from 1: behind so many line feeds less one.
+/// Where the line of this number begins, counted from 1: behind `number - 1` line feeds.
 fn line_start(text: &[u8], number: u64) -> usize {
     let mut left = number.saturating_sub(1);
     for (place, byte) in text.iter().enumerate() {
@@ -249,7 +249,7 @@ fn first_line(text: &[u8]) -> &[u8] {
 }
 
 impl ScriptHint {
-    /// Of the word that begins so many bytes behind the beginning of the line of this number, counted from 1.
+    /// Of the word that begins `before` bytes behind the beginning of the line of this number, counted from 1.
     fn at(
         alloc: Global,
         number: u64,

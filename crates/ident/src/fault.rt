@@ -8,7 +8,7 @@ pub enum IdentFault {
     /// The text has an odd number of digits.
     #[error("an odd number of hexadecimal digits")]
     OddDigits,
-    /// There are so many bytes, and not 32.
+    /// There are `bytes` bytes, and not 32.
     #[error("{bytes} bytes in place of 32")]
     WrongLength { bytes: usize },
     /// The character at this index, in bytes, is no hexadecimal digit.

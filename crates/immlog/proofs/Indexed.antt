@@ -94,7 +94,7 @@ gate_is blocks bytes gate rest place =
 
 -- ---- rows
 
--- this is the next block, where so many of a row are on the disk behind those before
+-- this is the next block, where the first `i` of a row are on the disk behind those before
 pub record IsNext (old now : List (List ℕ)) (xs : List (Vec ℕ Global)) (i : ℕ) (block : List ℕ) : Type 0 where
   pub row : old ++ lists_of xs ≡ now ++ block ∷ drop (i + 1) (lists_of xs)
   pub more : now ++ block ∷ [] ≡ old ++ take (i + 1) (lists_of xs)

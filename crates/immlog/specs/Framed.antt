@@ -41,7 +41,7 @@ pub record AreFirstFrames (bytes : List ℕ) (frames : List Frame) : Type 0 wher
 abbrev pub IsSound : Frame → Type 0
 IsSound frame = frame.digest.now ≡ sha256 frame.block.now
 
--- so many of the first records do, and the next one, if there is one, doesn't
+-- the first `count` records do, and the next one, if there is one, doesn't
 pub record IsSoundCount (frames : List Frame) (count : ℕ) : Type 0 where
   pub within : count ≤ length frames
   pub sound : AllByRecursion IsSound (take count frames)

@@ -5,7 +5,7 @@ use Rattle.sha2.specs.Sha256.{sha256}
 use Rattle.model.specs.Limits.{hash_size}
 use Rattle.model.specs.Log.{IsLogBlock, body_of}
 
--- but for its digest, which is this one, the record of the block begins behind its gate
+-- except for its digest, which is this one, the record of the block begins behind its gate
 pub record BeginsWithFrame (digest block bytes : List ℕ) : Type 0 where
   pub more : List ℕ
   pub size : IsLogBlock block

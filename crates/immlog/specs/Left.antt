@@ -24,8 +24,9 @@ pub record TellsLength (bytes : List ℕ) (len : ℕ) : Type 0 where
   pub within : len ≤ block_size_limit
   pub word : take 4 bytes ≡ to_be_bytes w32 len
 
--- No more bytes than a record has, but for its gate, and a gate behind it: as many as the length that they tell has it,
--- or, where that wasn't written whole, as many as the longest record has, and only zeros in the place of the others.
+-- No more bytes than a record has, except for its gate, and a gate behind it: as many as the length that they tell has
+-- it, or, where that wasn't written whole, as many as the longest record has, and only zeros in the place of the
+-- others.
 abbrev pub IsShort : List ℕ → Type 0
 IsShort bytes =
     ((length bytes ≤ block_size_limit + 37) × AreZeros (drop 3 bytes))
@@ -78,7 +79,7 @@ pub record IsTorn (written left : List ℕ) : Type 0 where
   pub text : left ≡ take first written ++ zeros
   pub within : length left ≤ length written
 
--- the record of a block, but for its gate, and the closed gate behind it: what is written at once
+-- the record of a block, except for its gate, and the closed gate behind it: what is written at once
 abbrev pub staged : List ℕ → List ℕ
 staged block = body_of block ++ 0 ∷ []
 

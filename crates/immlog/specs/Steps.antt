@@ -43,7 +43,7 @@ KeepsLogs m past new_m new_past =
     (least : ℕ) (blocks : List (List ℕ)) → Leaves (IsLogOf least blocks) m
     → LeavesSince past new_past new_m (IsLogOf least blocks)
 
--- these blocks are a beginning of those, at least so many of them
+-- these blocks are a beginning of those, `least` of them or more
 pub record IsBeginningOf (least : ℕ) (blocks found : List (List ℕ)) : Type 0 where
   pub next : List (List ℕ)
   pub begins : blocks ≡ found ++ next

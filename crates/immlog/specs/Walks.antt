@@ -9,7 +9,7 @@ use Rattle.immlog.specs.Left.{IsLogEnd}
 use Rattle.immlog.specs.declared.look.Step.{Step}
 use Rattle.immlog.specs.declared.look.Step.TheVariants as step
 
--- of what a reader had left it gave the first so many bytes of the room, fewer than there was room for only at the end
+-- of what a reader had left it gave the first `count` bytes of the room, fewer than there was room for only at the end
 pub record IsFilled (old new : Option (List ℕ)) (room : List ℕ) (count : ℕ) : Type 0 where
   pub within : count ≤ length room
   pub taken : Consumes old new (take count room)
@@ -20,7 +20,7 @@ abbrev pub IsNextByte : Option ℕ → Option (List ℕ) → List ℕ → Type 0
 IsNextByte None new bytes = bytes ≡ []
 IsNextByte (Some byte) new bytes = (rest : List ℕ) × (bytes ≡ byte ∷ rest) × (new ≡ Some rest)
 
--- the record of a block, but for its gate, was taken from the bytes, so many bytes
+-- the record of a block, except for its gate, was taken from the bytes: `len` bytes
 pub record IsTaken (bytes : List ℕ) (new : Option (List ℕ)) (len : ℕ) : Type 0 where
   pub block : List ℕ
   pub more : List ℕ

@@ -88,7 +88,7 @@ impl Index {
         })
     }
 
-    /// Makes room for so many more blocks.
+    /// Makes room for this many more blocks.
     pub fn reserve(&mut self, more: usize) -> Result<(), AllocError>
         ensures blocks { blocks_in self.new ≡ blocks_in self.old }
         ensures entries { self.new.entries.items ≡ self.old.entries.items }

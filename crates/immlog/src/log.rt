@@ -112,8 +112,8 @@ impl<D: Disk> Log<D> {
         ensures left { IfOk result (λ log. Leaves (λ bytes. Opens bytes log.blocks) (D.moment log.disk)) }
         ensures kept { IfOk result (λ log. Leaves (IsLogOf (length log.blocks) log.blocks) (D.moment log.disk)) }
 
-        // Of a disk of which a crash leaves a log of these blocks, at least so many of them being sure, the same is
-        // left at every moment since, whatever it answers.
+        // Of a disk of which a crash leaves a log of these blocks, at least a given number of them being sure, the
+        // same is left at every moment since, whatever it answers.
         ensures crash { IfOk result (λ log.
             KeepsLogs (D.moment disk) (D.past disk) (D.moment log.disk) (D.past log.disk)) }
         ensures crash_refused { IfErr result (λ refused.
@@ -237,7 +237,7 @@ impl<D: Disk> Log<D> {
             D.failures self.new.disk ≡ one_more (D.failures self.old.disk) }
         // There is no fault where there is no such block.
         ensures none { numbered self.old.blocks number ≡ None → self.old.broken ≡ false → IsOk result }
-        // The log stays, but that a failure of the disk breaks it.
+        // The log stays, except that a failure of the disk breaks it.
         ensures blocks { self.new.blocks ≡ self.old.blocks }
         ensures sound { (IsErrOf result ReadFault.DiskFault → ⊥) → self.new.broken ≡ self.old.broken }
         ensures breaks { IsErrOf result ReadFault.DiskFault → self.new.broken ≡ true }

@@ -37,7 +37,7 @@ pub enum LookFault {
     OutOfMemory,
 }
 
-/// How many bytes stand at most behind the closed gate of a log: the longest record, but for its gate, and the gate
+/// How many bytes stand at most behind the closed gate of a log: the longest record, except for its gate, and the gate
 /// behind it.
 const MOST_BEHIND: usize = MOST_WRITTEN;
 
@@ -46,7 +46,7 @@ const HEAD: usize = 36;
 
 /// What stands at a place of the bytes.
 enum Step {
-    /// A record of so many bytes behind its open gate.
+    /// A record of this many bytes behind its open gate.
     Record(usize),
     /// An open gate with no record behind it.
     Vain,

@@ -25,8 +25,8 @@ pub const OPEN: u8 = 1;
 /// The gate that ends a log.
 pub const CLOSED: u8 = 0;
 
-/// The most bytes that are written at once: the longest block, what stands before it but for the gate, and the closed
-/// gate behind it.
+/// The most bytes that are written at once: the longest block, what stands before it except for the gate, and the
+/// closed gate behind it.
 pub const MOST_WRITTEN: usize = 1_048_613;
 
 /// Leaves a closed gate on the disk, and nothing else.
@@ -54,7 +54,7 @@ fn write_end<D: Disk>(disk: &mut D, place: usize, bytes: &[u8]) -> Result<usize,
     Ok(place + bytes.len())
 }
 
-/// Spells the record of the block with this digest, but for its gate, and a closed gate behind it.
+/// Spells the record of the block with this digest, except for its gate, and a closed gate behind it.
 fn spell(room: &mut [u8], digest: &[u8; 32], block: &[u8])
     requires room { length room.old ≡ length block.now + 37 }
     requires size { IsLogBlock block.now }
@@ -164,7 +164,7 @@ fn put<D: Disk>(
     Ok(next)
 }
 
-/// Makes room for the entries of so many blocks, and in which each of their records can be spelled.
+/// Makes room for the entries of `count` blocks, and in which each of their records can be spelled.
 pub fn make_room(index: &mut Index, room: &mut Vec<u8>, count: usize) -> Result<(), AllocError>
     ensures blocks { blocks_in index.new ≡ blocks_in index.old }
     ensures entries { index.new.entries.items ≡ index.old.entries.items }

@@ -13,7 +13,7 @@ const MAX_BLOCK: usize = 1_048_576;
 /// How many bytes of a record stand before its block: the gate, the length of the block and its digest.
 pub const BEFORE_BLOCK: usize = 37;
 
-/// Whether a block may have so many bytes.
+/// Whether a block may have `len` bytes.
 pub fn is_block_size(len: usize) -> bool
     ensures { IsTrue result ↔ ((0 < len) × (len ≤ block_size_limit)) }
 {

@@ -31,7 +31,7 @@ pub struct Found {
     pub gate: usize,
 }
 
-/// Room for so many bytes.
+/// Room for `len` bytes.
 pub fn room_for(alloc: Global, len: usize) -> Result<Vec<u8>, AllocError>
     ensures { IfOk result (λ room. length room.items ≡ len) }
 {

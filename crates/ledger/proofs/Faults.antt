@@ -1,4 +1,4 @@
--- The first fault of a block but for its transactions.
+-- The first fault of a block except for its transactions.
 use Rattle.std.proofs.Common.{◌≡◌, ◌≢◌, ℕ, ◌+◌, ◌<◌, ◌≤◌, arith, Some}
 use Rattle.model.specs.Signature.{Verifies}
 use Rattle.model.specs.Rules.{Reason}

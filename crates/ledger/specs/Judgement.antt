@@ -26,7 +26,7 @@ pub record HasSameEnds (s t : LedgerState) : Type 0 where
   pub params : t.params ≡ s.params
   pub tip : t.tip ≡ s.tip
 
--- why transactions that are judged in order are not applied: one of them, with the reason, or want of memory
+-- why transactions that are judged in order are not applied: one of them, with the reason, or OutOfMemory
 abbrev pub IsBodyFault : Result Ledger (ℕ × Reason) → ApplyFault → Type 0
 IsBodyFault judged (Refused (TxFault index reason)) = judged ≡ Err (index, reason_of reason)
 IsBodyFault judged (Refused WrongNumber) = ⊥
@@ -35,7 +35,7 @@ IsBodyFault judged (Refused SlotNotRising) = ⊥
 IsBodyFault judged (Refused BodyTooBig) = ⊥
 IsBodyFault judged OutOfMemory = Unit {0}
 
--- why a block is not applied: its first fault, or want of memory, which is told only where none of the faults 1 to 4 is
+-- why a block is not applied: its first fault, or OutOfMemory, which is told only where none of the faults 1 to 4 is
 abbrev pub IsApplyFault : Verifies → LedgerState → Block → ApplyFault → Type 0
 IsApplyFault verifies s b (Refused fault) = IsFirstFault verifies s b (fault_of fault)
 IsApplyFault verifies s b OutOfMemory = (fault : BlockFault) → fault_number fault < 5 → HasFault verifies s b fault → ⊥

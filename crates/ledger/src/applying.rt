@@ -35,8 +35,8 @@ fn is_same(hash: Option<BlockHash>, other: Option<BlockHash>) -> bool
     hash == other
 }
 
-/// What is wrong with the block but for its transactions, on a state with these parameters and this tip, if anything
-/// is. Takes no memory.
+/// What is wrong with the block except for its transactions, on a state with these parameters and this tip, if
+/// anything is. Takes no memory.
 fn misfit<S: SigScheme>(params: &Params, tip: &Tip, block: &CheckedBlock<S>) -> Option<BlockFault>
     ensures { (ledger : Ledger) → MatchOption result
         (Fits (state_with (params_of params.now) ledger (tip_of tip.now)) block.now)
@@ -149,8 +149,8 @@ fn ended(state: &LedgerState, diff: Option<&BlockDiff>) -> Tip
     }
 }
 
-/// What is wrong with a block, but for its transactions, on the state before the block whose difference this is, of a
-/// chain that ends in this state; with no difference on the state itself. So it is known before anything is undone.
+/// What is wrong with a block, except for its transactions, on the state before the block whose difference this is, of
+/// a chain that ends in this state; with no difference on the state itself. So it is known before anything is undone.
 /// Takes no memory.
 pub fn misfit_before<S: SigScheme>(
     state: &LedgerState,

@@ -28,7 +28,7 @@ pub enum BlockFault {
     TxFault(usize, Reason),
 }
 
-/// Why a block isn't applied: what is wrong with it, or want of memory.
+/// Why a block isn't applied: what is wrong with it, or a lack of memory.
 #[derive(Clone, Copy, Debug, PartialEq, Eq, Error)]
 pub enum ApplyFault {
     /// The first fault of the block.

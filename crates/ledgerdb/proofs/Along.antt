@@ -152,7 +152,7 @@ joined_anchor k kept newer joined s join =
 
 -- ---- what calls answer
 
--- the state so many blocks ago
+-- the state `back` blocks ago
 pub back_is : (ds : List BlockDiff) (s copy t : LedgerState) (back : ℕ) → copy ≡ s → t ≡ undone_blocks (drop (length ds - back) ds) copy
     → t ≡ last_state (undone_blocks ds s) (take (length (states_along ds s) - back) (states_along ds s))
 back_is ds s copy t back same is =

@@ -9,7 +9,7 @@ use Rattle.ledgerdb.specs.Values.{Database, depth, state_back}
 use Rattle.ledgerdb.specs.Chains.{without_last, AreStatesOf, IsDatabaseOf}
 use Rattle.ledgerdb.proofs.Beside.{beside_length, beside_last, beside_take, beside_drop, beside_append}
 
--- of two lists after one another, without so many of the last ones
+-- of two lists after one another, without a given number of the last ones
 take_past : (n : ℕ) (xs ys : List Block) → take (length xs + n) (xs ++ ys) ≡ xs ++ take n ys
 take_past n [] ys = let e : 0 + n ≡ n = omega arith in ap (λ (m : ℕ). take m ys) e
 take_past n (x ∷ xs) ys = let e : suc (length xs) + n ≡ suc (length xs + n) = omega arith in ap (λ (m : ℕ). take m (x ∷ (xs ++ ys))) e ∙ ap (λ (zs : List Block). x ∷ zs) (take_past n xs ys)
@@ -32,7 +32,7 @@ module _ (network : Network) where
   pub new_database : (k : ℕ) (anchor : LedgerState) (chain : List Block) → IsStateOf network chain anchor → IsDatabaseOf network chain (with_states k anchor [])
   new_database k anchor chain is = record { older = chain; blocks = []; parts = sym (append-nil chain); anchor = is; states = tt }
 
-  -- the state so many blocks ago is that of the chain without so many of its blocks
+  -- the state `back` blocks ago is that of the chain without its last `back` blocks
   pub back_state : (chain : List Block) (db : Database) (back : ℕ) → IsDatabaseOf network chain db → back ≤ depth db → IsStateOf network (without_last back chain) (state_back db back)
   back_state chain db back is within =
       let long : length db.states ≡ length is.blocks = beside_length network is.older is.blocks db.states is.states in

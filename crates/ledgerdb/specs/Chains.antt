@@ -5,7 +5,7 @@ use Rattle.model.specs.Ledger.{Network}
 use Rattle.model.specs.Applying.{LedgerState, IsStateOf}
 use Rattle.ledgerdb.specs.Values.{Database, Prepared}
 
--- a chain without so many of its last blocks
+-- a chain without its last `back` blocks
 abbrev pub without_last : ℕ → List Block → List Block
 without_last back chain = take (length chain - back) chain
 

@@ -20,7 +20,7 @@ pub record StopsAt (verifies : Verifies) (root : LedgerState) (blocks : List Blo
   pub here : get_or blocks index block ≡ block
   pub is_stopped : IsApplyFault verifies (last_state root before) block fault
 
--- the first block that isn't applied, counted from 0, with its first fault; or want of memory, where there are blocks
+-- the first block that isn't applied, counted from 0, with its first fault; or OutOfMemory, where there are blocks
 -- at one of them, which then has none of the first four faults
 abbrev pub IsForkFault : Verifies → LedgerState → List Block → ForkFault → Type 0
 IsForkFault verifies root blocks (Refused index fault) =

@@ -44,7 +44,7 @@ depth db = length db.states
 abbrev pub count : Prepared → ℕ
 count prepared = length prepared.states
 
--- the state so many blocks ago
+-- the state `back` blocks ago
 abbrev pub state_back : Database → ℕ → LedgerState
 state_back db back = last_state db.anchor (take (depth db - back) db.states)
 

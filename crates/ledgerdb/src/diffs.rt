@@ -10,7 +10,7 @@ use ledger::{BlockDiff, LedgerState, undo_block};
 use std::alloc::AllocError;
 use std::collections::LinkedList;
 
-/// The state before the last so many of these blocks, which ended in this one. Takes time and memory that grow with
+/// The state before the last `back` of these blocks, which ended in this one. Takes time and memory that grow with
 /// what they changed.
 pub fn undo_last(
     state: LedgerState,
@@ -31,7 +31,7 @@ pub fn undo_last(
     Ok(before)
 }
 
-/// The difference of the first of the last so many blocks, and none of no blocks: it has the tip before them.
+/// The difference of the first of the last `back` blocks, and none of no blocks: it has the tip before them.
 pub fn nth_newest(diffs: &LinkedList<BlockDiff>, back: usize) -> Option<&BlockDiff>
     requires { back ≤ length diffs.now }
     ensures { (state : LedgerState) → tip_before state (option_copied result)
@@ -46,7 +46,7 @@ pub fn nth_newest(diffs: &LinkedList<BlockDiff>, back: usize) -> Option<&BlockDi
     }
 }
 
-/// Drops so many differences at the newer end. Takes no memory.
+/// Drops `count` differences at the newer end. Takes no memory.
 pub fn drop_newest(diffs: &mut LinkedList<BlockDiff>, count: usize)
     requires { count ≤ length diffs.old }
     ensures { diffs.new ≡ take (length diffs.old - count) diffs.old }

@@ -7,7 +7,7 @@ use ledger::BlockFault;
 use std::alloc::{AllocError, AllocFailed};
 use thiserror::Error;
 
-/// Why a fork isn't prepared: one of its blocks, or want of memory.
+/// Why a fork isn't prepared: one of its blocks, or a lack of memory.
 #[derive(Clone, Copy, Debug, PartialEq, Eq, Error)]
 pub enum ForkFault {
     /// The first of the blocks that isn't applied, counted from 0, and its first fault.

@@ -151,7 +151,7 @@ impl LedgerDb {
     }
 
     /// What is told of a fork where memory ran out while blocks were rolled back: the first fault of the first block
-    /// but for its transactions, which takes no state to be known.
+    /// except for its transactions, which takes no state to be known.
     fn without_memory<S: SigScheme>(&self, back: usize, blocks: &[CheckedBlock<S>]) -> ForkFault
         requires { back ≤ depth self.now }
         ensures { IsForkFault S.verifies (state_back self.now back) blocks.now result }

@@ -72,7 +72,7 @@ impl<S: SigScheme> Model for Resynced<S> {
 }
 
 impl<S: SigScheme> Mempool<S> {
-    /// A mempool for at most so many transactions, without one, on these unspent outputs. Err where memory runs out.
+    /// A mempool for at most `capacity` transactions, without one, on these unspent outputs. Err where memory runs out.
     pub fn new(alloc: Global, capacity: u64, unspent: &Utxo) -> Result<Mempool<S>, AllocError>
         ensures { IfOk result (λ m.
             m ≡ record { capacity = capacity; waiting = record { txs = []; unspent = unspent.now } }) }

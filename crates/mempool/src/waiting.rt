@@ -66,7 +66,7 @@ impl<S: SigScheme> Waiting<S> {
         }
     }
 
-    /// The same, with room for so many transactions. Err where memory runs out.
+    /// The same, with room for `capacity` transactions. Err where memory runs out.
     fn with_capacity(
         alloc: Global,
         unspent: Utxo,

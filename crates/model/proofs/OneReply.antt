@@ -1,4 +1,4 @@
--- Two replies to one event in one state are one, but for want of memory.
+-- Two replies to one event in one state are one, except for OutOfMemory.
 use Rattle.std.proofs.Common.{◌≡◌, ◌≢◌, ℕ, ◌<◌, ◌≤◌, List, [], ◌∷◌, Option, Some, None, length, refl, sym, ap, subst, ◌∙◌, inl, inr, arith}
 use Rattle.std.proofs.lemmas.Option.{same_Some}
 use Rattle.model.specs.Block.{Block, block_text}

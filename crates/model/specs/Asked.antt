@@ -1,13 +1,14 @@
--- What is asked of a node: where a block is, where a transaction stands, why a block isn't selected, and what a
--- transaction would be refused for (this project's own).
-use Rattle.std.specs.Prelude.{◌≡◌, ◌≢◌, ◌⊎◌, ℕ, ◌+◌, ◌<◌, ◌≤◌, List, ◌∷◌, ◌++◌, length, take, Contains}
+-- What is asked of a node: where a block is, where a transaction stands, why a block isn't selected, which blocks no
+-- way leads to, and what a transaction would be refused for (this project's own).
+use Rattle.std.specs.Prelude.{◌≡◌, ◌≢◌, ◌⊎◌, ℕ, ◌+◌, ◌<◌, ◌≤◌, List, [], ◌∷◌, ◌++◌, length, map, take, Contains}
 use Rattle.std.specs.Prelude.{Option, Some, None, slice_get}
 use Rattle.std.specs.List.{AllByRecursion}
 use Rattle.model.specs.Transaction.{Transaction, transaction_id_of}
 use Rattle.model.specs.Utxo.{Utxo}
 use Rattle.model.specs.Block.{Block, block_hash_of}
 use Rattle.model.specs.Ledger.{Network}
-use Rattle.model.specs.Chain.{genesis_tip, tip_at, tip_after, Follows, IsLinked, IsValidChain, NoneHas}
+use Rattle.model.specs.Chain.{genesis_tip, tip_at, tip_after, Follows, IsLinked, IsValidChain, IsCandidate, NoneHas}
+use Rattle.model.specs.Chain.{HaveDistinctHashes, immutable_part}
 use Rattle.model.specs.Applying.{LedgerState, BlockFault, IsStateOf, IsFirstFault}
 use Rattle.model.specs.Mempool.{utxo_of, utxo_after_all, next_slot, IsInMempool, IsTransactionWith, Submits, Refused}
 use Rattle.model.specs.History.{State, live_of}
@@ -171,6 +172,35 @@ IsWhyOf network s hash (Invalid refused fault) =
 IsWhyOf network s hash NotLonger =
     (way : WayBack network s hash) × (keep : ℕ) × HangsOn s keep way.first
     × IsNotLonger network s.chain (take keep s.chain) (way.first ∷ way.rest)
+
+-- ---- blocks that no way leads to
+
+-- A way leads to the block: live blocks, each following the one before it, of which the first follows the immutable
+-- tip, and then the block, which follows the last of them, or the immutable tip where there are none.
+pub record IsConnected (network : Network) (s : State) (b : Block) : Type 0 where
+  pub before : List Block
+  pub live : AllByRecursion (Contains (live_of network s)) before
+  pub linked : IsLinked (tip_after genesis_tip (immutable_part network s.chain)) (before ++ b ∷ [])
+
+-- no valid chain of kept blocks through the immutable tip has it
+abbrev pub IsInNoCandidate : Network → State → Block → Type 0
+IsInNoCandidate network s b = (c : List Block) → IsCandidate network s.kept s.chain c → Contains c b → ⊥
+
+-- none of these numbers is less than one behind it
+abbrev pub AreNonIncreasing : List ℕ → Type 0
+AreNonIncreasing [] = Unit {0}
+AreNonIncreasing (n ∷ ns) = AllByRecursion (λ m. m ≤ n) ns × AreNonIncreasing ns
+
+-- UNCONNECTED BLOCKS
+-- Live blocks beside the chain, each once, those with the greatest numbers first. All that no way leads to are among
+-- them. None is that a valid chain of kept blocks through the immutable tip has: so where a way leads to one, a block
+-- of that way, or this one, is refused. Which of these are among them isn't said.
+pub record AreUnconnected (network : Network) (s : State) (blocks : List Block) : Type 0 where
+  pub beside : AllByRecursion (IsBeside network s) blocks
+  pub barred : AllByRecursion (IsInNoCandidate network s) blocks
+  pub each : (b : Block) → IsBeside network s b → (IsConnected network s b → ⊥) → Contains blocks b
+  pub once : HaveDistinctHashes blocks
+  pub order : AreNonIncreasing (map (λ b. b.header.number) blocks)
 
 -- ---- what a transaction would be refused for
 

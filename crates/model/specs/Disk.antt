@@ -55,7 +55,7 @@ LeavesSince past new_past now P = HoldsSince past new_past now (Leaves P)
 
 -- ---- calls
 
--- a read at a place gave so many bytes, fewer than there was room for only at the end
+-- a read at a place gave `count` bytes, fewer than there was room for only at the end
 pub record IsGiven (bytes : List ℕ) (place : ℕ) (old new : List ℕ) (count : ℕ) : Type 0 where
   pub count_is : count ≡ min (length old) (length bytes - place)
   pub given : new ≡ take count (drop place bytes) ++ drop count old

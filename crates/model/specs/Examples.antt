@@ -8,17 +8,17 @@ use Rattle.model.specs.Block.{Header}
 abbrev pub small_map : (k v l w : ℕ) → Item
 small_map k v l w = map_of ((Unsigned k, Unsigned v) ∷ (Unsigned l, Unsigned w) ∷ [])
 
--- an empty array inside so many arrays of one member each
+-- an empty array inside n arrays of one member each
 unfoldable pub nested : ℕ → Item
 nested zero = Array NoItems
 nested (suc n) = Array (NextItem (nested n) NoItems)
 
--- a script that requires all of no scripts, inside so many that require all of one
+-- a script that requires all of no scripts, inside n that require all of one
 unfoldable pub nested_script : ℕ → Script
 nested_script zero = RequireAllOf NoScripts
 nested_script (suc n) = RequireAllOf (NextScript (nested_script n) NoScripts)
 
--- its text: 82 01 81 so many times, and 82 01 80
+-- its text: 82 01 81 n times, and 82 01 80
 unfoldable pub nested_script_text : ℕ → List ℕ
 nested_script_text zero = 0x82 ∷ 0x01 ∷ 0x80 ∷ []
 nested_script_text (suc n) = 0x82 ∷ 0x01 ∷ 0x81 ∷ nested_script_text n

@@ -88,7 +88,7 @@ left_to_tell selected f = min 1 (length f.told - length f.agreed) + (length sele
 
 -- ---- set forward to a point
 
--- so many blocks of the chain end at the point; genesis is on every chain
+-- the first `point.number` blocks of the chain end at the point; genesis is on every chain
 abbrev pub IsOn : List Block → Point → Type 0
 IsOn chain point = tip_point (take point.number chain) ≡ point
 

@@ -57,7 +57,7 @@ abbrev pub IsUnfollowed : (kept : List Block) → Block → Type 0
 IsUnfollowed kept b = AllByRecursion (λ c. c.header.previous ≢ Some (block_hash_of b)) kept
 
 -- What is answered where the block that was forged arrives: it is kept, nothing is rolled back, and it is put on, alone
--- where no kept block goes on from it. Only a block of its hash, a full store or want of memory is in its way.
+-- where no kept block goes on from it. Only a block of its hash, a full store or a lack of memory is in its way.
 abbrev pub IsPutOn : (kept : List Block) → Block → Reply → Type 0
 IsPutOn kept b (Kept back added) = (back ≡ 0) × (1 ≤ added) × (IsUnfollowed kept b → added ≡ 1)
 IsPutOn kept b (Refused Clash) = Unit {0}

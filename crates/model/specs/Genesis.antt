@@ -10,7 +10,7 @@ use Rattle.model.specs.Transaction.{Address, Input, Output, IsAddress}
 use Rattle.model.specs.Utxo.{Utxo, pairs_from, with_pairs}
 use Rattle.model.specs.Rules.{Params, SecondEra}
 
--- so much lovelace, which stands at an address from the start
+-- an amount of lovelace, which stands at an address from the start
 pub record Grant : Type 0 where
   pub address : Address
   pub coin : ℕ
@@ -27,7 +27,7 @@ pub record Genesis : Type 0 where
 abbrev pub supply_of : Genesis → ℕ
 supply_of genesis = sum_by (λ g. g.coin) genesis.grants
 
--- so many bytes are more than a bound, where there is one
+-- this many bytes are more than a bound, where there is one
 abbrev pub IsOver : Option ℕ → (bytes : ℕ) → Type 0
 IsOver None bytes = ⊥
 IsOver (Some most) bytes = most < bytes

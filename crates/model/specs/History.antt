@@ -15,8 +15,8 @@ use Rattle.model.specs.Mempool.{SubmitReply, Submits, revalidated, IsValidMempoo
 use Rattle.model.specs.Follower.{Follower, Followers, standing_at, follower_of, free_id, with_opened, AreMoved}
 use Rattle.model.specs.Follower.{Instruction, Stay, IsDue, IsNext, IsFirstOn, AreReplayed}
 
--- the blocks that are kept, the newest first; the selected chain, its first block first; the mempool, in the order in
--- which its transactions came; and the open followers
+-- the blocks that are kept, the newest first, and last those of the chain that was opened on; the selected chain, its
+-- first block first; the mempool, in the order in which its transactions came; and the open followers
 pub record State : Type 0 where
   pub kept : List Block
   pub chain : List Block
@@ -55,7 +55,7 @@ IsBlockWith bytes P = (b : Block) × SpellsBlock b bytes × P b
 abbrev pub live_of : Network → State → List Block
 live_of network s = live_blocks network s.kept s.chain
 
--- there are as many live blocks as may be, or with so many bytes more they have more than they may have
+-- there are as many live blocks as may be, or with this many bytes more they have more than they may have
 abbrev pub IsFullFor : Network → State → (bytes : ℕ) → Type 0
 IsFullFor network s bytes = (network.genesis.max_volatile ≤ length (live_of network s))
     ⊎ IsOver network.genesis.max_volatile_bytes (bytes_in (live_of network s) + bytes)
@@ -201,7 +201,7 @@ pub record Discards (network : Network) (s : State) (hash : List ℕ) (t : State
 
 -- STEP RULE (this project's own, over the report's interface of the chain database)
 -- From one state an event may be answered so, and leave the other; each kind of event has its own replies. What is
--- refused changes nothing, nor does want of memory, which may be answered to any event.
+-- refused changes nothing, nor does OutOfMemory, which may be answered to any event.
 abbrev pub Step : Network → State → Event → Reply → State → Type 0
 Step network s (Arrive bytes) (Kept back added) t = Keeps network s bytes back added t
 Step network s (Arrive bytes) (Refused refusal) t = IsRefused network s bytes refusal × (t ≡ s)

@@ -45,7 +45,7 @@ pub record IsDamaged (bytes : List ℕ) (place : ℕ) : Type 0 where
 
 -- ---- crashes
 
--- the bytes are a log of a beginning of these blocks, at least so many of them, and aren't damaged
+-- the bytes are a log of a beginning of these blocks, of `least` of them or more, and aren't damaged
 pub record OpensToBeginning (least : ℕ) (blocks : List (List ℕ)) (bytes : List ℕ) : Type 0 where
   pub opened : List (List ℕ)
   pub next : List (List ℕ)
@@ -70,8 +70,9 @@ pub record IsHalfOpen (next : List (List ℕ)) (rest : List ℕ) : Type 0 where
   pub half : gate ≢ 1
   pub comes : next ≡ block ∷ later
 
--- What a crash leaves of a log onto which these blocks were being put, at least so many of them being sure: the records
--- of a beginning of them, and a gate that is closed or half open. A log that was left so stays so while it is opened.
+-- What a crash leaves of a log onto which these blocks were being put, the first `least` of them being sure: the
+-- records of a beginning of them, and a gate that is closed or half open. A log that was left so stays so while it is
+-- opened.
 pub record IsLogOf (least : ℕ) (blocks : List (List ℕ)) (bytes : List ℕ) : Type 0 where
   pub first : List (List ℕ)
   pub next : List (List ℕ)

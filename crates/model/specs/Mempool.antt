@@ -84,7 +84,7 @@ IsTransactionWith bytes P = (t : Transaction) × SpellsTransaction t bytes × P 
 abbrev pub IsInMempool : List Transaction → Transaction → Type 0
 IsInMempool txs t = Contains (map transaction_id_of txs) (transaction_id_of t)
 
--- at this slot, on what the mempool's transactions leave unspent, where the mempool may have so many
+-- at this slot, on what the mempool's transactions leave unspent, where the mempool may have `max` transactions
 module _ (verifies : Verifies) (params : Params) (slot : ℕ) (unspent : Utxo) (max : ℕ) (txs : List Transaction) where
   -- it isn't in the mempool, and this is the first reason against it, or there is none
   abbrev pub IsJudged : Transaction → Option Reason → Type 0

@@ -8,7 +8,7 @@ use Rattle.model.specs.Cbor.{Item, Items, Unsigned, Bytes, Array, NoItems, NextI
 
 mutual
   -- what a transaction must show to satisfy the script: a signature by the key of this hash, all, one or
-  -- at least so many of these scripts, or an interval of validity that starts at the slot or later, or
+  -- at least a given number of these scripts, or an interval of validity that starts at the slot or later, or
   -- that ends at it or before
   pub data Script : Type 0 where
     RequireSignature : List ℕ → Script

@@ -59,7 +59,7 @@ spending input outputs fee mint signatures scripts =
       scripts = scripts;
     }
 
--- the owner of a key spends the first output, and gets so much of it back
+-- the owner of a key spends the first output, and gets `coin` of it back
 abbrev pub payment : (key : List ℕ) → (coin fee : ℕ) → List KeyWitness → Transaction
 payment key coin fee signatures = spending first_place (output_to key (coin_alone coin) ∷ []) fee [] signatures []
 

@@ -31,7 +31,7 @@ pub fn before_the_second_era()
         → ledger_of network chain ≡ ledger_of (network_in_one_era network) chain }
 {}
 
-/// From its first slot on the second era asks each output for so much more for each of its assets.
+/// From its first slot on the second era asks each output for `per_asset` more for each of its assets.
 pub fn in_the_second_era()
     ensures { (params : Params) (second : SecondEra) (slot : ℕ) (t : Transaction)
         → params.second_era ≡ Some second → second.first_slot ≤ slot

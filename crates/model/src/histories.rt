@@ -44,15 +44,15 @@ pub fn one_state()
         → IsLegal network history t → s ≡ t }
 {}
 
-/// After a legal history an event has one reply at most, but that memory may run out.
+/// After a legal history an event has one reply at most, except that memory may run out.
 pub fn one_reply()
     ensures { (network : Network) (history : List Entry) (s : State) (event : Event) (reply other : Reply) (t u : State)
         → IsOpening network → IsLegal network history s → reply ≢ OutOfMemory → other ≢ OutOfMemory
         → Step network s event reply t → Step network s event other u → reply ≡ other }
 {}
 
-/// The kept blocks are those whose arrival was answered so and that weren't discarded since, and those of the chain that
-/// was opened on.
+/// The kept blocks are those whose arrival was answered so and that weren't discarded since, and those of the chain
+/// that was opened on.
 pub fn kept_blocks()
     ensures { (network : Network) (history : List Entry) (s : State) (b : Block) → IsLegal network history s
         → Contains s.kept b ↔ (Contains network.opened b ⊎ IsKeptBy history b) }

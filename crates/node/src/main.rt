@@ -1,19 +1,6 @@
 //! The program `node`: runs a script on the chain database.
 #![tactic(auto)]
 
-#[cfg(test)]
-mod ed25519_tests;
-#[cfg(test)]
-mod explain_tests;
-#[cfg(test)]
-mod genesis_tests;
-#[cfg(test)]
-mod log_tests;
-#[cfg(test)]
-mod sim_tests;
-#[cfg(test)]
-mod start_tests;
-
 use std::process::ExitCode;
 use std::{env, io};
 

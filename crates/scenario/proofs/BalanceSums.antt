@@ -63,7 +63,7 @@ lines_behind owner pairs coin lines =
     ap (λ (bs : List ℕ). owner ++ (codes ": pairs " ++ bs)) at_pairs ∙ sym (append_assoc owner (codes ": pairs " ++ (decimal pairs ++ end)) lines) in
     ap (λ (bs : List ℕ). codes "balance " ++ bs) at_owner
 
--- the first of what is left behind so many
+-- the first of what is left behind the first `n`
 pub first_left : {X : Type 0} (xs : List X) (n : ℕ) (x : X) (rest : List X) → drop n xs ≡ x ∷ rest → slice_get xs n ≡ Some x
 first_left [] zero x rest is = cc
 first_left [] (suc n) x rest is = cc

@@ -17,7 +17,7 @@ use Rattle.script.specs.Line.{Owner, OwnedByKey, OwnedByScript}
 abbrev pub outputs_of_address : Address → Utxo → List Output
 outputs_of_address address utxo = map (λ p. p.1) (pairs_of address (finite.entries utxo))
 
--- so much of what a policy has under a name
+-- this much of what a policy has under a name
 abbrev pub much_of : (policy name : List ℕ) → ℤ → AssetQuantity ℤ
 much_of policy name sum = record { policy = policy; name = name; quantity = sum }
 

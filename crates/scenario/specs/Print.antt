@@ -79,7 +79,7 @@ point_name names point = if point.number == 0 then codes "genesis" else printed_
 abbrev pub tip_text : List Binding → Point → List ℕ
 tip_text names point = codes "tip: " ++ decimal point.number ++ codes " " ++ point_name names point ++ 10 ∷ []
 
--- what the question `utxo` prints: so many outputs are unspent, and hold so much lovelace together, beside the fees
+-- what the question `utxo` prints: how many outputs are unspent and how much lovelace they hold together, and the fees
 abbrev pub unspent_text : (pairs coin fees : ℕ) → List ℕ
 unspent_text pairs coin fees =
     codes "utxo: pairs " ++ (decimal pairs ++ (codes " coin " ++ (decimal coin ++ (codes " fees " ++ (decimal fees

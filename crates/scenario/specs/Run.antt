@@ -156,8 +156,8 @@ Acts network s (PrintsBalance owner address) out entries t = (ledger : Ledger)
     × (ledger_of network s.state.chain ≡ Some ledger)
     × IsBalanceText (outputs_of_address address ledger.utxo) owner out × (entries ≡ []) × (t ≡ s)
 
--- a line of this number after so many bytes has no fault, and prints so: its text, and behind it the note on its event,
--- if the script is explained
+-- a line of this number after `before` bytes has no fault, and prints so: its text, and behind it the note on its
+-- event, if the script is explained
 pub record Obeys (network : Network) (explain : Bool) (number before : ℕ) (s : Scene) (line out : List ℕ)
     (entries : List Entry) (t : Scene) : Type 0 where
   pub meaning : Meaning
@@ -168,7 +168,7 @@ pub record Obeys (network : Network) (explain : Bool) (number before : ℕ) (s :
   pub is_note : IsNote network explain t.names.of_bytes s.state entries t.state note
   pub printed : out ≡ text ++ note
 
--- lines from this number on, after so many bytes, print so, one after the other, and this is the history of their
+-- lines from this number on, after `before` bytes, print so, one after the other, and this is the history of their
 -- events with the replies that are printed
 abbrev pub Prints : Network → (explain : Bool) → (number before : ℕ) → Scene → List (List ℕ) → List ℕ → List Entry
     → Scene → Type 0
@@ -193,7 +193,7 @@ pub record AreObeyed (options : Options) (network : Network) (start : State) (li
   pub theorem : IsOpening network → (past : List Entry) → IsLegal network past start
       → ChainTheorem network (past ++ history) scene.state
 
--- ---- what want of memory in a line leaves
+-- ---- what a line leaves where memory runs out
 
 -- the event of a line that means this, if it has one
 abbrev pub event_meant : Meaning → Option Event
@@ -258,8 +258,8 @@ pub record StopsReading (options : Options) (network : Network) (start : State) 
   pub broken : BreaksOff options network start text left out
   pub is_end : end ≡ broken.obeyed.scene.state
 
--- The same where memory ran out: if the bytes more are a line with its line feed, that line has no fault, but that it
--- may not be built where only memory tells. The state is the one that the lines before it leave, or its event did
+-- The same where memory ran out: if the bytes more are a line with its line feed, that line has no fault, except that
+-- it may not be built where only memory tells. The state is the one that the lines before it leave, or its event did
 -- happen, and nothing that it prints was written.
 pub record RunsShort (options : Options) (network : Network) (start : State) (text left out : List ℕ) (end : State)
     : Type 0 where

@@ -27,7 +27,7 @@ abbrev pub AreNamesLeft : AllNames → SendMeaning → AllNames → Type 0
 AreNamesLeft names (Sends peer name bytes) new = new ≡ names
 AreNamesLeft names (Makes made) new = AreNamesAfter names made new
 
--- a line of this number after so many bytes has no fault, sends this, and leaves these names
+-- a line of this number after `before` bytes has no fault, sends this, and leaves these names
 pub record LineSends (number before peers : ℕ) (names : AllNames) (line : List ℕ) (sent : List Sent) (new : AllNames)
     : Type 0 where
   pub meaning : SendMeaning
@@ -35,7 +35,7 @@ pub record LineSends (number before peers : ℕ) (names : AllNames) (line : List
   pub is_sent : sent ≡ sent_by meaning
   pub left : AreNamesLeft names meaning new
 
--- lines from this number on, after so many bytes, send this, one after the other, and leave these names
+-- lines from this number on, after `before` bytes, send this, one after the other, and leave these names
 abbrev pub LinesSend : (number before peers : ℕ) → AllNames → List (List ℕ) → List Sent → AllNames → Type 0
 LinesSend number before peers names [] sent new = (sent ≡ []) × (new ≡ names)
 LinesSend number before peers names (line ∷ lines) sent new = (first rest : List Sent) × (mid : AllNames)
@@ -87,8 +87,8 @@ pub record ReadsUpTo (peers : ℕ) (names : AllNames) (text left : List ℕ) : T
   pub mid : AllNames
   pub sends : LinesSend 1 0 peers names lines sent mid
 
--- The same where memory ran out: if the bytes more are a line with its line feed, that line has no fault, but that it
--- may not be built where only memory tells.
+-- The same where memory ran out: if the bytes more are a line with its line feed, that line has no fault, except that
+-- it may not be built where only memory tells.
 pub record ReadsShort (peers : ℕ) (names : AllNames) (text left : List ℕ) : Type 0 where
   pub reads : ReadsUpTo peers names text left
   pub has_no_fault : (content : List ℕ) → reads.more ≡ content ++ 10 ∷ []

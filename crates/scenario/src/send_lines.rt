@@ -80,7 +80,7 @@ fn sends_of_lines<R: BufRead>(
     unreachable!()
 }
 
-/// What a script sends, in the order of its lines, with so many peers. Such a script has the lines of
+/// What a script sends, in the order of its lines, with `peers` peers. Such a script has the lines of
 /// [`run`](crate::run) that define something, and lines `send P B`: the peer P, a number from 1 to `peers`, sends the
 /// bytes of the name B. Each other line is a bad one, as where P is no such number. Faults are told as
 /// [`run`](crate::run) tells them, and limits are the same. Addresses are those of the network of this genesis, and

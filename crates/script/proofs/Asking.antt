@@ -1,4 +1,4 @@
--- What is answered to a line: want of memory, and a definition that is made.
+-- What is answered to a line: OutOfMemory, and a definition that is made.
 use Rattle.std.proofs.Common.{◌≡◌, ℕ, Bool, true, false, cond, nat_eq, List, length, Option, Some, None, is_some, option_map, Result, Ok, Err, refl, sym}
 use Rattle.std.specs.Prelude.{IsOk}
 use Rattle.std.specs.Result.{IsErrAnd}
@@ -14,7 +14,7 @@ use Rattle.script.specs.Names.{AllNames}
 use Rattle.script.specs.Meaning.{Meaning, MeansScript, where_free, built_key}
 use Rattle.script.specs.RequestView.{Asks, AsksFor, Lacks}
 
--- ---- want of memory
+-- ---- out of memory
 
 -- memory ran out for a line that lacks its fault
 pub asks_short : (names : AllNames) (means : Result Meaning LineFault → Type 0) (late : Bool) (r : Result Request Stop) (new : Names) → IsErrAnd r (λ e. e ≡ OutOfMemory) → Lacks means late → Asks names means late r new

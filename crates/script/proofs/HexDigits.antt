@@ -54,7 +54,7 @@ key_if digits bytes false is says long =
     let other : length digits / 2 ≡ 32 → ⊥ = λ half. grind (arith, nat_tests) in
     rw (decode_sized-other digits 32 even other) refl
 
--- the 32 bytes that digits say, where they say so many
+-- the 32 bytes that digits say, where they say that many
 pub key_said : (digits : List ℕ) → IsSome (digits_bytes digits) → result_ok (decode_sized digits 32) ≡ cond (nat_eq (length (said_bytes digits)) 32) (Some (said_bytes digits)) None
 key_said digits says =
     let is = said_so digits says in

@@ -1,4 +1,4 @@
--- Answers that want of memory may stand for.
+-- Answers that OutOfMemory may stand for.
 use Rattle.std.specs.Prelude.{◌≡◌, Result, Ok, Err, IsOk}
 use Rattle.script.specs.declared.fault.LineFault.{LineFault}
 use Rattle.script.specs.declared.stop.Stop.{Stop}

@@ -20,7 +20,7 @@ pub data Owner : Type 0 where
   OwnedByKey : List ℕ → Owner
   OwnedByScript : List ℕ → Owner
 
--- so much of an asset, whose policy is the script of a name
+-- a quantity of an asset, whose policy is the script of a name
 pub record NamedAsset (Q : Type 0) : Type 0 where
   pub script : List ℕ
   pub name : List ℕ
@@ -125,7 +125,7 @@ said_bytes digits = unwrap_or (digits_bytes digits) []
 abbrev pub parse_asset_name : List ℕ → Option (List ℕ)
 parse_asset_name word = if bytes_eq word (codes "-") then Some [] else digits_bytes word
 
--- so much below 0
+-- this much below 0
 abbrev pub negated : ℕ → ℤ
 negated zero = pos 0
 negated (suc n) = negsuc n

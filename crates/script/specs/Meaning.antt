@@ -305,7 +305,7 @@ abbrev pub parse_within : (before : ℕ) → (line : List ℕ) → Option Line
 parse_within before line = if nat_le (before + length line) script_size_limit then parse_line line else None
 
 -- WHAT A LINE MEANS
--- of this number, that comes after so many bytes of the script, which may not be too long
+-- of this number, that comes after `before` bytes of the script, which may not be too long
 abbrev pub Means : (number before : ℕ) → AllNames → (line : List ℕ) → Result Meaning LineFault → Type 0
 Means number before names line result = MeansLine number names names.making (parse_within before line) result
 
@@ -328,7 +328,7 @@ AreNamesAfter names (BindsScript script) new = new ≡ record names { of_scripts
 AreNamesAfter names (Continues making) new = new ≡ record names { making = Some making }
 AreNamesAfter names (Finishes making) new = IsFinished names making new
 
--- ---- want of memory
+-- ---- out of memory
 
 -- whether there are any
 abbrev pub are_some : List (List ℕ) → Bool
@@ -348,7 +348,7 @@ abbrev pub is_late_line : Option Line → Bool
 is_late_line None = false
 is_late_line (Some line) = is_late line
 
--- the line has no fault, but that it may not be built where only memory tells
+-- the line has no fault, except that it may not be built where only memory tells
 abbrev pub HasNoFault : (number before : ℕ) → AllNames → (line : List ℕ) → Type 0
 HasNoFault number before names line = (fault : LineFault) → Means number before names line (Err fault)
     → (fault ≡ NotBuilt) × IsTrue (is_late_line (parse_within before line))

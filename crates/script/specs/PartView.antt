@@ -15,7 +15,7 @@ abbrev pub owner_of : Owner → spec.Owner
 owner_of (owner.Key name) = spec.OwnedByKey name.text.now
 owner_of (owner.Script name) = spec.OwnedByScript name.text.now
 
--- so much below 0, or above it
+-- this much below 0, or above it
 abbrev pub signed : Bool → ℕ → ℤ
 signed true n = spec.negated n
 signed false n = pos n

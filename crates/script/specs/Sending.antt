@@ -18,7 +18,7 @@ pub record SendLine : Type 0 where
   pub peer : ℕ
   pub name : List ℕ
 
--- the number is one of so many peers', who have those from 1 on
+-- the number is that of one of `peers` peers, who have the numbers from 1 on
 abbrev pub is_peer : (peers number : ℕ) → Bool
 is_peer peers number = nat_le 1 number && nat_le number peers
 
@@ -34,7 +34,7 @@ said_send peers (word ∷ peer ∷ name ∷ []) =
     if bytes_eq word (codes "send") then send_of peers (parse_number peer) name else None
 said_send peers words = None
 
--- what a line sends, if it says that one of so many peers does
+-- what a line sends, if it says that one of `peers` peers does
 abbrev pub parse_send : (peers : ℕ) → (line : List ℕ) → Option SendLine
 parse_send peers line =
     if list_all is_printable (content_of line) then said_send peers (words_of (content_of line)) else None
@@ -63,7 +63,7 @@ said_either (Some sends) line = Some (Sending sends)
 said_either None None = None
 said_either None (Some line) = if is_definition line then Some (Defining line) else None
 
--- what a line says in a simulation with so many peers, if it is one and the script isn't too long with it
+-- what a line says in a simulation with `peers` peers, if it is one and the script isn't too long with it
 abbrev pub parse_sending : (before peers : ℕ) → (line : List ℕ) → Option SimulationLine
 parse_sending before peers line =
     if nat_le (before + length line) script_size_limit
@@ -98,13 +98,13 @@ MeansSimulation number names making (Some (Defining line)) result =
     MeansSame (MeansLine number names making (Some line)) result
 
 -- WHAT A LINE MEANS WHERE PEERS SEND
--- of this number, that comes after so many bytes of the script, with so many peers
+-- of this number, that comes after `before` bytes of the script, with `peers` peers
 abbrev pub MeansSending : (number before : ℕ) → AllNames → (peers : ℕ) → (line : List ℕ) → Result SendMeaning LineFault
     → Type 0
 MeansSending number before names peers line result =
     MeansSimulation number names names.making (parse_sending before peers line) result
 
--- ---- want of memory
+-- ---- out of memory
 
 -- lines of which only memory tells whether they are built: of those that define something the same as in every script
 abbrev pub is_late_sending : Option SimulationLine → Bool

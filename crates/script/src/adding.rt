@@ -70,7 +70,7 @@ impl Known {
         Ok(())
     }
 
-    /// So much of an asset is minted, whose script is known.
+    /// This quantity of an asset is minted, whose script is known.
     fn mint(
         &self,
         draft: &mut Draft<KeySigner>,

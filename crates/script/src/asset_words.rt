@@ -11,7 +11,7 @@ use crate::number::parse_number;
 use crate::part::AssetName;
 use crate::words::Words;
 
-/// So much of an asset, whose policy is the script of a name.
+/// A quantity of an asset, whose policy is the script of a name.
 #[derive(Clone, Copy)]
 pub struct NamedAsset<'a> {
     pub script: Name<'a>,

@@ -50,7 +50,7 @@ impl<'a> Digits<'a> {
         Some(Digits { text: word })
     }
 
-    /// The 32 bytes of a key that they say, where they say so many. Takes no memory.
+    /// The 32 bytes of a key that they say, where they say that many. Takes no memory.
     pub fn key(&self) -> Option<[u8; 32]>
         ensures { result ≡ (if length (said_bytes self.now.text.now) == hash_size
             then Some (said_bytes self.now.text.now) else None) }

@@ -164,7 +164,7 @@ impl Names {
     }
 
     /// Obeys a line: a definition is made, and of each other line it is answered what it asks of the node. Err `Fault`
-    /// with the first of its faults, which leaves the names as they were; `OutOfMemory` only where it has none, but
+    /// with the first of its faults, which leaves the names as they were; `OutOfMemory` only where it has none, except
     /// that a native script, a transaction's output or mint, or a block of transactions may be [`LineFault::NotBuilt`].
     /// Takes time in proportion to the line and to what it defines, and for each of its names to the logarithm of the
     /// number of names; a secret key, and each signature by one, takes that of an Ed25519 signature more.

@@ -38,7 +38,7 @@ fn is_within(at: LinePlace, line: &[u8]) -> bool
     }
 }
 
-/// Whether the number is one of so many peers'.
+/// Whether the number is that of one of `peers` peers.
 fn is_peer(peers: u64, number: u64) -> bool
     ensures is { result ≡ is_peer peers number }
     ensures within { IsTrue result → (1 ≤ number) × (number ≤ peers) }
@@ -46,7 +46,7 @@ fn is_peer(peers: u64, number: u64) -> bool
     number >= 1 && number <= peers
 }
 
-/// What is sent, where words say a peer of so many and a name.
+/// What is sent, where words say one of `peers` peers and a name.
 fn send_of<'a>(peers: u64, peer: &[u8], name: &'a [u8]) -> Option<SendRequest<'a>>
     ensures says { option_map send_line_of result ≡ send_of peers (parse_number peer.now) name.entry.now }
     ensures peer { IfSome result (λ sends. (1 ≤ sends.peer) × (sends.peer ≤ peers)) }
@@ -60,7 +60,7 @@ fn send_of<'a>(peers: u64, peer: &[u8], name: &'a [u8]) -> Option<SendRequest<'a
     }
 }
 
-/// The words of the line `send P B`, where P is one of so many peers.
+/// The words of the line `send P B`, where P is one of `peers` peers.
 fn send_words(mut words: Words<'_>, peers: u64) -> Option<SendRequest<'_>>
     ensures says { option_map send_line_of result ≡ said_send peers (words_left words.entry) }
     ensures peer { IfSome result (λ sends. (1 ≤ sends.peer) × (sends.peer ≤ peers)) }
@@ -78,7 +78,7 @@ fn send_words(mut words: Words<'_>, peers: u64) -> Option<SendRequest<'_>>
     }
 }
 
-/// What a line sends, where it says that one of so many peers does. Linear in the line; takes no memory.
+/// What a line sends, where it says that one of `peers` peers does. Linear in the line; takes no memory.
 fn send_line(line: &[u8], peers: u64) -> Option<SendRequest<'_>>
     ensures says { option_map send_line_of result ≡ parse_send peers line.entry.now }
     ensures peer { IfSome result (λ sends. (1 ≤ sends.peer) × (sends.peer ≤ peers)) }
@@ -141,10 +141,10 @@ impl Names {
         }
     }
 
-    /// Obeys a line of a script in which so many peers send bytes: a definition is made as by [`Names::obey`], and of a
+    /// Obeys a line of a script in which `peers` peers send bytes: a definition is made as by [`Names::obey`], and of a
     /// line `send P B` it is answered who sends and what. P is a number from 1 to `peers`, and no transaction is being
     /// made, else the line is a [`LineFault::BadLine`], as each line is that asks something of a node, whatever else is
-    /// wrong with it; B is a name of bytes. Err as there, but that a line `send` asks for no memory.
+    /// wrong with it; B is a name of bytes. Err as there, except that a line `send` asks for no memory.
     pub fn obey_sending<'a>(
         &mut self,
         at: LinePlace,

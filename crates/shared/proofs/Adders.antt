@@ -170,7 +170,7 @@ takes_one now taken takes =
     let o = held_one taken.held in
     omega arith
 
--- it holds nothing, has brought so many since, and has taken at most so many
+-- it holds nothing, has brought so many since, and has taken at most as many as it had turns
 pub record IsRunning (network : Network) (before now : Adding) (count turn : ℕ) : Type 0 where
   pub added : HasAdded network before now
   pub none : now.held ≡ None

@@ -111,7 +111,7 @@ pub height_of_core : (verifies : Verifies) (start : Start) (journal seen : Journ
 height_of_core verifies start journal seen e held height core is same =
     is ∙ ap length core.stands.chain ∙ sym (height_of_legal start verifies (journal ++ e ∷ []) core.state core.legal) ∙ ap (λ (j : Journal). height_after start (j ++ e ∷ [])) (sym same)
 
--- ---- what a call leaves, by an answer that isn't want of memory
+-- ---- what a call leaves, by an answer that isn't OutOfMemory
 
 pub answered_as : (network : Network) (before : Knowledge) (event : Event) (reply written : Reply) (e : JournalEntry) (after : Knowledge) → reply ≢ OutOfMemory → reply ≡ written → e ≡ call_by before.caller event written → IsCalled network before e after → IsAnswered network before event reply after
 answered_as network before event reply written e after enough same is called =
@@ -129,7 +129,7 @@ journaled_as old now caller event reply written e new enough same is still pushe
     told OutOfMemory some made = absurd (some refl)
     told r some made = made
 
--- what a follower is told is want of memory only where it is that fault
+-- what a follower is told is OutOfMemory only where it is that fault
 pub want_is : {S : Type 0} (answer : Result (Option (Instruction S)) NextFault) → next_reply_of answer ≡ OutOfMemory → answer ≡ Err fault.OutOfMemory
 want_is (Ok told) e = absurd (cc)
 want_is (Err fault.UnknownFollower) e = absurd (cc)

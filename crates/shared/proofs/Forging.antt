@@ -34,7 +34,7 @@ module _ (verifies : Verifies) (start : Start) (journal : Journal) (held : Held)
         arrives = subst (λ (n : Network). (b : Block) → SpellsBlock b f.bytes.items → ArrivesNext n s b f.bytes.items) network (arrives s stands);
       })
 
-  -- else the first fault that applies, or want of memory, where none does
+  -- else the first fault that applies, or OutOfMemory, where none does
   pub fault_after : (answer : Result Forged ForgeFault) → IsCoreOf verifies start journal held → IsInformed (network_from start verifies) journal before after
       → IfErr answer (IsForgeFault (network_held held verifies) held.chain slot)
       → IfErr answer (λ fault. IsAsked (network_from start verifies) before after (λ s. IsForgeFault (network_from start verifies) s.chain slot fault))

@@ -54,7 +54,7 @@ pub record HasAdded (network : Network) (before after : Adding) : Type 0 where
   pub taken : BeginsWith after.intake.taken before.intake.taken
   pub in_step : IsInStep after
 
--- so many calls came behind the first ones
+-- n calls came behind the first ones
 abbrev pub IsGrownBy : Journal → Journal → ℕ → Type 0
 IsGrownBy before after count = (more : ℕ) → length after ≡ length before + more → IsCountOf count more
 

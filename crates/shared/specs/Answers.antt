@@ -1,5 +1,5 @@
--- What a locked call leaves, by what it answers. Want of memory stands in no journal; every other answer does, a
--- refusal too.
+-- What a locked call leaves, by what it answers. OutOfMemory stands in no journal; every other answer does, a refusal
+-- too.
 use Rattle.std.specs.Prelude.{◌≡◌, ℕ, [], ◌∷◌, ◌++◌}
 use Rattle.model.specs.Ledger.{Network}
 use Rattle.model.specs.History.{Event, Reply, OutOfMemory}

@@ -10,8 +10,8 @@ pub record AreImmutableAfter (network : Network) (journal : Journal) (texts : Li
   pub legal : IsLegalJournal network journal
   pub texts_are : texts ≡ texts_of (immutable_part network legal.state.chain)
 
--- the journal is legal, and these are the texts of the blocks that are never rolled back after it, but for the first so
--- many
+-- the journal is legal, and these are the texts of the blocks that are never rolled back after it, except the first
+-- `from`
 pub record AreCopiesAfter (network : Network) (journal : Journal) (from : ℕ) (copies : List (List ℕ)) : Type 0 where
   pub texts : List (List ℕ)
   pub are : AreImmutableAfter network journal texts

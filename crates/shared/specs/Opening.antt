@@ -16,7 +16,7 @@ IsOpenFault callers OutOfMemory = AreCallers callers
 abbrev pub newcomer : ℕ → Knowledge
 newcomer caller = record { caller = caller; seen = []; calls = []; loads = 0; last = 0 }
 
--- so many of them, with the numbers from 0 on
+-- n of them, with the numbers from 0 on
 abbrev pub newcomers : ℕ → List Knowledge
 newcomers zero = []
 newcomers (suc n) = newcomers n ++ newcomer n ∷ []

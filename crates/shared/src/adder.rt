@@ -73,7 +73,7 @@ fn count_out(counts: &mut [u64; PEERS], peer: u64)
 
 impl<S: SigScheme + Send, G: Gate, B: Room, M: Mailroom> Adder<S, G, B, M> {
     /// An adder that takes from this end of an inbox, from which nothing was taken yet, and makes its calls as this
-    /// caller. Blocks' transactions are checked by so many workers of the pool, 1 to 16. Takes no memory.
+    /// caller. Blocks' transactions are checked by `workers` workers of the pool, 1 to 16. Takes no memory.
     pub fn new(
         alloc: Global,
         end: AdderEnd<M>,
@@ -171,14 +171,14 @@ impl<S: SigScheme + Send, G: Gate, B: Room, M: Mailroom> Adder<S, G, B, M> {
         }
     }
 
-    /// Tries to take so many times, and brings each arrival that it takes to the core; first the one that it holds,
+    /// Tries to take `turns` times, and brings each arrival that it takes to the core; first the one that it holds,
     /// if it does. Answers how many it brought; that count stands still at the largest number of 64 bits. A take that
     /// finds the inbox empty counts as one. Where memory runs out for an arrival it stays with the adder, and the next
     /// call begins with it. Waits for the lock, and for a thread that is in the middle of a step.
     ///
     /// An arrival costs what reading it costs, shared by the workers, and what it costs the core, which alone is done
-    /// under the lock. Where memory runs out for it under the lock it isn't read again; where it runs out before, it is.
-    /// Its bytes are never copied.
+    /// under the lock. Where memory runs out for it under the lock it isn't read again; where it runs out before, it
+    /// is. Its bytes are never copied.
     pub fn run<R: Threads + Wait + Sync>(
         &mut self,
         rt: &R,
@@ -189,7 +189,7 @@ impl<S: SigScheme + Send, G: Gate, B: Room, M: Mailroom> Adder<S, G, B, M> {
         // all that it took just one arrival may not be brought yet.
         ensures added { HasAdded (network_from B.start S.verifies) self.old self.new }
         ensures many { IfOk result (λ many. IsGrownBy self.old.knows.calls self.new.knows.calls many) }
-        // It takes at most so many arrivals.
+        // It takes at most `turns` arrivals.
         ensures turns { length self.new.intake.taken ≤ length self.old.intake.taken + turns }
         ensures ok { OnOk result (self.new.held ≡ None) }
         ensures err { OnErr result (IsSome self.new.held) }

@@ -42,7 +42,7 @@ pub enum Call<'a, S: SigScheme> {
         id: FollowerId,
         reply: &'a Result<(), UnknownFollower>,
     },
-    /// A live block of this hash was to be kept no more.
+    /// The block of this hash was to be kept no more, if it was live and beside the selected chain.
     Discard {
         hash: BlockHash,
         reply: &'a Result<(), NotBeside>,

@@ -277,8 +277,8 @@ impl<S: SigScheme, B: Room> Desk<S, B> {
         answer
     }
 
-    /// Copies of the texts of the blocks that are never rolled back, but for the first so many. The caller sees the
-    /// whole journal.
+    /// Copies of the texts of the blocks that are never rolled back, except the first `from` of them. The caller sees
+    /// the whole journal.
     pub fn copy(
         &mut self,
         heights: &Heights<S>,

@@ -36,6 +36,7 @@ mod reader;
 mod room;
 mod sealing;
 mod shared;
+mod shown;
 
 pub use adder::Adder;
 pub use caller::Caller;

@@ -101,7 +101,7 @@ fn deal_all<S: SigScheme, B: Room>(
 }
 
 impl<S: SigScheme> Opened<S> {
-    /// A new core of this genesis for so many callers, 1 to 64. Err `BadCallers` where they are fewer or more, and
+    /// A new core of this genesis for `callers` callers, 1 to 64. Err `BadCallers` where they are fewer or more, and
     /// `OutOfMemory` only where they aren't. Takes what [`Core::new`] takes.
     pub fn new(alloc: Global, genesis: Genesis, callers: usize) -> Result<Opened<S>, OpenFault>
         ensures start { IfOk result (λ opened. opened.start ≡ new_start genesis) }
@@ -115,7 +115,7 @@ impl<S: SigScheme> Opened<S> {
         Opened::on(alloc, core, callers)
     }
 
-    /// A shared core on what [`Core::reopen`] opened, to which nothing came since, for so many callers, 1 to 64. Its
+    /// A shared core on what [`Core::reopen`] opened, to which nothing came since, for `callers` callers, 1 to 64. Its
     /// journal begins there, and its height is that of the chain. Err as for [`Opened::new`]. Takes the memory of one
     /// word.
     pub fn on(alloc: Global, core: Core<S>, callers: usize) -> Result<Opened<S>, OpenFault>

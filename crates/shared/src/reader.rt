@@ -11,7 +11,7 @@ use std::alloc::{AllocFailed, Global};
 use std::thread::Threads;
 use witness_pool::{Gate, Pool, PoolFault, SigScheme};
 
-/// Reads bytes of blocks, and has their transactions checked by so many workers of a pool.
+/// Reads bytes of blocks, and has their transactions checked by a number of workers of a pool.
 #[derive(Drop)]
 pub struct Reader<G> {
     pub alloc: Global,

@@ -182,8 +182,8 @@ impl<S: SigScheme, B: Room> Shared<S, B> {
         desk.discard(&self.heights, &mut caller.seat, hash)
     }
 
-    /// Copies of the texts of the blocks that are never rolled back, but for the first `from` of them: what a log still
-    /// lacks that has so many. The journal has nothing of it; the caller has then seen all of the journal, and looked
+    /// Copies of the texts of the blocks that are never rolled back, except the first `from` of them: what a log still
+    /// lacks that has `from`. The journal has nothing of it; the caller has then seen all of the journal, and looked
     /// at the height. Where memory runs out nothing changes. Waits for the lock, and holds it while it copies
     /// the bytes of each, once.
     pub fn copy<R: Wait>(

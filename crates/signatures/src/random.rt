@@ -56,7 +56,7 @@ fn sign_once(random: &mut Random, hasher: &mut Sha256) -> bool {
     verify(&key, message, &signature)
 }
 
-/// Whether so many keys from this start each sign a message so that the signature is good, and the SHA-256 digest of
+/// Whether `number` keys from this start each sign a message so that the signature is good, and the SHA-256 digest of
 /// all public keys and signatures is this.
 pub fn are_good(number: u64, start: u64, digest: &[u8; 32]) -> bool {
     let mut random = Random::new(start);

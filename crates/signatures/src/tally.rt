@@ -50,7 +50,7 @@ impl Tally {
         self.lines = self.lines.saturating_add(1);
     }
 
-    /// Counts so many vectors of a kind.
+    /// Counts `number` vectors of a kind.
     pub fn count(&mut self, kind: Kind, number: u64) {
         let count = match kind {
             Kind::Signed => &mut self.signed,

@@ -382,7 +382,7 @@ fn print<W: Write>(alloc: Global, writer: &mut W, summary: &Summary) -> Result<(
 /// Runs the simulation that a script says, on a new core of this genesis. Whether a signature is good the core judges
 /// by `S`, and what the script signs it signs by `scheme`: give both the same. Each peer sends what the script has it
 /// send through an inbox of 8 places, from a thread of its own; the thread that calls adds what they send to the core,
-/// with 4 workers; and each of so many clients follows the chain and reads its height, from a thread of its own. When
+/// with 4 workers; and each of the clients follows the chain and reads its height, from a thread of its own. When
 /// the peers have ended, what is left in the inbox is added, and the clients learn of all. Then it is written how high
 /// the chain is, how many arrivals there were, and what each client was told. The gate is told of each thread, on that
 /// thread, before its first act and after its last: of the adder by the number 1, of the peers by those from 2 on, and

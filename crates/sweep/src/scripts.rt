@@ -44,7 +44,7 @@ struct Run {
     ended: Result<(), ScenarioFault>,
 }
 
-/// The script, but for the line of this index if there is one.
+/// The script, except for the line of this index if there is one.
 fn script_without(alloc: Global, left_out: Option<usize>) -> Option<String> {
     let mut script = String::new(alloc);
     for (index, (line, _, _)) in LINES.iter().enumerate() {
@@ -84,7 +84,7 @@ fn run_without(alloc: Global, left_out: Option<usize>) -> Option<Run> {
     }
 }
 
-/// What a text has behind what the first so many lines print, if it begins with that.
+/// What a text has behind what the first `lines` lines print, if it begins with that.
 fn behind(text: &[u8], lines: usize) -> Option<&[u8]> {
     let mut left = text;
     for (_, label, answer) in LINES.iter().take(lines) {

@@ -115,7 +115,7 @@ all_of_it bytes found rest none b = subst (SpellsScript found) (sym (b.parts ∙
 
 -- ---- what a script keeps
 
--- so many levels of items
+-- how many levels of items this many levels of scripts have
 pub levels_are : (depth : ℕ) → levels_of depth ≡ 2 * depth
 levels_are zero = omega arith
 levels_are (suc depth) = omega (arith, levels_are depth)

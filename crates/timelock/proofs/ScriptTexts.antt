@@ -27,7 +27,7 @@ same_items (s ∷ ss) = ap (NextItem (item_of_script s)) (same_items ss)
 
 -- ---- how deep
 
--- what is asked of a script that is read: a hash is as long as hashes are, and no more levels of items than so many
+-- what is asked of a script that is read: a hash is as long as hashes are, and no more than `levels` levels of items
 pub record IsWithin (levels : ℕ) (script : Script) : Type 0 where
   pub shape : IsScript script
   pub nests : nesting (item_of_script script) ≤ levels
@@ -255,7 +255,7 @@ too_deep (RequireMOf n ss) le = omega (arith, le)
 too_deep (RequireTimeStart slot) le = omega (arith, le)
 too_deep (RequireTimeExpire slot) le = omega (arith, le)
 
--- so many levels of items have half as many of scripts
+-- how many levels of items this many levels of scripts have: twice as many
 abbrev pub levels_of : ℕ → ℕ
 levels_of zero = 0
 levels_of (suc depth) = suc (suc (levels_of depth))
@@ -268,7 +268,7 @@ one_more : (depth : ℕ) → ReadsItem item_of_script (IsWithin (suc (suc (level
 unfolding script_at
 one_more depth laws = laws
 
--- a script, of which at most so many stand in one another
+-- a script, of which at most `depth` stand in one another
 pub script_reads : (depth : ℕ) → ReadsItem item_of_script (IsWithin (levels_of depth)) (levels_of depth) (script_at depth)
 script_reads zero = record { takes = λ bytes s rest fits e. nothing_there bytes s rest e; again = λ s rest fits p. absurd (too_deep s p.nests) }
 script_reads (suc depth) = one_more depth (with_reads (levels_of depth) (script_at depth) (script_reads depth))

@@ -4,7 +4,7 @@ use Rattle.model.specs.Cbor.{IsInRange, ItemsAreInRange}
 use Rattle.model.specs.Script.{Script, Scripts, item_of_script, items_of_scripts, IsScript, AreScripts}
 use Rattle.timelock.specs.Depth.{depth_of_script, depth_of_scripts}
 
--- a script's shape and numbers, and at most so many scripts that stand in one another
+-- a script's shape and numbers, and at most `depth` scripts that stand in one another
 pub record FitsIn (depth : ℕ) (script : Script) : Type 0 where
   pub shape : IsScript script
   pub in_range : IsInRange (item_of_script script)

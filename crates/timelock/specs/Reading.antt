@@ -15,7 +15,7 @@ scripts_of (s ∷ ss) = NextScript s (scripts_of ss)
 unfoldable pub scripts_at : Reading Script → Reading Scripts
 scripts_at read bytes = as_at scripts_of (list_array_at read) bytes
 
--- at least so many of these
+-- at least a given number of these
 abbrev pub m_of : ℕ × Scripts → Script
 m_of parts = RequireMOf parts.0 parts.1
 
@@ -42,7 +42,7 @@ script_with read bytes = do
   right ← guard (count.0 == members_of_kind kind.0)
   of_kind_at read kind.0 kind.1
 
--- a script, of which at most so many stand in one another
+-- a script, of which at most `depth` stand in one another
 unfoldable pub script_at : ℕ → Reading Script
 script_at zero bytes = None
 script_at (suc depth) bytes = script_with (script_at depth) bytes

@@ -14,7 +14,7 @@ use cbor::CborFault;
 use ident::KeyHash;
 use std::alloc::Global;
 
-/// So many timelocks, one after the other, of which at most `depth` stand in one another. Where there is none no memory
+/// `count` timelocks, one after the other, of which at most `depth` stand in one another. Where there is none no memory
 /// is asked for.
 #[cycle(reading)]
 fn list(

@@ -16,7 +16,7 @@ pub enum Timelock {
     RequireAllOf(Timelocks),
     /// One of these, at least.
     RequireAnyOf(Timelocks),
-    /// So many of these, at least; what stands there twice counts twice.
+    /// A given number of these, at least; what stands there twice counts twice.
     RequireMOf(u64, Timelocks),
     /// An interval that starts in this slot or later.
     RequireTimeStart(u64),

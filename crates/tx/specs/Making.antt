@@ -29,7 +29,7 @@ parts_of p =
       scripts = p.scripts.items;
     }
 
--- the same parts, but for the order of inputs, signatures and scripts
+-- the same parts, except for the order of inputs, signatures and scripts
 pub record AreSamePartsAs (p q : Parts) : Type 0 where
   pub inputs : IsPermutation p.inputs q.inputs
   pub outputs : q.outputs ≡ p.outputs

@@ -70,7 +70,7 @@ pub record AreEndsSound (p : Parts) : Type 0 where
   pub outputs : ¬ HasManyOutputs p
 
 -- the first fault of the parts, in the order in which they are told apart below; of what stands there more than once
--- the least is told. Want of memory is told only where they have no fault.
+-- the least is told. OutOfMemory is told only where they have no fault.
 abbrev pub IsPartsFault : Parts → PartsFault → Type 0
 IsPartsFault p (faults.RepeatedInput input) = IsFirstRepeated same_input input_cmp p.inputs (input_of input)
 IsPartsFault p (faults.TooManyOutputs count) = ¬ HasRepeatedInput p × HasManyOutputs p × (count ≡ length p.outputs)

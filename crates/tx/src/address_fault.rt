@@ -8,7 +8,7 @@ pub enum AddressFault {
     /// The text has an odd number of digits.
     #[error("an odd number of hexadecimal digits")]
     OddDigits,
-    /// The text has the digits of so many bytes, and not of 33.
+    /// The text has the digits of `bytes` bytes, and not of 33.
     #[error("{bytes} bytes in place of 33")]
     WrongLength { bytes: usize },
     /// The character at this index, in bytes, is no hexadecimal digit.

@@ -14,7 +14,7 @@ pub enum PartsFault {
     /// The least of the inputs that stand there more than once.
     #[error("an input that stands there twice")]
     RepeatedInput(Input),
-    /// So many outputs, which are more than 65,536: the index of an input has 16 bits.
+    /// This many outputs, which are more than 65,536: the index of an input has 16 bits.
     #[error("{0} outputs, where there may be 65536")]
     TooManyOutputs(u64),
     /// The least of the keys of which there is more than one signature.

@@ -18,7 +18,7 @@ or_false false b h = (refl, h)
 
 -- ---- pairs that are put back
 
--- what a UTXO has is that of another but for these inputs, and it has nothing where the other hasn't
+-- what a UTXO has is that of another except for these inputs, and it has nothing where the other hasn't
 record IsLacking (utxo now : Utxo) (inputs : List Input) : Type 0 where
   elsewhere : (q : Input) → is_one_of inputs q ≡ false → output_at now q ≡ output_at utxo q
   nothing : (q : Input) → output_at utxo q ≡ None → output_at now q ≡ None

@@ -17,7 +17,7 @@ use Rattle.utxo_rules.specs.View.{reason_of}
 abbrev pub PassesEarly : Verifies → Params → Utxo → (slot : ℕ) → Transaction → Type 0
 PassesEarly verifies params utxo slot t = (r : Reason) → reason_number r < 8 → passes verifies params utxo slot t r ≡ true
 
--- a fault of a check: the first reason, or want of memory, which is told only where none of the reasons 1 to 7 applies
+-- a fault of a check: the first reason, or OutOfMemory, which is told only where none of the reasons 1 to 7 applies
 abbrev pub IsCheckFault : Verifies → Params → Utxo → (slot : ℕ) → Transaction → CheckFault → Type 0
 IsCheckFault verifies params utxo slot t (Refused reason) =
     reason_against verifies params utxo slot t ≡ Some (reason_of reason)
@@ -55,7 +55,7 @@ first_of_spending verifies utxo t =
     else Some OutputExists)
     else Some NotBalanced
 
--- this reason, or none, is what is told; want of memory tells nothing
+-- this reason, or none, is what is told; OutOfMemory tells nothing
 abbrev pub IsFirstOf : Option Reason → Result (Unit {0}) CheckFault → Type 0
 IsFirstOf first (Ok unit) = first ≡ None
 IsFirstOf first (Err (Refused reason)) = first ≡ Some (reason_of reason)

@@ -23,7 +23,7 @@ coded_diff =
 abbrev pub pairs_at : Utxo → List Input → List (Input × Output)
 pairs_at utxo inputs = flat_map (λ input. map (λ o. (input, o)) (option_to_list (output_at utxo input))) inputs
 
--- so many places of the transaction with this identifier, from this index on
+-- `count` places of the transaction with this identifier, from this index on
 abbrev pub places_from : (id : List ℕ) → (index : ℕ) → (count : ℕ) → List Input
 places_from id index zero = []
 places_from id index (suc count) = place id index ∷ places_from id (suc index) count

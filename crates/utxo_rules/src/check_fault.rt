@@ -7,7 +7,7 @@ use crate::reason::Reason;
 use std::alloc::AllocError;
 use thiserror::Error;
 
-/// Why a check ends without a transaction's being good: a reason against it, or want of memory.
+/// Why a check ends without a transaction's being good: a reason against it, or a lack of memory.
 #[derive(Clone, Copy, Debug, PartialEq, Eq, Error)]
 pub enum CheckFault {
     /// The first reason that there is against the transaction.

@@ -53,7 +53,7 @@ pub fn are_unspent(utxo: &Utxo, inputs: &[Input]) -> bool
     true
 }
 
-/// Whether so much lovelace is at least `min_utxo`, and `per_asset` more for each of the policies' assets. The sum
+/// Whether `coin` lovelace is at least `min_utxo`, and `per_asset` more for each of the policies' assets. The sum
 /// stays within 128 bits, since no more is added to it once it is too much.
 fn is_enough(coin: u64, min_utxo: u64, per_asset: u64, policies: &[Policy<u64>]) -> bool
     ensures { result ≡ nat_le (min_utxo + per_asset * length (assets_under (map policy_of policies.now))) coin }

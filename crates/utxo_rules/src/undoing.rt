@@ -15,7 +15,7 @@ use std::alloc::AllocError;
 use std::sync::Arc;
 use tx::Input;
 
-/// Takes out what stands at so many places of the transaction with this identifier, counted from 0 on.
+/// Takes out what stands at `count` places of the transaction with this identifier, counted from 0 on.
 fn take_places(utxo: &mut Utxo, id: TxId, count: usize) -> Result<(), AllocError>
     requires { count ≤ output_limit }
     ensures { OnOk result (utxo.new ≡ without (places_from id.bytes 0 count) utxo.old) }

@@ -4,7 +4,7 @@ use Rattle.std.specs.Prelude.{flat_map}
 use Rattle.std.proofs.lemmas.List.{take_more, take_all}
 
 module _ {A E : Type 0} (told : A → E) (text : E → List ℕ) where
-  -- what is written of the first so many
+  -- what is written of the first `i`
   abbrev pub texts_to : List A → ℕ → List ℕ
   texts_to all i = flat_map text (map told (take i all))
 

@@ -52,7 +52,7 @@ is_of policy name a = bytes_eq policy a.policy && bytes_eq name a.name
 abbrev pub HasRepeats : {Q : Type 0} → List (AssetQuantity Q) → Type 0
 HasRepeats assets = (policy : List ℕ) × (name : List ℕ) × (1 < count_by (is_of policy name) assets)
 
--- the first fault of the assets; want of memory is told only where they have none
+-- the first fault of the assets; OutOfMemory is told only where they have none
 abbrev pub IsAssetFault : {Q : Type 0} → (Q → ℤ) → List (AssetQuantity Q) → AssetFault → Type 0
 IsAssetFault whole assets faults.NameTooLong = HasLongName assets
 IsAssetFault whole assets faults.ZeroQuantity = ¬ HasLongName assets × HasZero whole assets

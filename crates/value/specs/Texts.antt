@@ -9,14 +9,14 @@ abbrev pub asset_text : (policy name : List ℕ) → List ℕ
 asset_text policy [] = encode_lower policy
 asset_text policy (byte ∷ bytes) = encode_lower policy ++ (codes "." ++ encode_lower (byte ∷ bytes))
 
--- so much of an asset, after a plus sign
+-- a quantity of an asset, after a plus sign
 abbrev pub token_text : List ℕ → Token ℕ → List ℕ
 token_text policy t = codes " + " ++ (decimal t.quantity ++ (codes " " ++ asset_text policy t.name))
 
--- so much of each asset of a policy
+-- the quantity of each asset of a policy
 abbrev pub policy_text : Policy ℕ → List ℕ
 policy_text p = flat_map (token_text p.id) p.tokens
 
--- the coin, and so much of each asset of each policy
+-- the coin, and the quantity of each asset of each policy
 abbrev pub value_text : Value → List ℕ
 value_text value = decimal value.coin ++ (codes " lovelace" ++ flat_map policy_text value.assets)

@@ -9,7 +9,7 @@ use crate::value::Value;
 use ident::{Hex, ScriptHash};
 use std::fmt;
 
-/// So much of an asset, after a plus sign.
+/// A quantity of an asset, after a plus sign.
 #[derive(Drop)]
 struct TokenText<'a> {
     policy: &'a ScriptHash,
@@ -30,7 +30,7 @@ impl<'a> fmt::Display for TokenText<'a> {
     }
 }
 
-/// So much of each asset of a policy.
+/// The quantity of each asset of a policy.
 #[derive(Drop)]
 struct PolicyText<'a> {
     policy: &'a Policy<u64>,
@@ -49,7 +49,7 @@ impl<'a> fmt::Display for PolicyText<'a> {
     }
 }
 
-/// So much of each asset of these policies.
+/// The quantity of each asset of these policies.
 #[derive(Drop)]
 struct AssetsText<'a> {
     policies: &'a [Policy<u64>],
@@ -70,8 +70,9 @@ impl<'a> fmt::Display for AssetsText<'a> {
 impl fmt::Display for Value {
     ghost output = { λ value. Some (value_text value) };
 
-    /// Writes the coin in lovelace, and so much of each asset, in the value's order: `1000 lovelace + 5 POLICY.NAME`,
-    /// with policy and name in lower case hexadecimal, and without the dot where the name is empty.
+    /// Writes the coin in lovelace, and the quantity of each asset, in the value's order:
+    /// `1000 lovelace + 5 POLICY.NAME`, with policy and name in lower case hexadecimal, and without the dot where the
+    /// name is empty.
     fn fmt<W: fmt::Write>(&self, f: &mut fmt::Formatter<W>) -> fmt::Result {
         let coin = self.coin();
         let assets = AssetsText {

@@ -94,9 +94,9 @@ impl Totals {
         self.coin == 0 && self.assets.is_empty()
     }
 
-    /// Adds a value of so many lovelace and these assets, or takes it. Takes a few look-ups for each policy
-    /// and each of its names among those that are listed, and memory for those that are new. Err where memory runs
-    /// out: the sums and what is listed are as they were.
+    /// Adds a value of `coin` lovelace and these assets, or takes it. Takes a few look-ups for each policy and each of
+    /// its names among those that are listed, and memory for those that are new. Err where memory runs out: the sums
+    /// and what is listed are as they were.
     pub(crate) fn change<Q: Quantity>(
         &mut self,
         coin: u64,

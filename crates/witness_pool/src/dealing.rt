@@ -17,7 +17,7 @@ fn deal_one<T: Drop>(shares: &mut VecDeque<Vec<T>>, item: T) -> Result<(), Alloc
     Ok(())
 }
 
-/// So many shares without items.
+/// `count` shares without items.
 fn no_shares<T: Drop>(alloc: Global, count: usize) -> Result<VecDeque<Vec<T>>, AllocError>
     ensures { IfOk result (λ shares. map (λ s. s.items) shares.items ≡ replicate count []) }
 {
@@ -28,7 +28,7 @@ fn no_shares<T: Drop>(alloc: Global, count: usize) -> Result<VecDeque<Vec<T>>, A
     Ok(shares)
 }
 
-/// Items dealt in turns into so many shares.
+/// Items dealt in turns into `count` shares.
 pub fn deal<T: Drop>(
     alloc: Global,
     count: usize,
@@ -58,7 +58,7 @@ fn gather_one<T: Drop>(shares: &mut VecDeque<Vec<T>>) -> Result<Option<T>, Alloc
     Ok(item)
 }
 
-/// So many items that were dealt into shares, in the order in which they were dealt.
+/// `count` items that were dealt into shares, in the order in which they were dealt.
 pub fn gather<T: Drop>(
     alloc: Global,
     mut shares: VecDeque<Vec<T>>,

@@ -3,7 +3,7 @@
 use super::fixture::{
     MEMORY, Made, SMALL_NETWORK, after, answers, boxed, chain_of, core_on, kept, same,
 };
-use super::payments::{bytes_of, names_of, payment_of};
+use super::payments::{bytes_of, hash_of, names_of, payment_of};
 use chain_core::{Core, Place, TxPlace, Why};
 use ident::{BlockHash, TxId};
 use std::process::Abort;
@@ -39,8 +39,8 @@ fn misfit_after(rt: &(impl Abort + AllocGlobal), parent: &Made) -> Made {
     after(rt, &other, 30)
 }
 
-/// A chain of four blocks, of which two are never rolled back, a fork behind the second, a missing block of the fork and
-/// one that waits for it, one that doesn't fit, and one behind the first, which comes too late.
+/// A chain of four blocks, of which two are never rolled back, a fork behind the second, a missing block of the fork
+/// and one that waits for it, one that doesn't fit, and one behind the first, which comes too late.
 #[derive(Drop)]
 struct Around {
     chain: Vec<Made>,
@@ -75,7 +75,7 @@ fn blocks_around(rt: &(impl Abort + AllocGlobal)) -> Box<Around> {
     boxed(rt, around)
 }
 
-/// A core to which they came, but for the missing one and the one that comes too late.
+/// A core to which they came, except for the missing one and the one that comes too late.
 fn core_of(rt: &(impl Abort + AllocGlobal), around: &Around) -> Box<Core<TestScheme>> {
     let mut core = core_on(rt, SMALL_NETWORK);
     for made in around.chain.iter() {
@@ -119,6 +119,65 @@ fn why_blocks_are_not_selected(rt: HostRuntime) {
     told(&rt, &core, around.waiting.hash, Why::Waits(missing));
     told(&rt, &core, misfit, Why::Misfit(misfit));
     told(&rt, &core, missing, Why::Unknown);
+}
+
+/// The blocks that no way leads to are these, in this order.
+fn unconnected(rt: &impl Abort, core: &Core<TestScheme>, want: &[&Made]) {
+    let mut found = core.unconnected();
+    for made in want {
+        let block = found.next().expect(rt, "a block that no way leads to");
+        assert!(rt; block.hash() == made.hash);
+    }
+    assert!(rt; found.next().is_none());
+}
+
+// One that doesn't fit and one that waits, the furthest first. When the missing one came the fork is selected, and of
+// the old chain the fourth block is left behind a third that may never come back.
+#[test]
+fn blocks_that_no_way_leads_to(rt: HostRuntime) {
+    let around = blocks_around(&rt);
+    let mut core = core_of(&rt, &around);
+    let left = on_chain(&rt, &around.chain, 3);
+    unconnected(&rt, &core, &[&around.misfit, &around.waiting]);
+    answers(&rt, &mut core, &around.missing.text, kept(2, 3));
+    unconnected(&rt, &core, &[&around.misfit, left]);
+    assert!(rt; core.discard(around.misfit.hash).is_ok());
+    unconnected(&rt, &core, &[left]);
+    assert!(rt; core.discard(left.hash).is_ok());
+    unconnected(&rt, &core, &[]);
+}
+
+// A block that is found invalid is among them, and so is one behind it, until a discard forgets what was found.
+#[test]
+fn blocks_behind_an_invalid_one(rt: HostRuntime) {
+    let names = names_of(
+        &rt,
+        "block A1 genesis 1\nblock B1 genesis 2 Unbalanced\nblock B2 B1 3",
+    );
+    let mut core = core_on(&rt, SMALL_NETWORK);
+    for (name, change) in [("A1", kept(0, 1)), ("B1", kept(0, 0)), ("B2", kept(0, 0))] {
+        answers(&rt, &mut core, bytes_of(&rt, &names, name), change);
+    }
+    let mut numbers = core.unconnected();
+    for want in [2, 1] {
+        let block = numbers.next().expect(&rt, "a block that no way leads to");
+        same(&rt, "the number", block.number(), want);
+    }
+    assert!(rt; numbers.next().is_none());
+    let last = hash_of(&rt, &names, "B2");
+    assert!(rt; core.discard(last).is_ok());
+    assert!(rt; core.unconnected().next().is_none());
+}
+
+#[test]
+fn a_core_is_shown_by_its_numbers(rt: HostRuntime) {
+    let around = blocks_around(&rt);
+    let core = core_of(&rt, &around);
+    let shown = format!(in rt.alloc(); "{core:?}").expect(&rt, MEMORY);
+    assert!(rt;
+        shown.as_str() == "Core { height: 4, immutable: 2, mempool: 0, .. }",
+        "{shown}"
+    );
 }
 
 // The blocks of a chain of four from a number on.

@@ -78,7 +78,7 @@ fn keep(rt: &impl Abort, chains: &mut Chains, block: CheckedBlock<TestScheme>, d
         .drop_up_to(chain_tip(&chains.chain[..immutable]));
 }
 
-/// The block of this name comes; then the chain has so many blocks, and so many are found dead.
+/// The block of this name comes; then the chain has `length` blocks, and `dead` are found dead.
 fn comes(rt: &(impl Abort + AllocGlobal), chains: &mut Chains, name: &str, length: u64, dead: u64) {
     let block = block_of(rt, &chains.names, name);
     let Selection {
@@ -107,7 +107,7 @@ fn is_marked(rt: &(impl Abort + AllocGlobal), chains: &Chains, name: &str) -> Op
     Some(chains.store.get(hash)?.is_invalid())
 }
 
-/// The chain ends in the block of this name, where there are so many fees.
+/// The chain ends in the block of this name, where the fees are this much.
 fn ends_in(rt: &(impl Abort + AllocGlobal), chains: &Chains, name: &str, fees: u64) {
     let tip = chains.chain.last().expect(rt, "a block");
     assert!(rt; tip.hash() == hash_of(rt, &chains.names, name));

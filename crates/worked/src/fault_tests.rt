@@ -25,8 +25,8 @@ fn numbers_and_names(rt: HostRuntime) {
     }
 }
 
-/// So many outputs that are alike, to the key of 32 bytes 01 in the first two rows and those of a coin of 0, and the
-/// fault. Of too many outputs with another fault each that one is told.
+/// A number of outputs that are alike, to the key of 32 bytes 01 in the first two rows and those of a coin of 0, and
+/// the fault. Of too many outputs with another fault each that one is told.
 const COUNTS: &[(u32, &str, Option<GenesisFault>)] = &[
     (
         10_000,
@@ -52,7 +52,7 @@ const COUNTS: &[(u32, &str, Option<GenesisFault>)] = &[
     (10_001, "{ key }", Some(GenesisFault::NotToml)),
 ];
 
-/// The document of so many outputs that are alike.
+/// The document of `count` outputs that are alike.
 fn document_of(rt: &(impl Abort + AllocGlobal), count: u32, output: &str) -> String {
     let mut text = NUMBERS.to_string(rt.alloc()).expect(rt, MEMORY);
     text.push_str("output = [").expect(rt, MEMORY);

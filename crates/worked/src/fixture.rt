@@ -7,8 +7,8 @@ use ident::BlockHash;
 use std::process::Abort;
 use witness_pool::TestScheme;
 
-// Each way out of a function drops all that it owns, which makes its proof longer. So want of memory and what can't be
-// otherwise end a test on the spot, and what has much to drop stands in a box, whose drop is a call.
+// Each way out of a function drops all that it owns, which makes its proof longer. So a lack of memory and what can't
+// be otherwise end a test on the spot, and what has much to drop stands in a box, whose drop is a call.
 
 /// What is said where memory runs out.
 pub const MEMORY: &str = "memory";

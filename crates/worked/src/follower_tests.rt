@@ -88,7 +88,7 @@ fn arrive_all(rt: &(impl Abort + AllocGlobal), events: &mut Vec<RawEvent>, block
     }
 }
 
-/// The follower asks so many times what is next.
+/// The follower asks `times` times what is next.
 fn ask(rt: &impl Abort, events: &mut Vec<RawEvent>, times: u64) {
     for _ in 0..times {
         events.push(RawEvent::Next(FOLLOWER)).expect(rt, MEMORY);

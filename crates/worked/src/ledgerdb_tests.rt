@@ -17,7 +17,7 @@ pub fn new_db(rt: &(impl Abort + AllocGlobal), k: u64) -> Box<LedgerDb> {
     boxed(rt, LedgerDb::new(rt.alloc(), opening, k))
 }
 
-/// What a fork that rolls so many blocks back is refused for, or None where it is put on.
+/// What a fork that rolls `back` blocks back is refused for, or None where it is put on.
 pub fn switch(
     db: &mut LedgerDb,
     back: usize,
@@ -35,7 +35,7 @@ pub fn switch(
     }
 }
 
-/// The state so many blocks ago has this slot and these fees.
+/// The state `back` blocks ago has this slot and these fees.
 fn is_seen(rt: &(impl Abort + AllocGlobal), db: &LedgerDb, back: usize, slot: u64, fees: u64) {
     assert!(rt; back <= db.depth());
     let state = boxed(rt, db.state_at(back).expect(rt, MEMORY));

@@ -1,6 +1,6 @@
-//! Worked examples that a file of cases can't say, of the rules of transactions, of the unspent outputs, of genesis
-//! files, of blocks that are applied, of the chains of such blocks, of the mempool, of the core and of scripts: each is
-//! a test, with what is to come out written by hand.
+//! Worked examples that a file of cases can't say, of maps, of the rules of transactions, of the unspent outputs, of
+//! genesis files, of blocks that are applied, of the chains of such blocks, of the mempool, of the core and of scripts:
+//! each is a test, with what is to come out written by hand.
 #![tactic(auto)]
 
 #[cfg(test)]
@@ -21,6 +21,8 @@ mod follower_tests;
 mod genesis_tests;
 #[cfg(test)]
 mod ledgerdb_tests;
+#[cfg(test)]
+mod map_tests;
 #[cfg(test)]
 mod mempool_tests;
 #[cfg(test)]

@@ -22,7 +22,7 @@ const PARAMS: Params = Params {
     second_era: None,
 };
 
-/// The number of the first reason against a transaction at slot 7, 0 for none, and 15 for want of memory.
+/// The number of the first reason against a transaction at slot 7, 0 for none, and 15 where memory runs out.
 fn told(alloc: Global, params: &Params, utxo: &Utxo, tx: &CheckedTx<TestScheme>) -> u64 {
     match check(alloc, params, utxo, 7, tx) {
         Ok(()) => 0,
@@ -39,7 +39,7 @@ fn genesis(index: u16) -> Input {
     }
 }
 
-/// The UTXO of so many outputs of the genesis, each of this lovelace.
+/// The UTXO of `count` outputs of the genesis, each of this lovelace.
 fn opening(rt: &(impl Abort + AllocGlobal), count: u16, coin: u64) -> Box<Utxo> {
     let mut utxo = no_outputs(rt);
     for index in 0..count {

@@ -54,7 +54,7 @@ fn a_reader_that_fails(rt: HostRuntime) {
     );
 }
 
-/// A writer that takes no more than so many bytes.
+/// A writer that takes no more than `room` bytes.
 #[derive(Drop)]
 struct Limited {
     room: usize,

@@ -33,7 +33,7 @@ fn script(rt: &(impl Abort + AllocGlobal)) -> Script {
     Script::new(rt.alloc(), all).expect(rt, "a script")
 }
 
-/// Assets of the policy: so many of one name, and so many of another.
+/// Assets of the policy: `quantity` of one name, and `other_quantity` of another.
 fn assets<Q: Drop>(
     rt: &(impl Abort + AllocGlobal),
     policy: ScriptHash,

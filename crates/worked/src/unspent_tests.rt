@@ -7,7 +7,7 @@ use tx::{Address, Credential, Input, Output};
 use utxo_rules::{Entries, Utxo};
 use value::Value;
 
-/// The output of so much lovelace to the key of 32 bytes 01.
+/// The output of `coin` lovelace to the key of 32 bytes 01.
 fn output(rt: &(impl Abort + AllocGlobal), coin: u64) -> Output {
     let key = Credential::Key(KeyHash::of_key(&[1; 32]));
     Output {
@@ -16,7 +16,7 @@ fn output(rt: &(impl Abort + AllocGlobal), coin: u64) -> Output {
     }
 }
 
-/// Puts an output of so much lovelace into a UTXO.
+/// Puts an output of `coin` lovelace into a UTXO.
 pub fn put_unspent(rt: &(impl Abort + AllocGlobal), utxo: &mut Utxo, place: &Input, coin: u64) {
     let output = output(rt, coin);
     utxo.insert(place, output).expect(rt, MEMORY);
@@ -43,7 +43,7 @@ fn input(index: u16) -> Input {
     }
 }
 
-/// There are so many outputs, and the lovelace of those of the indexes 0, 1 and 256 is this, 0 where there is none.
+/// There are `count` outputs, and the lovelace of those of the indexes 0, 1 and 256 is this, 0 where there is none.
 fn holds(rt: &impl Abort, utxo: &Utxo, count: u64, at_0: u64, at_1: u64, at_256: u64) {
     same(rt, "outputs", utxo.len() as u64, count);
     assert!(rt; utxo.is_empty() == (count == 0));
@@ -100,7 +100,7 @@ fn script_address(rt: &impl Abort) -> Address {
     Address::new(0, script).expect(rt, "a network")
 }
 
-/// The output of so much lovelace to that script.
+/// The output of `coin` lovelace to that script.
 fn to_script(rt: &(impl Abort + AllocGlobal), coin: u64) -> Output {
     Output {
         address: script_address(rt),

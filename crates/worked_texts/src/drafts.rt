@@ -16,16 +16,16 @@ use value::AssetQuantity;
 enum Part {
     /// The output at this place of the transaction of 32 such bytes is spent.
     Spend(u8, u16),
-    /// 910 lovelace to the key of 32 bytes 01, with assets under names of so many bytes 07, each with so much of it.
+    /// 910 lovelace to the key of 32 bytes 01, with assets: of each how many bytes 07 its name has, and its quantity.
     Pay(&'static [(usize, u64)]),
     Fee(u64),
     Start(u64),
     End(u64),
-    /// So much is minted under a name of so many bytes 07.
+    /// Under a name of this many bytes 07 this quantity is minted.
     Mint(usize, i64),
     /// The key of 32 such bytes signs.
     Sign(u8, Signing),
-    /// The script that asks for all of none, inside others of one member: so many scripts in one another.
+    /// The script that asks for all of none, inside others of one member: this many scripts in one another.
     Supply(usize),
 }
 
@@ -34,12 +34,12 @@ fn policy() -> ScriptHash {
     ScriptHash::of_script(b"\x82\x01\x80")
 }
 
-/// A name of so many bytes.
+/// A name of `size` bytes.
 fn name(rt: &(impl Abort + AllocGlobal), size: usize) -> Vec<u8> {
     vec![in rt.alloc(); 7u8; size].expect(rt, MEMORY)
 }
 
-/// Adds an output of 910 lovelace with assets under names of so many bytes, each with so much of it.
+/// Adds an output of 910 lovelace with assets: of each how many bytes its name has, and its quantity.
 fn pay<K: Signer + Drop>(
     rt: &(impl Abort + AllocGlobal),
     draft: &mut Draft<K>,

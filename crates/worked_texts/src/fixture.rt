@@ -26,8 +26,8 @@ fn digit(character: u8) -> Option<u8> {
     }
 }
 
-// Each way out of a function drops all that it owns, which makes its proof longer. So want of memory and what can't be
-// otherwise end a test on the spot.
+// Each way out of a function drops all that it owns, which makes its proof longer. So a lack of memory and what can't
+// be otherwise end a test on the spot.
 
 /// What is said where memory runs out.
 pub const MEMORY: &str = "memory";

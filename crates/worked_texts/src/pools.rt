@@ -21,7 +21,7 @@ const JOBS: &[&[&str]] = &[
     SIGNED_MINTING,
 ];
 
-/// The transactions with their verdicts, by so many workers.
+/// The transactions with their verdicts, by `workers` workers.
 fn checked_by<R: Threads + Sync + Abort + AllocGlobal, G: Gate + Drop>(
     rt: &R,
     gate: G,
@@ -60,7 +60,7 @@ fn verdicts_of_a_pool(rt: HostRuntime) {
     }
 }
 
-/// How many of the first so many jobs have their verdicts, or why none has.
+/// How many of the first `jobs` jobs have their verdicts, or why none has.
 fn count_by<R: Threads + Sync + Abort + AllocGlobal>(
     rt: &R,
     workers: usize,
@@ -181,7 +181,7 @@ impl Gate for Log {
     }
 }
 
-/// What a gate is told of five payments, by so many workers.
+/// What a gate is told of five payments, by `workers` workers.
 fn log_of<R: Threads + Sync + Abort + AllocGlobal>(rt: &R, workers: usize) -> Log {
     let log = Log::new();
     checked_by(rt, &log, workers, &[SIGNED; 5]).expect(rt, "verdicts");

@@ -6,7 +6,7 @@ use std::alloc::{AllocError, Global};
 use std::process::Abort;
 use timelock::{Script, ScriptFault, Timelock, Timelocks};
 
-/// So many timelocks that ask for all of one, inside one another.
+/// `count` timelocks that ask for all of one, inside one another.
 fn nested_timelock(alloc: Global, count: usize) -> Result<Timelock, AllocError> {
     let mut timelock = Timelock::RequireAllOf(Timelocks::from_vec(Vec::new(alloc)));
     for _ in 1..count {
@@ -17,7 +17,7 @@ fn nested_timelock(alloc: Global, count: usize) -> Result<Timelock, AllocError> 
     Ok(timelock)
 }
 
-/// The script of so many timelocks that ask for all of one, inside one another: each nests two deeper than the next.
+/// The script of `count` timelocks that ask for all of one, inside one another: each nests two deeper than the next.
 pub fn nested(alloc: Global, count: usize) -> Result<Script, ScriptFault> {
     let timelock = nested_timelock(alloc, count)?;
     Script::new(alloc, timelock)

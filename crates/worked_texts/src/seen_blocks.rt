@@ -15,7 +15,7 @@ type Answer = Result<CheckedBlock<TestScheme>, BadBytes>;
 /// What is told of bytes: which transactions of their block are signed, or why they spell none.
 type Told = Result<&'static [bool], BadBytes>;
 
-/// The bytes as so many workers see them.
+/// The bytes as `workers` workers see them.
 fn seen_by<R: Threads + Sync + Abort + AllocGlobal>(
     rt: &R,
     workers: usize,
@@ -26,7 +26,7 @@ fn seen_by<R: Threads + Sync + Abort + AllocGlobal>(
     Seen::read_with(rt, rt.alloc(), &pool, workers, bytes)
 }
 
-/// So many workers are refused, and the bytes come back.
+/// This many workers are refused, and the bytes come back.
 fn is_refused<R: Threads + Sync + Abort + AllocGlobal>(rt: &R, workers: usize, bytes: &[u8]) {
     let refused = seen_by(rt, workers, bytes).err().expect(rt, "a fault");
     check(rt, "workers", refused.fault == PoolFault::BadWorkers);

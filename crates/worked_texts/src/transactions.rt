@@ -122,7 +122,7 @@ fn key_of_a_signature(rt: HostRuntime) {
 const SPENDING: &[u8] =
     b"\x83\xa3\x00\x81\x82\x58\x200123456789abcdef0123456789abcdef\x07\x01\x80\x02\x00\xa0\xf6";
 
-// Whichever allocation is refused, the transaction isn't read for want of memory, or nothing is written of it.
+// Whichever allocation is refused, the transaction isn't read for lack of memory, or nothing is written of it.
 #[test]
 fn refused_memory(rt: HostRuntime) {
     let mut out = Vec::new(rt.alloc());

@@ -22,7 +22,7 @@ fn assets_of<Q: Copy + Drop>(
     assets
 }
 
-/// The value of so many lovelace and these assets.
+/// The value of `coin` lovelace and these assets.
 pub fn value_of(
     rt: &(impl Abort + AllocGlobal),
     coin: u64,
@@ -49,7 +49,7 @@ const SHORTER: &[u8] = b"0123456789abcdefghijklmnopqrstu";
 /// An asset by the byte of its policy, its name and its quantity.
 type Held = (u8, &'static [u8], u64);
 
-/// So many lovelace and assets, and the text of their value.
+/// An amount of lovelace, and assets, and the text of their value.
 type Made = (u64, &'static [Held], &'static [&'static str]);
 
 /// 5 lovelace and the assets of two policies, of which the first has the empty name and two longer ones.
@@ -234,7 +234,7 @@ fn coin_alone_and_nothing_minted(rt: HostRuntime) {
     check(&rt, "nothing", *made == *nothing);
 }
 
-/// So many lovelace and assets, and the pieces of the text for people.
+/// An amount of lovelace, and assets, and the pieces of the text for people.
 type Shown = (u64, &'static [Held], &'static [&'static str]);
 
 /// Coin alone, the assets of two policies, and the greatest coin and quantity.

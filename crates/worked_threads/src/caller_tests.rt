@@ -10,7 +10,7 @@ use ident::{BlockHash, Point};
 use inbox::Mailroom;
 use mempool::SubmitReply;
 use script::Names;
-use shared::{Caller, MAX_CALLERS, OpenFault, Opened, Room, Shared};
+use shared::{Adder, Caller, MAX_CALLERS, OpenFault, Opened, Room, Shared};
 use std::marker::Brand;
 use std::process::Abort;
 use std::sync::Wait;
@@ -69,6 +69,20 @@ fn makes_all_calls<B: Room, R: Wait + Abort + AllocGlobal>(
     follows(rt, shared, caller, bytes_of(rt, names, "A1"));
 }
 
+/// Those who have a part are shown by what waits for nobody.
+fn are_shown<B: Room, M: Mailroom>(
+    rt: &(impl Abort + AllocGlobal),
+    shared: &Shared<TestScheme, B>,
+    adder: &Adder<TestScheme, OpenGate, B, M>,
+    caller: &Caller<B>,
+) {
+    let shown = format!(in rt.alloc(); "{shared:?} {adder:?} {caller:?}").expect(rt, MEMORY);
+    assert!(rt;
+        shown.as_str() == "Shared { .. } Adder { .. } Caller { number: 2, .. }",
+        "{shown}"
+    );
+}
+
 /// The adder brings a block; a caller who made no call so far sees it, and makes its calls. Then the adder and another
 /// caller meet, and that one sees the same height.
 fn calls_beside_an_adder<B: Room, M: Mailroom, R: Threads + Wait + Abort + AllocGlobal + Sync>(
@@ -92,6 +106,7 @@ fn calls_beside_an_adder<B: Room, M: Mailroom, R: Threads + Wait + Abort + Alloc
     adder.meet(rt, shared, &mut other);
     shared.meet(rt, &mut caller, &mut other);
     same(rt, "after", shared.height(&mut other), 1);
+    are_shown(rt, shared, adder, &other);
 }
 
 /// The caller's call to discard the block of this hash answers that there is none beside the chain.
@@ -160,7 +175,7 @@ fn adder_and_callers(rt: HostRuntime) {
     called_beside_an_adder::<Brand, Brand, _>(&rt, opened, inbox);
 }
 
-/// Why there is no core for so many callers, where there is none.
+/// Why there is no core for `callers` callers, where there is none.
 fn refused(rt: &(impl Abort + AllocGlobal), callers: usize) -> Option<OpenFault> {
     open(rt, callers).err()
 }

@@ -30,8 +30,8 @@ fn two_blocks(alloc: Global) -> Result<Vec<Vec<u8>>, AllocError>
     Ok(blocks)
 }
 
-// How many blocks are opened after two were put onto a log whose disk fails in the call after so many, and how many
-// had been durable; None where no log was made or opened.
+// How many blocks are opened after two were put onto a log whose disk fails in the call after `calls` others, and how
+// many had been durable; None where no log was made or opened.
 fn opened_after(
     rt: &(impl AllocGlobal + Threads + Sync),
     calls: u64,
@@ -240,7 +240,7 @@ fn torn_writes_in_ten_appends(rt: HostRuntime) {
     assert!(rt; counts == [50 * 3 + 10 * 6, 0, 0]);
 }
 
-/// One block of so many bytes. None where a log takes none of that size.
+/// One block of `size` bytes. None where a log takes none of that size.
 fn block_of(alloc: Global, size: usize) -> Option<Vec<Vec<u8>>>
     ensures { IfSome result (λ blocks. AllByRecursion IsLogBlock (lists_of blocks.items)) }
 {

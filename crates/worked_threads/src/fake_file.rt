@@ -24,7 +24,7 @@ pub struct FakeFile {
 }
 
 impl FakeFile {
-    /// One without a byte, which fails in the call after so many others.
+    /// One without a byte, which fails in the call after `calls` others.
     pub fn new(alloc: Global, calls: u64) -> FakeFile {
         FakeFile {
             bytes: Vec::new(alloc),
@@ -44,7 +44,7 @@ impl FakeFile {
         }
     }
 
-    /// The same file, which fails in the call after so many others.
+    /// The same file, which fails in the call after `calls` others.
     pub fn failing_after(self, calls: u64) -> FakeFile {
         FakeFile {
             calls_left: Cell::new(calls),

@@ -19,8 +19,8 @@ use std::sync::Wait;
 use std::thread::Threads;
 use witness_pool::{Gate, Pool, TestScheme};
 
-// Each way out of a function drops all that it owns, which makes its proof longer. So want of memory and what can't be
-// otherwise end a test on the spot, and what has much to drop stands in a box, whose drop is a call.
+// Each way out of a function drops all that it owns, which makes its proof longer. So a lack of memory and what can't
+// be otherwise end a test on the spot, and what has much to drop stands in a box, whose drop is a call.
 
 /// What is said where memory runs out.
 pub const MEMORY: &str = "memory";
@@ -61,7 +61,7 @@ pub fn genesis_of(rt: &(impl Abort + AllocGlobal)) -> Genesis {
     Genesis::from_toml(rt.alloc(), SMALL_NETWORK).expect(rt, "a genesis")
 }
 
-/// The core of the small network, for so many callers.
+/// The core of the small network, for `callers` callers.
 pub fn open(
     rt: &(impl Abort + AllocGlobal),
     callers: usize,
@@ -157,7 +157,7 @@ pub fn sends<M: Mailroom, R: Wait + Abort + AllocGlobal>(
     assert!(rt; sent.is_ok());
 }
 
-/// The adder brings so many arrivals in so many turns.
+/// The adder brings `want` arrivals in `turns` turns.
 pub fn adds<G, B, M, R>(
     rt: &R,
     adder: &mut Adder<TestScheme, G, B, M>,
@@ -191,7 +191,7 @@ where
     adder.drain(rt, shared, peers).expect(rt, MEMORY);
 }
 
-/// A chain of so many blocks, by lines of scripts.
+/// A chain of `blocks` blocks, by lines of scripts.
 pub fn chain_lines(rt: &(impl Abort + AllocGlobal), blocks: usize) -> String {
     let mut lines = String::new(rt.alloc());
     lines.push_str("block B1 genesis 1\n").expect(rt, MEMORY);

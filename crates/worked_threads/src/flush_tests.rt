@@ -22,7 +22,7 @@ fn text_of(rt: &(impl Abort + AllocGlobal), number: u64, previous: Option<BlockH
     write_empty(rt.alloc(), &header).expect(rt, "a block")
 }
 
-/// A core to which so many blocks came, one after the other.
+/// A core to which `blocks` blocks came, one after the other.
 fn core_after(rt: &(impl Abort + AllocGlobal), blocks: u64) -> Box<Core<TestScheme>> {
     let core = Core::new(rt.alloc(), genesis_of(rt)).expect(rt, MEMORY);
     let mut core = Box::new(rt.alloc(), core).expect(rt, MEMORY);
@@ -37,7 +37,7 @@ fn core_after(rt: &(impl Abort + AllocGlobal), blocks: u64) -> Box<Core<TestSche
     core
 }
 
-/// A log of the immutable blocks of a core to which so many came.
+/// A log of the immutable blocks of a core to which `blocks` blocks came.
 fn log_after(rt: &(impl Abort + AllocGlobal), blocks: u64) -> Box<Log<FileDisk<FakeFile>>> {
     let core = core_after(rt, blocks);
     let disk = FileDisk::open(rt.alloc(), FakeFile::new(rt.alloc(), u64::MAX)).expect(rt, MEMORY);

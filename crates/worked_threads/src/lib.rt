@@ -1,5 +1,5 @@
-//! What data can't say of disks, of logs, and of a shared core: its callers and its adder, on one thread and on
-//! several, and simulations.
+//! What data can't say of disks, of logs, of an inbox, and of a shared core: its callers and its adder, on one thread
+//! and on several, and simulations.
 #![tactic(auto)]
 
 #[cfg(test)]
@@ -18,6 +18,10 @@ mod fixture;
 mod flush_tests;
 #[cfg(test)]
 mod gated_file;
+#[cfg(test)]
+mod inbox_tests;
+#[cfg(test)]
+mod inbox_threads_tests;
 #[cfg(test)]
 mod kept_disk;
 #[cfg(test)]

@@ -59,7 +59,7 @@ fn goes_on<B: Room, R: Wait + Abort + AllocGlobal>(
     }
 }
 
-/// A client's follower is told what the client wasn't told yet, until it has so many blocks. Their points.
+/// A client's follower is told what the client wasn't told yet, until it has `blocks` blocks. Their points.
 fn follows<B: Room, R: Wait + Abort + AllocGlobal>(
     rt: &R,
     shared: &Shared<TestScheme, B>,

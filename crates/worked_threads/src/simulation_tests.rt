@@ -12,7 +12,7 @@ use std::thread;
 use std::thread::Threads;
 use witness_pool::{Gate, OpenGate, TestScheme};
 
-/// How many threads a simulation of so many clients has: the adder's, the peers', and the clients'.
+/// How many threads a simulation of `clients` clients has: the adder's, the peers', and the clients'.
 fn threads_of(clients: usize) -> usize {
     clients.saturating_add(PEERS + 1)
 }
@@ -111,7 +111,7 @@ fn genesis_of(rt: &(impl Abort + AllocGlobal), back: &str) -> Genesis {
     Genesis::from_toml(rt.alloc(), text.as_str()).expect(rt, "a genesis")
 }
 
-/// A chain of 40 blocks, which so many peers send in turn: the first one the first block, and so on.
+/// A chain of 40 blocks, which `peers` peers send in turn: the first one the first block, and so on.
 fn forty_blocks(rt: &(impl Abort + AllocGlobal), peers: u64) -> String {
     let mut lines = String::new(rt.alloc());
     lines.push_str("block N1 genesis 1\n").expect(rt, MEMORY);
@@ -127,7 +127,7 @@ fn forty_blocks(rt: &(impl Abort + AllocGlobal), peers: u64) -> String {
     lines
 }
 
-/// A simulation of this script with so many clients, where the line says how many blocks may be rolled back, prints
+/// A simulation of this script with `clients` clients, where the line says how many blocks may be rolled back, prints
 /// this.
 fn simulates<G: Gate>(
     rt: &(impl Abort + Threads + Wait + Sync + AllocGlobal),
@@ -202,7 +202,7 @@ struct Gathering {
 }
 
 impl Gathering {
-    /// None of so many threads has begun.
+    /// None of `threads` threads has begun.
     fn new(rt: &(impl Abort + AllocGlobal), threads: usize) -> Gathering {
         let mut begun = Vec::new(rt.alloc());
         for _ in 0..threads {
@@ -240,7 +240,7 @@ impl Gate for Gathering {
     }
 }
 
-/// All threads of a simulation with so many clients begin before any of them goes on.
+/// All threads of a simulation with `clients` clients begin before any of them goes on.
 fn gathers(rt: &(impl Abort + Threads + Wait + Sync + AllocGlobal), clients: usize, told: &str) {
     let threads = threads_of(clients);
     let gate = Gathering::new(rt, threads);

@@ -1,4 +1,4 @@
--- So many were read, and what is left reads to the rest of the whole.
+-- The first `counter` were read, and what is left reads to the rest of the whole.
 use Rattle.std.proofs.Common.{◌≡◌, map, ◌-◌}
 use Rattle.cbor.specs.Shapes.{list_at}
 use Rattle.cbor.proofs.ListLoops.{with_front}

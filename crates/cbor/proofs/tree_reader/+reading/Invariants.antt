@@ -1,5 +1,5 @@
--- Each loop has read so many, and what is left reads to the rest of the whole. The measures go
--- down with the nesting, and at one depth from arrays and maps to what is in them, and to its items.
+-- Each loop has read `counter` of them, and what is left reads to the rest of the whole. The measures go down with the
+-- nesting, and at one depth from arrays and maps to what is in them, and to its items.
 use Rattle.std.proofs.Common.{◌≡◌, [], ◌+◌, ◌-◌, ◌*◌}
 use Rattle.cbor.specs.Tree.{members_of, entries_of}
 use Rattle.cbor.specs.ItemReading.{item_at, items_at, pairs_at}

@@ -4,7 +4,7 @@ use Rattle.chainsel.specs.Founds.{AreFound}
 use Rattle.chainsel.specs.Choices.{AreDeadInAll, IsSideInAll}
 use Rattle.chainsel.proofs.search.search.Given as goal
 
--- what was found dead by now is so, no block was found twice, and the state beside the chain is one of blocks at hand
+-- what was found dead so far is dead, no block was found twice, and the state beside the chain is one of blocks at hand
 abbrev pub invariant-loop-side : goal.invariant-loop-side
 invariant-loop-side g l = record {
   found : AreFound l.store l.found.hashes.items;

@@ -1,4 +1,4 @@
--- So many of the last ones are undone.
+-- The last `counter` are undone.
 use Rattle.ledgerdb.proofs.Along.{IsPartBack}
 use Rattle.ledgerdb.proofs.diffs.undo_last.Given as goal
 

@@ -1,5 +1,5 @@
--- The loop has read so many, and what is left reads to the rest of the whole. The measures go down with the depth, and
--- at one depth from what stands after a kind to an array, to its members, and to each of them.
+-- The loop has read `counter` of them, and what is left reads to the rest of the whole. The measures go down with the
+-- depth, and at one depth from what stands after a kind to an array, to its members, and to each of them.
 use Rattle.std.proofs.Common.{◌≡◌, ◌+◌, ◌-◌, ◌*◌, map}
 use Rattle.cbor.specs.Shapes.{list_at}
 use Rattle.cbor.proofs.ForCallers.{with_front}

@@ -1,4 +1,4 @@
-use Rattle.worked_inbox.proofs.inbox_tests.inbox_in_order.Given as goal
+use Rattle.worked_threads.proofs.inbox_tests.inbox_in_order.Given as goal
 
 abbrev pub ghosts-in_order : goal.ghosts-in_order
 ghosts-in_order g a = record { table = a.opened.table; capacity = a.opened.capacity }

@@ -283,7 +283,7 @@ const COMMENT: &str =
     "# a script of which every line but the last one is this comment, in 98 bytes \
 with its line feed .\n";
 
-/// A text that has this part so many times.
+/// A text that has this part `count` times.
 pub fn many(rt: &(impl Abort + AllocGlobal), part: &str, count: u32) -> String {
     let mut text = String::new(rt.alloc());
     for _ in 0..count {

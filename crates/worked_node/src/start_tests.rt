@@ -9,8 +9,8 @@ use std::sync::Wait;
 use std::thread::Threads;
 use std::{fs, io};
 
-// Each way out of a function drops all that it owns, which makes its proof longer. So want of memory and what can't be
-// otherwise end a test on the spot.
+// Each way out of a function drops all that it owns, which makes its proof longer. So a lack of memory and what can't
+// be otherwise end a test on the spot.
 
 /// What is said where memory runs out.
 pub const MEMORY: &str = "memory";

@@ -1,4 +1,4 @@
-use Rattle.worked_inbox.proofs.thread_tests.sent_from_another_thread.Given as goal
+use Rattle.worked_threads.proofs.inbox_threads_tests.sent_from_another_thread.Given as goal
 
 abbrev pub ghosts-crossed : goal.ghosts-crossed
 ghosts-crossed g a = record { table = a.opened.table; capacity = a.opened.capacity }

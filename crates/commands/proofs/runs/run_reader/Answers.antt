@@ -3,7 +3,7 @@ use Rattle.model.proofs.LegalHistories.{opens_nothing}
 use Rattle.commands.specs.Ending.{options_by}
 use Rattle.commands.specs.Schemes.{verifies_by}
 use Rattle.commands.proofs.NotBegun.{not_begun}
-use Rattle.commands.proofs.program.run_reader.Goals as goal
+use Rattle.commands.proofs.runs.run_reader.Goals as goal
 
 pub returns-in_default-clause-fault : goal.returns-in_default-clause-fault
 returns-in_default-clause-fault g c =
