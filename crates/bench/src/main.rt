@@ -8,6 +8,7 @@ mod calls;
 mod cores;
 mod following;
 mod hostile;
+mod indexing;
 mod keys;
 mod ledger_states;
 mod load;
@@ -49,6 +50,7 @@ enum Asked {
     Calls,
     Questions,
     Places,
+    Indexing,
     /// Blocks are put onto a log until the program is killed.
     Appending,
     /// What is measured once, to see that it can be.
@@ -76,6 +78,7 @@ fn asked_by(word: &str) -> Option<Asked> {
         "calls" => Some(Asked::Calls),
         "questions" => Some(Asked::Questions),
         "places" => Some(Asked::Places),
+        "watching" => Some(Asked::Indexing),
         "append" => Some(Asked::Appending),
         _ => None,
     }
@@ -117,6 +120,7 @@ fn main(rt: HostRuntime) -> io::Result<()> {
         Asked::Calls => calls::measure(&rt),
         Asked::Questions => peers::measure_questions(&rt, rt.alloc()),
         Asked::Places => places::measure(&rt),
+        Asked::Indexing => indexing::measure(&rt),
         Asked::Appending => logs::append(&rt),
         Asked::Names => {
             blocks::measure(&rt, Telling::Names)?;
@@ -125,7 +129,7 @@ fn main(rt: HostRuntime) -> io::Result<()> {
             println!(rt;
                 "to measure: bench persistent_map, bench blocks, bench ledger, bench scripts, bench pools, \
 bench signatures, bench peers, bench questions, bench arrivals, bench hostile, bench followers, bench mempool, \
-bench reopen, bench log, bench load, bench calls, bench memory"
+bench reopen, bench log, bench load, bench calls, bench memory, bench watching"
             )
         }
     }

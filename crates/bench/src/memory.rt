@@ -33,7 +33,7 @@ pub fn held<R: Files<File = File> + AllocGlobal>(rt: &R) -> Option<u64> {
 }
 
 /// Prints how many bytes were taken for each one of `many`.
-fn print_bytes(rt: &HostRuntime, name: &str, many: u64, before: Option<u64>) -> io::Result<()> {
+pub fn print_bytes(rt: &HostRuntime, name: &str, many: u64, before: Option<u64>) -> io::Result<()> {
     let (Some(before), Some(after)) = (before, held(rt)) else {
         return Err(io::ErrorKind::Other.into());
     };

@@ -15,6 +15,7 @@
 //!   next block of it. [`wallet`] has what they are made with.
 //! - **Followers** are told how the selected chain changes: [`Core::open`] opens one, and [`Core::next`] tells the next
 //!   [`Instruction`], to put a block on or to go back to a point.
+//! - **An index** that is told the same has the unspent outputs of each address: [`Watch`].
 //! - **Threads** share a core, and peers send it blocks: [`threads`] and [`peers`].
 //! - **A log** on a disk has the blocks that are never rolled back, also after a crash: [`log`].
 //!
@@ -27,7 +28,7 @@ pub mod peers;
 pub mod threads;
 pub mod wallet;
 
-pub use block::{BadBytes, CheckedBlock, MAX_BLOCK_SIZE, NotRead, Seen};
+pub use block::{BadBytes, CheckedBlock, MAX_BLOCK_SIZE, NotRead, Seen, Tip};
 pub use chain_core::{
     ArriveReply, Core, FollowerId, ForgeFault, Forged, Instruction, NextFault, NotBeside,
     OpenFollowerFault, Place, RawEvent, Refusal, ReopenFault, Reopening, Reply, TxPlace,
@@ -38,6 +39,7 @@ pub use ident::{BlockHash, KeyHash, Point, ScriptHash, TxId};
 pub use ledger::BlockFault;
 pub use mempool::{Mempool, SubmitReply};
 pub use utxo_rules::{Detail, Reason, Utxo};
+pub use watching::{Watch, WatchFault};
 pub use witness_pool::{
     CheckedTx, Ed25519, Gate, OpenGate, Pool, PoolFault, SigScheme, TestScheme,
 };

@@ -15,6 +15,7 @@ mod scripts;
 mod tally;
 mod texts;
 mod trees;
+mod watched;
 
 use crate::arrivals::Answers;
 use crate::random::Random;

@@ -1,13 +1,16 @@
 //! Random trees of blocks, good and bad, that arrive at three cores: as they come by chance; before the blocks that go
 //! on from them; and in another order at a core that was opened anew. Each is to select one of the longest chains of
-//! good blocks, which is looked for here block by block.
+//! good blocks, which is looked for here block by block. An index follows one of them.
 
 use crate::changing::put;
 use crate::random::Random;
+use crate::watched;
+use block::Tip;
 use chain_core::Core;
 use genesis::Genesis;
 use ident::BlockHash;
 use std::alloc::Global;
+use watching::Watch;
 use witness_pool::TestScheme;
 
 /// How many blocks a tree has.
@@ -15,6 +18,9 @@ const BLOCKS: usize = 60;
 
 /// How far back the block before a new one is looked for: so there are long chains and many forks.
 const NEAR: usize = 12;
+
+/// How many blocks an index can roll back: as many as the core, of which none is ever too far back.
+const WATCHED_BACK: u64 = 100;
 
 /// The fee of the payment.
 const FEE: u64 = 290;
@@ -161,6 +167,27 @@ fn arrive_all(core: &mut Core<TestScheme>, texts: &[Vec<u8>], order: &[usize]) {
     }
 }
 
+/// The texts have come in the order of these places, at a core with a follower, whose instructions an index carries out
+/// after each. None where the index doesn't have what the core has.
+fn arrive_watched(
+    alloc: Global,
+    core: &mut Core<TestScheme>,
+    tree: &Tree,
+    order: &[usize],
+) -> Option<()> {
+    let mut watch = Watch::new(alloc, Tip::genesis(), core.utxo(), WATCHED_BACK).ok()?;
+    let follower = core.open().ok()?;
+    for place in order {
+        if let Some(text) = tree.texts.get(*place) {
+            let _ = core.arrive(text);
+        }
+        if !watched::agrees(core, follower, &mut watch) {
+            return None;
+        }
+    }
+    Some(())
+}
+
 /// All places of a tree, the first one first.
 fn in_order(alloc: Global) -> Vec<usize> {
     let mut order = Vec::new(alloc);
@@ -187,7 +214,7 @@ fn do_agree(alloc: Global, tree: &Tree, random: &mut Random) -> Option<bool> {
     arrive_all(&mut in_turn, &tree.texts, &order);
     shuffle(&mut order, random);
     let mut by_chance = new_core(alloc)?;
-    arrive_all(&mut by_chance, &tree.texts, &order);
+    arrive_watched(alloc, &mut by_chance, tree, &order)?;
     let mut again = reopened(alloc, &by_chance)?;
     shuffle(&mut order, random);
     arrive_all(&mut again, &tree.texts, &order);

@@ -1,0 +1,7 @@
+-- The last ones are undone.
+use Rattle.std.proofs.Common.{◌≡◌, ◌-◌, length, drop}
+use Rattle.watching.specs.Changes.{all_put_back}
+use Rattle.watching.proofs.change.all_put_back.Given as goal
+
+abbrev pub invariant-loop-done : goal.invariant-loop-done
+invariant-loop-done l = l.before ≡ all_put_back (drop (length l.changes - l.done) l.changes) l.fn.index
