@@ -1,0 +1,9 @@
+pub mod Steps
+pub mod Numbers
+pub mod Params
+pub mod Requests
+pub mod RequestView
+pub mod Replies
+pub mod Lines
+pub mod Talks
+pub mod Waiting

@@ -1,0 +1,5 @@
+//! Worked conversations: lines as clients write them, what they are answered, and a follower who waits.
+#![tactic(auto)]
+
+#[cfg(test)]
+mod lines;
