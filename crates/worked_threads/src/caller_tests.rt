@@ -5,7 +5,7 @@ ghost use Rattle.std.specs.Prelude.{◌≡◌};
 use super::fixture::{
     MEMORY, Parts, adds, bytes_of, names_of, next_of, open, parts_of, same, sends,
 };
-use chain_core::{Instruction, NextFault, NotBeside};
+use chain_core::{Forged, Instruction, NextFault, NotBeside};
 use ident::{BlockHash, Point};
 use inbox::Mailroom;
 use mempool::SubmitReply;
@@ -109,6 +109,16 @@ fn calls_beside_an_adder<B: Room, M: Mailroom, R: Threads + Wait + Abort + Alloc
     are_shown(rt, shared, adder, &other);
 }
 
+/// The block that the caller forges in this slot.
+fn forges<B: Room, R: Wait + Abort>(
+    rt: &R,
+    shared: &Shared<TestScheme, B>,
+    caller: &mut Caller<B>,
+    slot: u64,
+) -> Forged {
+    shared.forge(rt, caller, slot).expect(rt, "a block")
+}
+
 /// The caller's call to discard the block of this hash answers that there is none beside the chain.
 fn discards_none<B: Room, R: Wait + Abort>(
     rt: &R,
@@ -120,9 +130,8 @@ fn discards_none<B: Room, R: Wait + Abort>(
     assert!(rt; matches!(answer, Err(NotBeside {})));
 }
 
-/// Two blocks are forged on the tip. The first one to arrive is put on, and isn't discarded; the other one is, and then
-/// isn't there, until it arrives again.
-fn discards_beside_the_chain<B, M, R>(rt: &R, parts: &mut Parts<OpenGate, B, M>)
+/// A peer sends a block, and the adder brings it.
+fn arrives<B, M, R>(rt: &R, parts: &mut Parts<OpenGate, B, M>, bytes: &[u8])
 where
     B: Room,
     M: Mailroom,
@@ -132,23 +141,43 @@ where
         shared,
         adder,
         peers,
-        callers,
+        callers: _,
     } = parts;
-    let mut caller = next_of(rt, callers);
-    let next = shared.forge(rt, &mut caller, 2).expect(rt, "a block");
-    let beside = shared.forge(rt, &mut caller, 3).expect(rt, "a block");
-    let hash = beside.point.hash;
-    sends(rt, &mut peers[0], &next.bytes);
+    sends(rt, &mut peers[0], bytes);
     adds(rt, adder, shared, 1, 1);
-    discards_none(rt, shared, &mut caller, next.point.hash);
-    discards_none(rt, shared, &mut caller, hash);
+}
+
+/// The caller discards the block of this hash, which then isn't there.
+fn discards<B: Room, R: Wait + Abort>(
+    rt: &R,
+    shared: &Shared<TestScheme, B>,
+    caller: &mut Caller<B>,
+    hash: BlockHash,
+) {
+    assert!(rt; shared.discard(rt, caller, hash).is_ok());
+    discards_none(rt, shared, caller, hash);
+}
+
+/// Two blocks are forged on the tip. The first one to arrive is put on, and isn't discarded; the other one is, and then
+/// isn't there, until it arrives again.
+fn discards_beside_the_chain<B, M, R>(rt: &R, parts: &mut Parts<OpenGate, B, M>)
+where
+    B: Room,
+    M: Mailroom,
+    R: Threads + Wait + Abort + AllocGlobal + Sync,
+{
+    let mut caller = next_of(rt, &mut parts.callers);
+    let next = forges(rt, &parts.shared, &mut caller, 2);
+    let beside = forges(rt, &parts.shared, &mut caller, 3);
+    let hash = beside.point.hash;
+    arrives(rt, parts, &next.bytes);
+    discards_none(rt, &parts.shared, &mut caller, next.point.hash);
+    discards_none(rt, &parts.shared, &mut caller, hash);
     for _ in 0..2 {
-        sends(rt, &mut peers[0], &beside.bytes);
-        adds(rt, adder, shared, 1, 1);
-        assert!(rt; shared.discard(rt, &mut caller, hash).is_ok());
-        discards_none(rt, shared, &mut caller, hash);
+        arrives(rt, parts, &beside.bytes);
+        discards(rt, &parts.shared, &mut caller, hash);
     }
-    assert!(rt; shared.tip(rt, &mut caller) == next.point);
+    assert!(rt; parts.shared.tip(rt, &mut caller) == next.point);
 }
 
 /// Does so, and then discards blocks, at a core and an inbox that were opened for it.

@@ -5,11 +5,12 @@ ghost use Rattle.immlog.specs.Views.{lists_of};
 ghost use Rattle.immlog.specs.Numbered.{numbered};
 
 use super::fake_file::FakeFile;
+use super::fixture::{MEMORY, boxed, log_on};
 use super::kept_disk::KeptDisk;
 use file_disk::FileDisk;
-use immlog::{Disk, DiskFailed, Log, Nobody, OpenLogFault, ReadFault};
-use std::alloc::{AllocError, Global};
-use std::test::Fail;
+use immlog::{Disk, DiskFailed, Log, LogBlocks, Nobody, OpenLogFault, ReadFault};
+use std::alloc::Global;
+use std::process::Abort;
 use std::thread::Threads;
 
 /// How many blocks are put on, one after the other.
@@ -19,125 +20,18 @@ const APPENDED: usize = 10;
 /// read it.
 const OPENING: u64 = 4;
 
-fn two_blocks(alloc: Global) -> Result<Vec<Vec<u8>>, AllocError>
-    ensures { IfOk result (λ blocks. AllByRecursion IsLogBlock (lists_of blocks.items)) }
+/// A log on a file of no system.
+type FileLog = Log<FileDisk<FakeFile>>;
+
+fn two_blocks(rt: &(impl Abort + AllocGlobal)) -> Vec<Vec<u8>>
+    ensures { AllByRecursion IsLogBlock (lists_of result.items) }
 {
-    let first = b"one".to_vec(alloc)?;
-    let second = b"two".to_vec(alloc)?;
-    let mut blocks = Vec::new(alloc);
-    blocks.push(first)?;
-    blocks.push(second)?;
-    Ok(blocks)
-}
-
-// How many blocks are opened after two were put onto a log whose disk fails in the call after `calls` others, and how
-// many had been durable; None where no log was made or opened.
-fn opened_after(
-    rt: &(impl AllocGlobal + Threads + Sync),
-    calls: u64,
-) -> Result<Option<(usize, usize)>, AllocError> {
-    let alloc = rt.alloc();
-    let blocks = two_blocks(alloc)?;
-    let Ok(disk) = FileDisk::open(alloc, FakeFile::new(alloc, calls)) else {
-        return Ok(None);
-    };
-    let Ok(mut log) = Log::create(alloc, disk) else {
-        return Ok(None);
-    };
-    let _ = log.append(&blocks);
-    let durable = log.durable();
-    // What the file has, and not what the disk keeps of it.
-    let Ok(disk) = FileDisk::open(alloc, log.into_disk().into_file()) else {
-        return Ok(None);
-    };
-    match Log::open(rt, alloc, disk, &mut Nobody::new()) {
-        Ok(log) => Ok(Some((durable, log.durable()))),
-        Err(_) => Ok(None),
-    }
-}
-
-#[test]
-fn blocks_are_opened_again(rt: HostRuntime) -> Result<(), Fail> {
-    assert_eq!(rt; opened_after(&rt, 1000)?, Some((2, 2)));
-    Ok(())
-}
-
-#[test]
-fn each_device_call_fails_once(rt: HostRuntime) -> Result<(), Fail> {
-    for calls in 0..100 {
-        if let Some((durable, opened)) = opened_after(&rt, calls)? {
-            assert!(rt; durable <= opened, "after {calls} calls");
-        }
-    }
-    Ok(())
-}
-
-/// The log of two blocks that stands on this file.
-fn log_of_two(alloc: Global, file: FakeFile) -> Option<Log<FileDisk<FakeFile>>> {
-    let blocks = two_blocks(alloc).ok()?;
-    let mut log = Log::create(alloc, FileDisk::open(alloc, file).ok()?).ok()?;
-    log.append(&blocks).ok()?;
-    Some(log)
-}
-
-// Blocks count from 1. They are read from the file again, also after it was written.
-#[test]
-fn blocks_are_read_again(rt: HostRuntime) -> Result<(), Fail> {
-    let alloc = rt.alloc();
-    let mut log = log_of_two(alloc, FakeFile::new(alloc, u64::MAX)).expect(&rt, "a log");
-    for (number, wanted) in [
-        (0, None),
-        (1, Some(b"one".as_slice())),
-        (2, Some(b"two".as_slice())),
-        (3, None),
-        (u64::MAX, None),
-    ] {
-        let found = log.block(number)?;
-        assert!(rt; found.as_deref() == wanted, "block {number}");
-    }
-    Ok(())
-}
-
-// All blocks come in their order, and the log is there again then.
-#[test]
-fn blocks_one_after_the_other(rt: HostRuntime) -> Result<(), Fail> {
-    let alloc = rt.alloc();
-    let log = log_of_two(alloc, FakeFile::new(alloc, u64::MAX)).expect(&rt, "a log");
-    let mut blocks = log.into_blocks();
-    for wanted in [b"one", b"two"] {
-        let found = blocks.next().transpose()?;
-        assert!(rt; found.as_deref() == Some(wanted.as_slice()));
-    }
-    assert!(rt; blocks.next().is_none());
-    assert_eq!(rt; blocks.into_log().durable(), 2);
-    Ok(())
-}
-
-// A file's disk tells what the file gave when it was opened, until it is changed; then it is opened anew to be read.
-#[test]
-fn reads_end_with_the_first_change(rt: HostRuntime) -> Result<(), Fail> {
-    let file = FakeFile::new(rt.alloc(), u64::MAX);
-    let mut disk = FileDisk::open(rt.alloc(), file)?;
-    let mut room = [0; 8];
-    assert_eq!(rt; disk.read(0, &mut room), Ok(0));
-    assert_eq!(rt; disk.sync(), Ok(()));
-    assert_eq!(rt; disk.read(0, &mut room), Ok(0));
-    assert_eq!(rt; disk.write_at(0, b"one"), Ok(()));
-    assert_eq!(rt; disk.read(0, &mut room), Err(DiskFailed));
-    assert_eq!(rt; disk.sync(), Ok(()));
-    let mut disk = FileDisk::open(rt.alloc(), disk.into_file())?;
-    assert_eq!(rt; disk.read(1, &mut room), Ok(2));
-    assert_eq!(rt; room, *b"ne\0\0\0\0\0\0");
-    Ok(())
-}
-
-fn one_block(alloc: Global) -> Result<Vec<Vec<u8>>, AllocError>
-    ensures { IfOk result (λ blocks. AllByRecursion IsLogBlock (lists_of blocks.items)) }
-{
-    let block = b"one".to_vec(alloc)?;
-    let mut blocks = Vec::new(alloc);
-    blocks.push(block)?;
-    Ok(blocks)
+    let first = b"one".to_vec(rt.alloc()).expect(rt, MEMORY);
+    let second = b"two".to_vec(rt.alloc()).expect(rt, MEMORY);
+    let mut blocks = Vec::new(rt.alloc());
+    blocks.push(first).expect(rt, MEMORY);
+    blocks.push(second).expect(rt, MEMORY);
+    blocks
 }
 
 /// What a program leaves that stopped while it put blocks onto a log: how many it told durable, and the file.
@@ -147,13 +41,15 @@ struct Left {
     file: FakeFile,
 }
 
-/// What is left where a program stops at the failing call of this file. None where it stops before there is a log.
-fn left_on(alloc: Global, file: FakeFile) -> Option<Left> {
-    let block = one_block(alloc).ok()?;
+/// What is left where a program that puts these blocks on, `times` times, stops at the failing call of this file. None
+/// where it stops before there is a log.
+fn left_on(alloc: Global, file: FakeFile, blocks: &[Vec<u8>], times: usize) -> Option<Left>
+    requires { AllByRecursion IsLogBlock (lists_of blocks.now) }
+{
     let disk = FileDisk::open(alloc, file).ok()?;
     let mut log = Log::create(alloc, disk).ok()?;
-    for _ in 0..APPENDED {
-        if log.append(&block).is_err() {
+    for _ in 0..times {
+        if log.append(blocks).is_err() {
             break;
         }
     }
@@ -162,26 +58,126 @@ fn left_on(alloc: Global, file: FakeFile) -> Option<Left> {
     Some(Left { durable, file })
 }
 
+/// How many blocks are opened of the log in this file, which is read anew, or why none are.
+fn opened_on(
+    rt: &(impl AllocGlobal + Threads + Sync),
+    file: FakeFile,
+) -> Result<usize, OpenLogFault> {
+    let Ok(disk) = FileDisk::open(rt.alloc(), file) else {
+        return Err(OpenLogFault::DiskFault);
+    };
+    match Log::open(rt, rt.alloc(), disk, &mut Nobody::new()) {
+        Ok(log) => Ok(log.durable()),
+        Err((fault, _disk)) => Err(fault),
+    }
+}
+
+/// How many blocks were durable after two were put onto a log whose disk fails in the call after `calls` others, and
+/// how many are opened then; None where no log was made or opened.
+fn opened_after(
+    rt: &(impl Abort + AllocGlobal + Threads + Sync),
+    calls: u64,
+) -> Option<(usize, usize)> {
+    let blocks = two_blocks(rt);
+    let left = left_on(rt.alloc(), FakeFile::new(rt.alloc(), calls), &blocks, 1)?;
+    let Left { durable, file } = left;
+    let opened = opened_on(rt, file).ok()?;
+    Some((durable, opened))
+}
+
+#[test]
+fn blocks_are_opened_again(rt: HostRuntime) {
+    assert_eq!(rt; opened_after(&rt, 1000), Some((2, 2)));
+}
+
+#[test]
+fn each_device_call_fails_once(rt: HostRuntime) {
+    for calls in 0..100 {
+        if let Some((durable, opened)) = opened_after(&rt, calls) {
+            assert!(rt; durable <= opened, "after {calls} calls");
+        }
+    }
+}
+
+/// The log of two blocks that stands on this file.
+fn log_of_two(rt: &(impl Abort + AllocGlobal), file: FakeFile) -> Box<FileLog> {
+    let blocks = two_blocks(rt);
+    let mut log = log_on(rt, file);
+    assert!(rt; log.append(&blocks).is_ok());
+    boxed(rt, log)
+}
+
+/// The log gives this for the number of a block.
+fn gives(rt: &impl Abort, log: &mut FileLog, number: u64, want: Option<&[u8]>) {
+    let found = log.block(number).expect(rt, "a read");
+    assert!(rt; found.as_deref() == want, "block {number}");
+}
+
+// Blocks count from 1. They are read from the file again, also after it was written.
+#[test]
+fn blocks_are_read_again(rt: HostRuntime) {
+    let mut log = log_of_two(&rt, FakeFile::new(rt.alloc(), u64::MAX));
+    gives(&rt, &mut log, 0, None);
+    gives(&rt, &mut log, 1, Some(b"one"));
+    gives(&rt, &mut log, 2, Some(b"two"));
+    gives(&rt, &mut log, 3, None);
+    gives(&rt, &mut log, u64::MAX, None);
+}
+
+/// This block comes next.
+fn comes_next(rt: &impl Abort, blocks: &mut LogBlocks<FileDisk<FakeFile>>, want: &[u8]) {
+    let next = blocks.next().expect(rt, "a block");
+    let found = next.expect(rt, "a read");
+    assert!(rt; found.as_slice() == want);
+}
+
+// All blocks come in their order, and the log is there again then.
+#[test]
+fn blocks_one_after_the_other(rt: HostRuntime) {
+    let log = Box::into_inner(log_of_two(&rt, FakeFile::new(rt.alloc(), u64::MAX)));
+    let mut blocks = log.into_blocks();
+    comes_next(&rt, &mut blocks, b"one");
+    comes_next(&rt, &mut blocks, b"two");
+    assert!(rt; blocks.next().is_none());
+    assert!(rt; blocks.into_log().durable() == 2);
+}
+
+/// A disk on this file.
+fn disk_on(rt: &(impl Abort + AllocGlobal), file: FakeFile) -> FileDisk<FakeFile> {
+    FileDisk::open(rt.alloc(), file).expect(rt, "a disk")
+}
+
+// A file's disk tells what the file gave when it was opened, until it is changed; then it is opened anew to be read.
+#[test]
+fn reads_end_with_the_first_change(rt: HostRuntime) {
+    let mut disk = disk_on(&rt, FakeFile::new(rt.alloc(), u64::MAX));
+    let mut room = [0; 8];
+    assert!(rt; disk.read(0, &mut room) == Ok(0));
+    assert!(rt; disk.sync() == Ok(()));
+    assert!(rt; disk.read(0, &mut room) == Ok(0));
+    assert!(rt; disk.write_at(0, b"one") == Ok(()));
+    assert!(rt; disk.read(0, &mut room) == Err(DiskFailed));
+    assert!(rt; disk.sync() == Ok(()));
+    let mut disk = disk_on(&rt, disk.into_file());
+    assert!(rt; disk.read(1, &mut room) == Ok(2));
+    assert!(rt; room == *b"ne\0\0\0\0\0\0");
+}
+
+fn one_block(rt: &(impl Abort + AllocGlobal)) -> Vec<Vec<u8>>
+    ensures { AllByRecursion IsLogBlock (lists_of result.items) }
+{
+    let block = b"one".to_vec(rt.alloc()).expect(rt, MEMORY);
+    let mut blocks = Vec::new(rt.alloc());
+    blocks.push(block).expect(rt, MEMORY);
+    blocks
+}
+
 /// What another program leaves that opens the log of this file, and stops at its failing call. None where it opens it.
 fn left_again(rt: &(impl AllocGlobal + Threads + Sync), file: FakeFile) -> Option<FakeFile> {
     let disk = FileDisk::open(rt.alloc(), file).ok()?;
     match Log::open(rt, rt.alloc(), disk, &mut Nobody::new()) {
         Ok(_) => None,
         Err((_fault, disk)) => Some(disk.into_file()),
-    }
-}
-
-/// How many blocks the log of this file has, of which no call fails any more, or why it isn't opened.
-fn opened_on(
-    rt: &(impl AllocGlobal + Threads + Sync),
-    file: FakeFile,
-) -> Result<usize, OpenLogFault> {
-    let Ok(disk) = FileDisk::open(rt.alloc(), file.failing_after(u64::MAX)) else {
-        return Err(OpenLogFault::DiskFault);
-    };
-    match Log::open(rt, rt.alloc(), disk, &mut Nobody::new()) {
-        Ok(log) => Ok(log.durable()),
-        Err((fault, _disk)) => Err(fault),
     }
 }
 
@@ -197,20 +193,33 @@ fn count_opened(
         let Some(again) = left_again(rt, file.failing_after(calls)) else {
             break;
         };
-        let more = opened_on(rt, again).ok()?.wrapping_sub(left.durable).min(2);
+        // No call fails any more.
+        let opened = opened_on(rt, again.failing_after(u64::MAX)).ok()?;
+        let more = opened.wrapping_sub(left.durable).min(2);
         counts[more] = counts[more].saturating_add(1);
     }
     Some(())
 }
 
+/// A file that fails in the call after `calls` others, with a torn write or not.
+fn failing(alloc: Global, calls: u64, torn: bool) -> FakeFile {
+    if torn {
+        FakeFile::torn(alloc, calls)
+    } else {
+        FakeFile::new(alloc, calls)
+    }
+}
+
 /// Counts this for each call of ten appends in which the first program stops, torn writes or not.
-fn count_stops(rt: &(impl AllocGlobal + Threads + Sync), torn: bool, counts: &mut [u64; 3]) {
-    let alloc = rt.alloc();
+fn count_stops(
+    rt: &(impl Abort + AllocGlobal + Threads + Sync),
+    torn: bool,
+    counts: &mut [u64; 3],
+) {
+    let block = one_block(rt);
     for calls in 0..100 {
-        let file = FakeFile::new(alloc, calls);
-        let torn_file = FakeFile::torn(alloc, calls);
-        let stopped = left_on(alloc, if torn { torn_file } else { file });
-        if let Some(left) = stopped
+        let file = failing(rt.alloc(), calls, torn);
+        if let Some(left) = left_on(rt.alloc(), file, &block, APPENDED)
             && left.durable < APPENDED
         {
             if count_opened(rt, &left, counts).is_none() {
@@ -253,29 +262,33 @@ fn block_of(alloc: Global, size: usize) -> Option<Vec<Vec<u8>>>
     Some(blocks)
 }
 
+/// Puts a block of this size on.
+fn put_on(rt: &(impl Abort + AllocGlobal), log: &mut FileLog, size: usize) {
+    let block = block_of(rt.alloc(), size).expect(rt, "a block");
+    assert!(rt; log.append(&block).is_ok());
+}
+
 /// A file with the log of blocks of these sizes.
-fn file_of(alloc: Global, sizes: &[usize]) -> Option<FakeFile> {
-    let disk = FileDisk::open(alloc, FakeFile::new(alloc, u64::MAX)).ok()?;
-    let mut log = Log::create(alloc, disk).ok()?;
+fn file_of(rt: &(impl Abort + AllocGlobal), sizes: &[usize]) -> FakeFile {
+    let mut log = log_on(rt, FakeFile::new(rt.alloc(), u64::MAX));
     for size in sizes {
-        let block = block_of(alloc, *size)?;
-        log.append(&block).ok()?;
+        put_on(rt, &mut log, *size);
     }
-    Some(log.into_disk().into_file())
+    log.into_disk().into_file()
 }
 
 // An opening reads 4,194,304 bytes at a time: four of these records, and then two. Wherever a byte of a block is
 // another one, the place is told where its record begins.
 #[test]
-fn a_spoilt_block_is_told_behind_any_others(rt: HostRuntime) -> Result<(), Fail> {
-    let file = file_of(rt.alloc(), &[1_000_000; 6]).expect(&rt, "a log");
+fn a_spoilt_block_is_told_behind_any_others(rt: HostRuntime) {
+    let file = file_of(&rt, &[1_000_000; 6]);
     for record in [0, 1, 3, 4, 5] {
         let place = record * 1_000_037;
-        let spoilt = file.try_clone()?.spoilt_at(place + 500_000);
-        assert_eq!(rt; opened_on(&rt, spoilt), Err(OpenLogFault::Damaged(place)));
+        let copy = file.try_clone().expect(&rt, MEMORY);
+        let opened = opened_on(&rt, copy.spoilt_at(place + 500_000));
+        assert!(rt; opened == Err(OpenLogFault::Damaged(place)));
     }
-    assert_eq!(rt; opened_on(&rt, file), Ok(6));
-    Ok(())
+    assert!(rt; opened_on(&rt, file) == Ok(6));
 }
 
 // The gate behind four records is the last byte that is read with them, or the first that is read next, or the fourth
@@ -284,22 +297,20 @@ fn a_spoilt_block_is_told_behind_any_others(rt: HostRuntime) -> Result<(), Fail>
 fn a_log_ends_where_a_read_does(rt: HostRuntime) {
     for last in [1_048_538, 1_048_539, 1_048_540] {
         let sizes = [1_048_539, 1_048_539, 1_048_539, last];
-        let file = file_of(rt.alloc(), &sizes).expect(&rt, "a log");
+        let file = file_of(&rt, &sizes);
         assert_eq!(rt; opened_on(&rt, file), Ok(4), "the last of {last} bytes");
     }
 }
 
 // A file gives another byte of the first block than was written.
 #[test]
-fn a_changed_block_is_told_as_damaged(rt: HostRuntime) -> Result<(), Fail> {
+fn a_changed_block_is_told_as_damaged(rt: HostRuntime) {
     let file = FakeFile::new(rt.alloc(), u64::MAX).spoilt_at(38);
-    let mut log = log_of_two(rt.alloc(), file).expect(&rt, "a log");
+    let mut log = log_of_two(&rt, file);
     let first = log.block(1);
     assert!(rt; matches!(&first, Err(ReadFault::Damaged(1))));
-    let second = log.block(2)?;
-    assert!(rt; second.as_deref() == Some(b"two".as_slice()));
+    gives(&rt, &mut log, 2, Some(b"two"));
     assert!(rt; !log.is_broken());
-    Ok(())
 }
 
 /// The block of this number, of a log on a disk that keeps what it holds: what is found is that block.
@@ -311,14 +322,12 @@ fn kept_block(log: &mut Log<KeptDisk>, number: u64) -> Result<Option<Vec<u8>>, R
 }
 
 #[test]
-fn a_disk_that_keeps_gives_the_block(rt: HostRuntime) -> Result<(), Fail> {
-    let alloc = rt.alloc();
-    let log = log_of_two(alloc, FakeFile::new(alloc, u64::MAX)).expect(&rt, "a log");
+fn a_disk_that_keeps_gives_the_block(rt: HostRuntime) {
+    let log = Box::into_inner(log_of_two(&rt, FakeFile::new(rt.alloc(), u64::MAX)));
     let disk = KeptDisk::new(log.into_disk().into_file().into_bytes());
-    let Ok(mut log) = Log::open(&rt, alloc, disk, &mut Nobody::new()) else {
+    let Ok(mut log) = Log::open(&rt, rt.alloc(), disk, &mut Nobody::new()) else {
         panic!(rt; "a log");
     };
-    let second = kept_block(&mut log, 2)?;
+    let second = kept_block(&mut log, 2).expect(&rt, "a read");
     assert!(rt; second.as_deref() == Some(b"two".as_slice()));
-    Ok(())
 }

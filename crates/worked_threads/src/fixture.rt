@@ -25,6 +25,11 @@ use witness_pool::{Gate, Pool, TestScheme};
 /// What is said where memory runs out.
 pub const MEMORY: &str = "memory";
 
+/// The value in a box.
+pub fn boxed<T: Drop>(rt: &(impl Abort + AllocGlobal), value: T) -> Box<T> {
+    Box::new(rt.alloc(), value).expect(rt, MEMORY)
+}
+
 /// The genesis of a network where 2 blocks may be rolled back and 100 live ones are kept.
 pub const SMALL_NETWORK: &str = "network = 0
 k = 2

@@ -61,6 +61,15 @@ fn logged<B: Room, R: Wait + Abort + AllocGlobal>(
     log.durable()
 }
 
+/// The peers send all blocks.
+fn sends_all<B: Room, M: Mailroom, R: Wait + Abort + AllocGlobal>(
+    rt: &R,
+    parts: &mut Parts<OpenGate, B, M>,
+) {
+    let names = names_of(rt, &chain_lines(rt, BLOCKS));
+    send_blocks(rt, &mut parts.peers, &names, 1, BLOCKS);
+}
+
 /// The adder brings all blocks, while those that are never rolled back go onto a log.
 fn logs_beside<B: Room + Send + Sync, M: Mailroom, R: Threads + Wait + Abort + AllocGlobal + Sync>(
     rt: &R,
@@ -72,8 +81,8 @@ fn logs_beside<B: Room + Send + Sync, M: Mailroom, R: Threads + Wait + Abort + A
     requires queue { inbox.table ≡ M.table }
     requires capacity { inbox.capacity ≡ M.capacity }
 {
-    let names = names_of(rt, &chain_lines(rt, BLOCKS));
     let mut parts = parts_of::<OpenGate, B, M>(rt, OpenGate, opened, inbox);
+    sends_all(rt, &mut parts);
     let Parts {
         shared,
         adder,
@@ -81,7 +90,6 @@ fn logs_beside<B: Room + Send + Sync, M: Mailroom, R: Threads + Wait + Abort + A
         callers,
     } = &mut *parts;
     let shared = &*shared;
-    send_blocks(rt, peers, &names, 1, BLOCKS);
     let caller = next_of(rt, callers);
     let ended = AtomicBool::new(false);
     let ended = &ended;
@@ -137,6 +145,33 @@ fn submits<B: Room, R: Wait + Abort>(
     crossing.answer();
 }
 
+/// The text of a payment.
+fn payment<R: Abort + AllocGlobal>(rt: &R) -> Vec<u8> {
+    let names = names_of(rt, "");
+    let tx = names.tx_of(b"First").expect(rt, "a payment");
+    tx.encode().expect(rt, MEMORY)
+}
+
+/// What is never rolled back goes onto a log, and while the disk is written, another caller is answered.
+fn writes_beside<B: Room + Send + Sync, R: Threads + Wait + Abort + AllocGlobal + Sync>(
+    rt: &R,
+    shared: &Shared<TestScheme, B>,
+    caller: Caller<B>,
+    other: &mut Caller<B>,
+) {
+    let payment = payment(rt);
+    let crossing = Arc::new(rt.alloc(), Crossing::new()).expect(rt, MEMORY);
+    let writing = Arc::try_clone(&crossing).expect(rt, MEMORY);
+    let seen = &*crossing;
+    let (durable, ()) = join(
+        rt,
+        move || -> usize { written(rt, shared, caller, writing) },
+        move || { submits(rt, shared, other, seen, payment) },
+    );
+    assert!(rt; durable == BLOCKS - 2);
+    assert!(rt; crossing.has_met());
+}
+
 /// All blocks are journaled. Then those that are never rolled back go onto a log, and while the disk is written,
 /// another caller is answered.
 fn writes_outside<
@@ -149,30 +184,18 @@ fn writes_outside<
     requires queue { inbox.table ≡ M.table }
     requires capacity { inbox.capacity ≡ M.capacity }
 {
-    let names = names_of(rt, &chain_lines(rt, BLOCKS));
-    let payment = names.tx_of(b"First").expect(rt, "a payment").encode();
-    let payment = payment.expect(rt, MEMORY);
     let mut parts = parts_of::<OpenGate, B, M>(rt, OpenGate, opened, inbox);
+    sends_all(rt, &mut parts);
     let Parts {
         shared,
         adder,
         peers,
         callers,
     } = &mut *parts;
-    let shared = &*shared;
-    send_blocks(rt, peers, &names, 1, BLOCKS);
     drains(rt, adder, shared, peers);
-    let (caller, mut other) = (next_of(rt, callers), next_of(rt, callers));
-    let crossing = Arc::new(rt.alloc(), Crossing::new()).expect(rt, MEMORY);
-    let writing = Arc::try_clone(&crossing).expect(rt, MEMORY);
-    let seen = &*crossing;
-    let (durable, ()) = join(
-        rt,
-        move || -> usize { written(rt, shared, caller, writing) },
-        move || { submits(rt, shared, &mut other, seen, payment) },
-    );
-    assert!(rt; durable == BLOCKS - 2);
-    assert!(rt; crossing.has_met());
+    let caller = next_of(rt, callers);
+    let mut other = next_of(rt, callers);
+    writes_beside(rt, shared, caller, &mut other);
 }
 
 #[test]

@@ -5,7 +5,7 @@ use Rattle.std.proofs.Crossing.{crosses}
 use Rattle.witness_pool.specs.contracts.test_scheme.TestScheme as TestScheme
 use Rattle.witness_pool.specs.contracts.test_scheme.TestSchemeSigScheme.TheImpl as scheme
 use Rattle.shared.proofs.ForCallers.{Shared-sync, Caller-send}
-use Rattle.worked_threads.proofs.log_tests.writes_outside.Goals as goal
+use Rattle.worked_threads.proofs.log_tests.writes_beside.Goals as goal
 
 pub join-durable-requires-send-F : goal.join-durable-requires-send-F
 join-durable-requires-send-F g s k w =
