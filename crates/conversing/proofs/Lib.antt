@@ -6,3 +6,4 @@ pub mod ReplyLaws
 pub mod PieceLaws
 pub mod TalkLaws
 pub mod WaitLaws
+mod ListLaws

@@ -3,6 +3,8 @@ pub mod Numbers
 pub mod Params
 pub mod Requests
 pub mod RequestView
+pub mod Parts
+pub mod Found
 pub mod Replies
 pub mod Lines
 pub mod Talks

@@ -1,9 +1,6 @@
 -- Replies, byte by byte: JSON-RPC 2.0 (https://www.jsonrpc.org/specification), section 5, without a space, and a line
 -- feed behind each.
 use Rattle.std.specs.Prelude.{List, [], ◌++◌, ℕ, Option, Some, None, codes, unwrap_or}
-use Rattle.hex.specs.Hex.{encode_lower}
-use Rattle.serde_json.specs.Data.{string}
-use Rattle.serde_json.specs.Written.{compact_text}
 use Rattle.conversing.specs.declared.block_point.BlockPoint.{BlockPoint}
 use Rattle.conversing.specs.declared.told.ChainTip.{ChainTip}
 use Rattle.conversing.specs.declared.told.ToldBlock.{ToldBlock}
@@ -11,35 +8,13 @@ use Rattle.conversing.specs.declared.outcome.Reason.{Reason}
 use Rattle.conversing.specs.declared.outcome.Outcome.{Outcome}
 use Rattle.conversing.specs.declared.outcome.Outcome.TheVariants.{Tip, Height, Forward, Backward, Intersection}
 use Rattle.conversing.specs.declared.outcome.Outcome.TheVariants.{NoIntersection, Accepted, NotAccepted, Forged}
-use Rattle.conversing.specs.declared.outcome.Outcome.TheVariants.{NotForged, Flushed, Stopping}
+use Rattle.conversing.specs.declared.outcome.Outcome.TheVariants.{NotForged, Flushed, Stopping, Answered}
 use Rattle.conversing.specs.declared.request_fault.RequestFault.{RequestFault}
 use Rattle.conversing.specs.declared.request_fault.RequestFault.TheVariants as faults
 use Rattle.conversing.specs.Numbers.{number_text}
+use Rattle.conversing.specs.Parts.{quoted, point_text, tip_text, block_text, hex_text}
+use Rattle.conversing.specs.Found.{found_text}
 use Rattle.conversing.specs.RequestView.{id_view}
-
--- ---- parts
-
--- a text as a JSON string (RFC 8259, section 7)
-unfoldable pub quoted : List ℕ → List ℕ
-quoted text = compact_text (string text)
-
--- a string of hexadecimal digits
-abbrev pub hex_text : List ℕ → List ℕ
-hex_text bytes = codes "\"" ++ encode_lower bytes ++ codes "\""
-
-abbrev pub point_text : BlockPoint → List ℕ
-point_text point =
-    codes "{\"number\":" ++ number_text point.number ++ codes ",\"hash\":" ++ hex_text point.hash ++ codes "}"
-
-abbrev pub tip_text : ChainTip → List ℕ
-tip_text tip =
-    codes "{\"number\":" ++ number_text tip.number ++ codes ",\"hash\":" ++ hex_text tip.hash
-    ++ codes ",\"slot\":" ++ number_text tip.slot ++ codes "}"
-
-abbrev pub block_text : ToldBlock → List ℕ
-block_text block =
-    codes "{\"number\":" ++ number_text block.number ++ codes ",\"hash\":" ++ hex_text block.hash
-    ++ codes ",\"slot\":" ++ number_text block.slot ++ codes ",\"cbor\":" ++ hex_text block.bytes.now ++ codes "}"
 
 -- ---- what calls come to
 
@@ -76,6 +51,7 @@ outcome_text (NotAccepted reason) = reason_text (codes "\"error\":{\"code\":3000
 outcome_text (Forged block) = codes "\"result\":" ++ block_text block
 outcome_text (NotForged reason) = reason_text (codes "\"error\":{\"code\":4000,\"message\":") reason
 outcome_text (Flushed durable) = codes "\"result\":{\"durable\":" ++ number_text durable ++ codes "}"
+outcome_text (Answered found) = codes "\"result\":" ++ found_text found
 outcome_text Stopping = codes "\"result\":{\"stopping\":true}"
 
 -- ---- replies

@@ -4,6 +4,7 @@ ghost use Rattle.std.specs.Prelude.{◌≡◌, ◌++◌, OnOk};
 ghost use Rattle.conversing.specs.Replies.{led_text, outcome_text, reason_text, forward_text, intersection_missing};
 
 use crate::block_point::BlockPoint;
+use crate::found::{Found, put_found};
 use crate::numbers::put_number;
 use crate::texts::{put_hex, put_text};
 use crate::told::{ChainTip, ToldBlock, put_block, put_point, put_tip};
@@ -44,6 +45,8 @@ pub enum Outcome<'a> {
     Flushed(u64),
     /// `stop`: the node ends.
     Stopping,
+    /// `evaluate`, `queryUtxo`, `queryBlock`, `queryTransaction`, `queryMempool` and `why`: what is found.
+    Answered(Found<'a>),
 }
 
 /// Appends a block that is to be put on.
@@ -168,5 +171,9 @@ pub fn put_outcome(
             line.extend_from_slice(b"}")
         }
         Outcome::Stopping => line.extend_from_slice(b"\"result\":{\"stopping\":true}"),
+        Outcome::Answered(found) => {
+            line.extend_from_slice(b"\"result\":")?;
+            put_found(alloc, line, found)
+        }
     }
 }

@@ -1,7 +1,7 @@
 //! Bytes and texts in replies.
 
 ghost use Rattle.std.specs.Prelude.{◌≡◌, ◌++◌, OnOk};
-ghost use Rattle.conversing.specs.Replies.{hex_text, quoted};
+ghost use Rattle.conversing.specs.Parts.{hex_text, quoted};
 
 use serde_json::Value;
 use std::alloc::{AllocError, Global};
@@ -17,7 +17,7 @@ pub fn put_hex(alloc: Global, line: &mut Vec<u8>, bytes: &[u8]) -> Result<(), Al
 }
 
 /// Appends a text as a JSON string (RFC 8259, section 7), with the shortest escapes.
-#[tactic(auto, unfolding(crate::specs::Replies::quoted))]
+#[tactic(auto, unfolding(crate::specs::Parts::quoted))]
 pub fn put_text(alloc: Global, line: &mut Vec<u8>, text: &str) -> Result<(), AllocError>
     ensures { OnOk result (line.new.items ≡ line.old.items ++ quoted text.now) }
 {

@@ -1,7 +1,7 @@
 //! What replies tell of the chain.
 
 ghost use Rattle.std.specs.Prelude.{◌≡◌, ◌++◌, OnOk};
-ghost use Rattle.conversing.specs.Replies.{block_text, point_text, tip_text};
+ghost use Rattle.conversing.specs.Parts.{block_text, point_text, tip_text};
 
 use crate::block_point::BlockPoint;
 use crate::numbers::put_number;

@@ -2,4 +2,6 @@
 #![tactic(auto)]
 
 #[cfg(test)]
+mod found_lines;
+#[cfg(test)]
 mod lines;

@@ -1,5 +1,5 @@
 use Rattle.std.proofs.Common.{◌≡◌, ℕ, List, ◌++◌, subst, codes}
-use Rattle.conversing.specs.Replies.{hex_text}
+use Rattle.conversing.specs.Parts.{hex_text}
 use Rattle.conversing.proofs.ReplyLaws.{three}
 use Rattle.conversing.proofs.outcome.put_outcome.Goals as goal
 
