@@ -15,7 +15,8 @@
 //!   next block of it. [`wallet`] has what they are made with.
 //! - **Followers** are told how the selected chain changes: [`Core::open`] opens one, and [`Core::next`] tells the next
 //!   [`Instruction`], to put a block on or to go back to a point.
-//! - **An index** that is told the same has the unspent outputs of each address: [`Watch`].
+//! - **An index** that is told the same has the unspent outputs of each address, its history, who holds an
+//!   asset, and where each transaction stands: [`Watch`].
 //! - **Threads** share a core, and peers send it blocks: [`threads`] and [`peers`].
 //! - **A log** on a disk has the blocks that are never rolled back, also after a crash: [`log`].
 //!
@@ -39,7 +40,7 @@ pub use ident::{BlockHash, KeyHash, Point, ScriptHash, TxId};
 pub use ledger::BlockFault;
 pub use mempool::{Mempool, SubmitReply};
 pub use utxo_rules::{Detail, Reason, Utxo};
-pub use watching::{Watch, WatchFault};
+pub use watching::{History, HistoryEntries, Holder, Inclusion, Watch, WatchFault};
 pub use witness_pool::{
     CheckedTx, Ed25519, Gate, OpenGate, Pool, PoolFault, SigScheme, TestScheme,
 };

@@ -1,14 +1,17 @@
 //! The program `fuzz`: changes good texts at random, and looks whether what is answered to them agrees: what is read
 //! and written again is the same bytes, three cores that get the same blocks in other ways have the same chain, three
 //! that get random trees of good and bad blocks select a longest chain of good ones, and a comment before a genesis
-//! file or a script changes nothing.
+//! file or a script changes nothing. An index of random outputs tells who holds an asset as a walk finds it.
 //!
-//! `fuzz SEED ROUNDS` does ROUNDS rounds of each kind, and a hundredth as many trees, the same ones for the same seed.
+//! `fuzz SEED ROUNDS` does ROUNDS rounds of each kind, and a hundredth as many trees and sets of outputs, the same ones
+//! for the same seed.
 #![tactic(auto)]
 
 mod arrivals;
 mod changing;
 mod documents;
+mod histories;
+mod holders;
 mod network;
 mod random;
 mod scripts;
@@ -143,6 +146,7 @@ fn run_all(alloc: Global, good: &Good, seed: u64, rounds: u64, out: &mut String)
     run_trees(alloc, &good.payments, rounds / 100, r, out);
     run_documents(alloc, &good.documents, rounds, r, out);
     run_scripts(alloc, rounds, r, out);
+    holders::run(alloc, rounds / 100, r, out);
 }
 
 /// The number that a word is, and 0 where it is none.

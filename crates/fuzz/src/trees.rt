@@ -176,12 +176,13 @@ fn arrive_watched(
     order: &[usize],
 ) -> Option<()> {
     let mut watch = Watch::new(alloc, Tip::genesis(), core.utxo(), WATCHED_BACK).ok()?;
+    let granted = core.utxo().iter().next()?.1.address;
     let follower = core.open().ok()?;
     for place in order {
         if let Some(text) = tree.texts.get(*place) {
             let _ = core.arrive(text);
         }
-        if !watched::agrees(core, follower, &mut watch) {
+        if !watched::agrees(core, follower, &mut watch, &granted) {
             return None;
         }
     }

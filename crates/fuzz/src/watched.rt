@@ -1,5 +1,6 @@
 //! An index of addresses that is told what a follower of a core is told, beside a walk through the core's outputs.
 
+use crate::histories::has_blocks;
 use chain_core::{Core, FollowerId, Instruction};
 use ident::Point;
 use tx::{Address, Input, Output};
@@ -59,8 +60,17 @@ fn ends_at(watch: &Watch, point: Point) -> bool {
     tip.number == point.number && tip.hash.unwrap_or(Point::genesis().hash) == point.hash
 }
 
-/// Whether, after what was told to the follower, the index has what the core has.
-pub fn agrees(core: &mut Core<TestScheme>, follower: FollowerId, watch: &mut Watch) -> bool {
+/// Whether, after what was told to the follower, the index has what the core has, where a genesis granted outputs of
+/// this address alone.
+pub fn agrees(
+    core: &mut Core<TestScheme>,
+    follower: FollowerId,
+    watch: &mut Watch,
+    granted: &Address,
+) -> bool {
     let told = follow(core, follower, watch);
-    told.is_some() && ends_at(watch, core.tip()) && has_same(core.utxo(), watch)
+    told.is_some()
+        && ends_at(watch, core.tip())
+        && has_same(core.utxo(), watch)
+        && has_blocks(core, watch, granted)
 }

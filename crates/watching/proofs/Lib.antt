@@ -1,8 +1,13 @@
 mod Owning
 mod Sifted
 mod Changing
+mod Entering
 mod Advancing
 mod Stepping
-mod Following
 mod Judged
+mod Following
+mod Telling
+mod Reaching
 mod Summed
+mod Holding
+mod OneList

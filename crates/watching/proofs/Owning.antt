@@ -1,17 +1,17 @@
 -- How the outputs of owners follow all outputs.
 use Rattle.std.proofs.Common.{◌≡◌, ℕ, Bool, true, false, cond, List, Option, Some, None, Result, Ok, Err, refl, sym, ap, subst, ◌∙◌}
-use Rattle.std.specs.Prelude.{if◌then◌else◌, bytes_eq, unwrap_or, IfOk}
+use Rattle.std.specs.Prelude.{if◌then◌else◌, nat_eq, bytes_eq, unwrap_or, IfOk}
 use Rattle.std.specs.FinMap as finite
 use Rattle.std.specs.FinMap.{IsAntisymmetric, nat_cmp-IsAntisymmetric, slice_cmp-IsAntisymmetric}
 use Rattle.std.specs.Ordering.{eq_by_cmp, is_eq}
-use Rattle.std.specs.Cmp.{IsTotalOrder, Equal-is, tied_itself}
+use Rattle.std.specs.Cmp.{IsTotalOrder, Equal-is, tied_itself, unsigned_Decides}
 use Rattle.std.proofs.lemmas.Bool.{false_from_ne_true}
 use Rattle.std.proofs.lemmas.Cmp.{nat_list_cmp_total}
 use Rattle.std.proofs.lemmas.Slice.Eq.{bytes_eq-Decides}
 use Rattle.model.specs.Transaction.{Input, Output, input_cmp, address_bytes}
 use Rattle.model.specs.Utxo.{Utxo, output_at}
 use Rattle.model.proofs.Unspent.{inputs_total, same_pairs, same_from, same_to, at_inserted}
-use Rattle.watching.specs.Owned.{owner_cmp, Owned, owned_at, IsGiven, only_of, AreOwned}
+use Rattle.watching.specs.Owned.{owner_cmp, Owned, owned_at, with_owned, IsGiven, only_of, AreOwned}
 
 -- ---- the order of owners
 
@@ -50,6 +50,26 @@ pub none_given : (owned : Owned) (owner : List ℕ) (outputs : Utxo) → outputs
 none_given owned owner outputs none other =
     ap (λ (o : Option Utxo). unwrap_or o finite.empty) (finite.get-remove owners_total owned owner other)
     ∙ given_none (eq_by_cmp owner_cmp other owner) outputs (finite.get owned other) none
+
+set_is : (owned : Owned) (owner : List ℕ) (outputs : Utxo) (t : Bool) → (t ≡ true → outputs ≡ finite.empty)
+    → IsGiven owned owner outputs (if t then finite.remove owned owner else finite.insert owned owner outputs)
+set_is owned owner outputs true none = none_given owned owner outputs (none refl)
+set_is owned owner outputs false none = put_given owned owner outputs
+
+pub set_given : (owned new : Owned) (owner : List ℕ) (outputs : Utxo) → new ≡ with_owned owned owner outputs → IsGiven owned owner outputs new
+set_given owned new owner outputs is =
+    subst (IsGiven owned owner outputs) (sym is)
+    (set_is owned owner outputs (nat_eq (finite.len outputs) 0) (λ none. finite.empty_of_len outputs ((unsigned_Decides (finite.len outputs) 0).0 none)))
+
+pub set_none : (owned : Owned) (owner : List ℕ) (outputs : Utxo) → outputs ≡ finite.empty → finite.remove owned owner ≡ with_owned owned owner outputs
+set_none owned owner outputs none =
+    let nothing : finite.len outputs ≡ 0 = ap (λ (u : Utxo). finite.len u) none ∙ finite.len-empty input_cmp Output in
+    sym (ap (λ (b : Bool). if b then finite.remove owned owner else finite.insert owned owner outputs) ((unsigned_Decides (finite.len outputs) 0).1 nothing))
+
+pub set_some : (owned : Owned) (owner : List ℕ) (outputs : Utxo) → (outputs ≡ finite.empty → ⊥) → finite.insert owned owner outputs ≡ with_owned owned owner outputs
+set_some owned owner outputs some =
+    sym (ap (λ (b : Bool). if b then finite.remove owned owner else finite.insert owned owner outputs)
+    (false_from_ne_true (nat_eq (finite.len outputs) 0) (λ none. some (finite.empty_of_len outputs ((unsigned_Decides (finite.len outputs) 0).0 none)))))
 
 -- ---- an output more, and an output less
 

@@ -1,106 +1,151 @@
--- What a chain leaves to be spent, and which index is that of a chain.
-use Rattle.std.specs.Prelude.{◌≡◌, ◌≢◌, ℕ, zero, suc, ◌-◌, ◌≤◌, List, [], ◌∷◌, length, take, replicate, unwrap_or, refl}
+-- What a chain leaves to be spent and to be told, and which index is that of a chain.
+use Rattle.std.specs.Prelude.{◌≡◌, ◌≢◌, ℕ, zero, suc, ◌-◌, ◌≤◌, List, [], ◌∷◌, ◌++◌, length, take}
+use Rattle.std.specs.Prelude.{replicate, unwrap_or, refl}
 use Rattle.std.specs.Coded.{Coded, code_by, coded×, coded_ℕ, coded_list}
 use Rattle.std.specs.FinMap as finite
 use Rattle.model.specs.Limits.{hash_size}
-use Rattle.model.specs.Transaction.{Transaction}
+use Rattle.model.specs.Transaction.{Transaction, transaction_id_of}
 use Rattle.model.specs.Utxo.{Utxo, utxo_after}
-use Rattle.model.specs.Block.{Block}
-use Rattle.model.specs.Chain.{Tip, Point, genesis_tip, tip_at, tip_after}
-use Rattle.model.specs.Codes.{coded_input, coded_output, coded_tip}
+use Rattle.model.specs.Mempool.{utxo_after_all}
+use Rattle.model.specs.Block.{Block, Header}
+use Rattle.model.specs.Chain.{Tip, Point, genesis_tip, tip_at, tip_after, IsLinked}
+use Rattle.model.specs.Codes.{coded_bytes, coded_input, coded_output, coded_tip}
+use Rattle.watching.specs.Histories.{Inclusion, inclusion_in, Histories, Inclusions, with_entries, owners_in}
+use Rattle.watching.specs.Histories.{coded_inclusion}
 
--- what transactions leave to be spent, one after the other (Shelley, UTxO transitions). They aren't judged.
-abbrev pub unspent_after : Utxo → List Transaction → Utxo
-unspent_after utxo [] = utxo
-unspent_after utxo (t ∷ ts) = unspent_after (utxo_after utxo t) ts
+-- what the blocks of a chain leave, where these outputs stood before its first block (Shelley, UTxO transitions). They
+-- aren't judged.
+abbrev pub unspent_of : (granted : Utxo) → List Block → Utxo
+unspent_of granted [] = granted
+unspent_of granted (b ∷ bs) = unspent_of (utxo_after_all granted b.transactions) bs
 
--- what the blocks of a chain leave, where these outputs stood before its first block
-abbrev pub unspent_of : (start : Utxo) → List Block → Utxo
-unspent_of start [] = start
-unspent_of start (b ∷ bs) = unspent_of (unspent_after start b.transactions) bs
+-- what is kept of a chain: the outputs that it leaves, the history of each owner, and where each transaction was put on
+pub record Tables : Type 0 where
+  pub outputs : Utxo
+  pub histories : Histories
+  pub inclusions : Inclusions
 
--- where a chain ends, and what it leaves to be spent
+-- these outputs, before any transaction
+abbrev pub only_outputs : Utxo → Tables
+only_outputs outputs = record { outputs = outputs; histories = finite.empty; inclusions = finite.empty }
+
+-- the tables with one more transaction
+abbrev pub tables_after : Inclusion → Tables → Transaction → Tables
+tables_after inclusion tables t = record {
+  outputs = utxo_after tables.outputs t;
+  histories = with_entries inclusion (transaction_id_of t) (owners_in tables.outputs t) tables.histories;
+  inclusions = finite.insert tables.inclusions (transaction_id_of t) inclusion;
+}
+
+-- with the transactions of a block from this index on
+abbrev pub tables_after_all : Header → (index : ℕ) → Tables → List Transaction → Tables
+tables_after_all header index tables [] = tables
+tables_after_all header index tables (t ∷ ts) =
+    tables_after_all header (suc index) (tables_after (inclusion_in header index) tables t) ts
+
+-- where a chain ends, and what is kept of it
 pub record Version : Type 0 where
   pub tip : Tip
-  pub outputs : Utxo
+  pub tables : Tables
 
--- the version of a chain
-abbrev pub version_of : (start : Utxo) → List Block → Version
-version_of start chain = record { tip = tip_after genesis_tip chain; outputs = unspent_of start chain }
+-- the version with one more block
+abbrev pub version_after : Version → Block → Version
+version_after v b = record { tip = tip_at b; tables = tables_after_all b.header 0 v.tables b.transactions }
 
--- with one more block
-abbrev pub version_with : Version → Block → Version
-version_with v b = record { tip = tip_at b; outputs = unspent_after v.outputs b.transactions }
+-- the version with these blocks
+abbrev pub version_after_all : Version → List Block → Version
+version_after_all v [] = v
+version_after_all v (b ∷ bs) = version_after_all (version_after v b) bs
 
 -- What an index keeps: the version of its chain, and those before each of the last blocks, the newest first. Not more
 -- than k of these are ever kept.
 pub record Watched : Type 0 where
   pub k : ℕ
   pub last : Version
-  pub before : List Version
+  pub older : List Version
 
--- with one more block
+-- the index with one more block
 abbrev pub with_block : Watched → Block → Watched
-with_block w b = record { k = w.k; last = version_with w.last b; before = take w.k (w.last ∷ w.before) }
+with_block w b = record { k = w.k; last = version_after w.last b; older = take w.k (w.last ∷ w.older) }
 
--- without the last `back` blocks, as far as these can be rolled back
+-- the index without the last `back` blocks, as far as these can be rolled back
 abbrev pub rolled_back : (back : ℕ) → (k : ℕ) → Version → List Version → Watched
-rolled_back zero k last before = record { k = k; last = last; before = before }
-rolled_back (suc back) k last [] = record { k = k; last = last; before = [] }
+rolled_back zero k last older = record { k = k; last = last; older = older }
+rolled_back (suc back) k last [] = record { k = k; last = last; older = [] }
 rolled_back (suc back) k last (v ∷ vs) = rolled_back back k v vs
 
 abbrev pub back_by : ℕ → Watched → Watched
-back_by back w = rolled_back back w.k w.last w.before
+back_by back w = rolled_back back w.k w.last w.older
 
 -- the point at a tip; that of genesis has a hash of zero bytes
 abbrev pub point_at : Tip → Point
 point_at tip = record { number = tip.number; hash = unwrap_or tip.hash (replicate hash_size 0) }
 
 -- the index can be rolled back to the point
-pub record IsKept (w : Watched) (point : Point) : Type 0 where
+pub record CanRollBack (w : Watched) (point : Point) : Type 0 where
   pub back : ℕ
-  pub within : back ≤ length w.before
+  pub within : back ≤ length w.older
   pub ends : point_at (back_by back w).last.tip ≡ point
 
 -- the index is rolled back to the point
 pub record IsRolledBack (old : Watched) (point : Point) (new : Watched) : Type 0 where
   pub back : ℕ
-  pub within : back ≤ length old.before
+  pub within : back ≤ length old.older
   pub is : new ≡ back_by back old
   pub ends : point_at new.last.tip ≡ point
 
 -- ---- the index of a chain
 
+-- the version with which an index begins, behind these blocks
+abbrev pub first_version : (granted : Utxo) → (past : List Block) → Version
+first_version granted past =
+    record { tip = tip_after genesis_tip past; tables = only_outputs (unspent_of granted past) }
+
 -- a chain without its last block
 abbrev pub without_last : List Block → List Block
 without_last chain = take (length chain - 1) chain
 
--- the versions of the chain without its last block, without the last two, and so on
-abbrev pub AreBefore : (start : Utxo) → List Block → List Version → Type 0
-AreBefore start chain [] = Unit {0}
-AreBefore start chain (v ∷ vs) =
-    (chain ≢ []) × (v ≡ version_of start (without_last chain)) × AreBefore start (without_last chain) vs
+-- the versions of the blocks without the last one, without the last two, and so on
+abbrev pub AreOlder : Version → (since : List Block) → List Version → Type 0
+AreOlder first since [] = Unit {0}
+AreOlder first since (v ∷ vs) =
+    (since ≢ []) × (v ≡ version_after_all first (without_last since)) × AreOlder first (without_last since) vs
 
 -- INDEX OF A CHAIN
--- It keeps the version of the chain, and those of the chain without its last block, without its last two, and so on.
-pub record IsIndexOf (start : Utxo) (chain : List Block) (w : Watched) : Type 0 where
-  pub last : w.last ≡ version_of start chain
-  pub before : AreBefore start chain w.before
+-- The index of a chain that began behind the blocks `past` and went on by the blocks `since`: what is kept after these,
+-- and, for as many of the last blocks as can be rolled back, what was kept before each.
+pub record IsIndexOf (granted : Utxo) (past since : List Block) (w : Watched) : Type 0 where
+  pub linked : IsLinked genesis_tip (past ++ since)
+  pub last : w.last ≡ version_after_all (first_version granted past) since
+  pub versions : AreOlder (first_version granted past) since w.older
 
 -- ---- codes
 
 abbrev pub coded_utxo : Coded Utxo
 coded_utxo = finite.code coded_input coded_output
 
+abbrev pub coded_histories : Coded Histories
+coded_histories = finite.code coded_bytes (finite.code coded_inclusion coded_bytes)
+
+abbrev pub coded_inclusions : Coded Inclusions
+coded_inclusions = finite.code coded_bytes coded_inclusion
+
+abbrev pub coded_tables : Coded Tables
+coded_tables =
+    code_by (Utxo × (Histories × Inclusions)) (coded× coded_utxo (coded× coded_histories coded_inclusions))
+    (λ k. (k.outputs, (k.histories, k.inclusions)))
+    (λ p. record { outputs = p.0; histories = p.1.0; inclusions = p.1.1 })
+    (λ _. refl)
+
 abbrev pub coded_version : Coded Version
 coded_version =
-    code_by (Tip × Utxo) (coded× coded_tip coded_utxo) (λ v. (v.tip, v.outputs))
-    (λ p. record { tip = p.0; outputs = p.1 })
+    code_by (Tip × Tables) (coded× coded_tip coded_tables) (λ v. (v.tip, v.tables))
+    (λ p. record { tip = p.0; tables = p.1 })
     (λ _. refl)
 
 abbrev pub coded_watched : Coded Watched
 coded_watched =
     code_by (ℕ × (Version × List Version)) (coded× coded_ℕ (coded× coded_version (coded_list coded_version)))
-    (λ w. (w.k, (w.last, w.before)))
-    (λ p. record { k = p.0; last = p.1.0; before = p.1.1 })
+    (λ w. (w.k, (w.last, w.older)))
+    (λ p. record { k = p.0; last = p.1.0; older = p.1.1 })
     (λ _. refl)

@@ -1,24 +1,21 @@
--- What the fields of an index stand for, and what they keep.
-use Rattle.std.specs.Prelude.{◌≡◌, ◌≤◌, length}
+-- What the fields of maps stand for, and what always holds of them.
+use Rattle.std.specs.Prelude.{◌≡◌}
 use Rattle.std.specs.FinMap as finite
-use Rattle.block.specs.View.{tip_of}
-use Rattle.watching.specs.Chains.{Watched}
-use Rattle.watching.specs.Owned.{AreOwned}
-use Rattle.watching.specs.Changes.{versions_before}
+use Rattle.persistent_map.specs.Order.{Rise}
+use Rattle.watching.specs.Owned.{AreOwned, owner_cmp}
+use Rattle.watching.specs.Histories as values
+use Rattle.watching.specs.Histories.{NoneEmpty}
 use Rattle.watching.specs.declared.index.Index.TheInside as index
-use Rattle.watching.specs.declared.watch.Watch.TheInside as watch
+use Rattle.watching.specs.declared.histories.Histories.TheInside as histories
 
--- each owner's outputs are those of its address, and there are none in the set that stands for none
+-- each owner's outputs are those of its address, and `nothing` is empty
 abbrev pub IsIndexed : index.Inside → Type 0
 IsIndexed i = AreOwned i.owners i.all × (i.nothing ≡ finite.empty)
 
-abbrev pub watched_of : watch.Inside → Watched
-watched_of w = record {
-  k = w.k;
-  last = record { tip = tip_of w.tip; outputs = w.index };
-  before = versions_before w.index w.steps;
-}
+-- the history of each owner that has one
+abbrev pub histories_of : histories.Inside → values.Histories
+histories_of h = finite.from_sorted h.map
 
--- no more blocks can be rolled back than k
-abbrev pub IsBounded : watch.Inside → Type 0
-IsBounded w = length w.steps ≤ w.k
+-- owners stand in their order, none has an empty history, and `nothing` is empty
+abbrev pub AreHistories : histories.Inside → Type 0
+AreHistories h = Rise owner_cmp h.map × NoneEmpty (histories_of h) × (h.nothing ≡ finite.empty)

@@ -1,8 +1,15 @@
 pub mod Chains
 pub mod Owned
+pub mod Histories
 pub mod Changes
 pub mod Advances
 pub mod Inside
+pub mod View
+pub mod ChangeView
 pub mod Faults
 pub mod Balances
 pub mod Ledgers
+pub mod Holders
+pub mod HoldersTold
+pub mod Told
+pub mod Due

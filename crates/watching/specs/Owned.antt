@@ -1,5 +1,5 @@
 -- The outputs of each owner, by the bytes of its address.
-use Rattle.std.specs.Prelude.{◌≡◌, ℕ, List, Option, Some, None, unwrap_or, if◌then◌else◌, bytes_eq}
+use Rattle.std.specs.Prelude.{◌≡◌, ℕ, List, nat_eq, Option, Some, None, unwrap_or, if◌then◌else◌, bytes_eq}
 use Rattle.std.specs.FinMap as finite
 use Rattle.std.specs.Ordering.{nat_cmp, eq_by_cmp}
 use Rattle.std.specs.declared.cmp.Ordering.{Ordering}
@@ -33,3 +33,8 @@ only_of owner (Some o) = if bytes_eq (address_bytes o.address) owner then Some o
 abbrev pub AreOwned : Owned → (all : Utxo) → Type 0
 AreOwned owned all =
     (owner : List ℕ) (input : Input) → output_at (owned_at owned owner) input ≡ only_of owner (output_at all input)
+
+-- with these outputs of an owner; an owner that has nothing isn't kept
+abbrev pub with_owned : Owned → (owner : List ℕ) → Utxo → Owned
+with_owned owned owner outputs =
+    if nat_eq (finite.len outputs) 0 then finite.remove owned owner else finite.insert owned owner outputs

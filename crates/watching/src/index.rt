@@ -1,7 +1,9 @@
 //! The unspent outputs, and those of each address.
 
+use crate::holders::{Holder, holders};
 use crate::owner::Owner;
 use crate::owners::Owners;
+use ident::ScriptHash;
 use std::alloc::{AllocError, Global};
 use std::marker::Model;
 use tx::{Address, Input, Output};
@@ -43,8 +45,13 @@ impl Model for Index {
 }
 
 impl Index {
-    ghost use Rattle.std.specs.Prelude.{◌≡◌, IfOk, None, option_map};
+    ghost use Rattle.std.specs.Prelude.{◌≡◌, IfOk, None, map, option_map};
+    ghost use Rattle.watching.specs.Changes.{restored};
+    ghost use Rattle.watching.specs.Histories.{owner_of};
+    ghost use Rattle.watching.specs.Holders.{AreHolders};
+    ghost use Rattle.watching.specs.View.{holder_of};
     ghost use Rattle.std.specs.FinMap as finite;
+    ghost use Rattle.model.specs.Value.{Named};
     ghost use Rattle.model.specs.Utxo.{output_at};
     ghost use Rattle.tx.specs.View.{address_of, input_of, output_of};
     ghost use Rattle.utxo_rules.specs.Entries.{pairs_of};
@@ -97,6 +104,28 @@ impl Index {
             Some(outputs) => outputs,
             None => &self.nothing,
         }
+    }
+
+    /// Who holds the asset of this policy and name, and how much of it. Adds up the outputs of each address by
+    /// themselves. Err where memory runs out, and where an address has more than 2^62 outputs.
+    pub fn holders(
+        &self,
+        alloc: Global,
+        policy: &ScriptHash,
+        name: &[u8],
+    ) -> Result<Vec<Holder>, AllocError>
+        ensures { IfOk result (λ holders.
+            AreHolders (Named policy.now.bytes name.now) self.now (map holder_of holders.items)) }
+    {
+        holders(alloc, &self.owners, policy, name)
+    }
+
+    /// Whose the output is that this input would spend, if one stands there. Takes a look-up.
+    pub fn owner_at(&self, input: &Input) -> Option<Owner>
+        ensures { result ≡ option_map owner_of (output_at self.now (input_of input.now)) }
+    {
+        let output = self.all.get(input)?;
+        Some(Owner::of(&output.address))
     }
 
     /// The index without the output that this input would spend, and that output, if one stands there. Err where memory
@@ -159,5 +188,20 @@ impl Index {
     {
         let (index, _) = self.without(input)?;
         index.with(input, output)
+    }
+
+    /// The index with what this input would have spent before. Err where memory runs out: the index is gone with the
+    /// call.
+    pub fn restore(self, input: &Input, before: &Option<Output>) -> Result<Index, AllocError>
+        ensures { IfOk result (λ index.
+            index ≡ restored self (input_of input.now) (option_map output_of before.now)) }
+    {
+        match before {
+            Some(output) => self.put(input, output.try_clone()?),
+            None => {
+                let (index, _) = self.without(input)?;
+                Ok(index)
+            }
+        }
     }
 }

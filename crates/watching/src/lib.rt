@@ -1,5 +1,6 @@
-//! An index that follows: the unspent outputs of each address, kept by a follower's instructions alone. It knows of no
-//! chain database: whoever is told blocks and rollbacks can keep an index, a wallet or an explorer beside a node.
+//! An index that follows: the unspent outputs and the history of each address, who holds an asset, and where each
+//! transaction was put onto the chain, kept by a follower's instructions alone. It knows of no chain database: whoever
+//! is told blocks and rollbacks can keep an index, a wallet or an explorer beside a node.
 //!
 //! ```text
 //! let mut watch = Watch::new(alloc, Tip::genesis(), core.utxo(), k)?; // a new core has what the genesis granted
@@ -9,20 +10,36 @@
 //!     None => .., // the outputs are those of the selected chain
 //! }
 //! for (input, output) in watch.outputs(&address).iter() { .. }
+//! for (inclusion, transaction) in watch.history(&address).iter() { .. }
+//! for Holder { address, amount } in watch.holders(&policy, b"name")?.iter() { .. }
 //! ```
 #![tactic(auto)]
 
 mod advance;
 mod balance;
 mod change;
+mod difference;
+mod histories;
+mod history;
+mod holders;
+mod inclusion;
+mod inclusions;
 mod index;
 mod laws;
 mod owner;
 mod owners;
-mod step;
+mod tables;
+mod tx_key;
 mod watch;
 mod watch_fault;
 
-pub use laws::outputs_are_the_ledgers;
+pub use history::{History, HistoryEntries};
+pub use holders::Holder;
+pub use inclusion::Inclusion;
+pub use laws::{
+    follows_the_told, histories_are_the_chains, holders_are_one, inclusions_are_the_chains,
+    next_are_taken, outputs_are_the_chains, outputs_are_the_ledgers, outputs_are_the_tolds,
+    points_are_kept, reach_stays,
+};
 pub use watch::Watch;
 pub use watch_fault::WatchFault;

@@ -1,7 +1,7 @@
 //! The outputs of each owner.
 
 use crate::owner::Owner;
-use persistent_map::PersistentMap;
+use persistent_map::{Iter, PersistentMap};
 use std::alloc::{AllocError, Global};
 use std::marker::Model;
 use std::sync::Arc;
@@ -34,7 +34,7 @@ impl Owners {
     ghost use Rattle.std.specs.Prelude.{◌≡◌, IfOk, OnOk};
     ghost use Rattle.std.specs.Option.{option_copied};
     ghost use Rattle.std.specs.FinMap as finite;
-    ghost use Rattle.watching.specs.Owned.{owned_at, IsGiven};
+    ghost use Rattle.watching.specs.Owned.{owned_at, with_owned};
 
     /// Nobody has an output. Takes no memory.
     pub fn new(alloc: Global) -> Owners
@@ -63,6 +63,14 @@ impl Owners {
         self.map.get(owner)
     }
 
+    /// What each owner has that has something, in the order of the owners' bytes. Takes no memory; each step takes time
+    /// in proportion to the logarithm of their number.
+    pub fn iter(&self) -> Iter<'_, Owner, Utxo>
+        ensures { result ≡ finite.entries self.now }
+    {
+        self.map.iter()
+    }
+
     /// A copy of what this owner has, which shares it. Takes a look-up.
     pub fn outputs(&self, owner: &Owner) -> Result<Utxo, AllocError>
         ensures { IfOk result (λ outputs. outputs ≡ owned_at self.now owner.now) }
@@ -75,7 +83,7 @@ impl Owners {
 
     /// Gives the owner these outputs in the place of those that it had. One that has none takes no room.
     pub fn set(&mut self, owner: Owner, outputs: Utxo) -> Result<(), AllocError>
-        ensures { OnOk result (IsGiven self.old owner outputs self.new) }
+        ensures { OnOk result (self.new ≡ with_owned self.old owner outputs) }
     {
         if outputs.is_empty() {
             self.map.remove(&owner)?;

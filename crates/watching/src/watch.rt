@@ -6,11 +6,16 @@ ghost use Rattle.ident.specs.PointView.{point_of};
 
 use crate::advance::Advance;
 use crate::balance::balance;
-use crate::index::Index;
-use crate::step::{Step, before_steps, drop_newest, find, push_newest};
+use crate::difference::{Difference, before_blocks, drop_newest, find, push_newest};
+use crate::history::History;
+use crate::holders::Holder;
+use crate::inclusion::Inclusion;
+use crate::owner::Owner;
+use crate::tables::Tables;
+use crate::tx_key::TxKey;
 use crate::watch_fault::WatchFault;
 use block::{CheckedBlock, Tip};
-use ident::Point;
+use ident::{Point, ScriptHash, TxId};
 use std::alloc::{AllocError, Global};
 use std::collections::LinkedList;
 use std::marker::Model;
@@ -19,17 +24,19 @@ use utxo_rules::Utxo;
 use value::Totals;
 use witness_pool::SigScheme;
 
-/// An index of the unspent outputs of a chain by their addresses, which is told the chain block by block and what of it
-/// is rolled back, as a follower is. It keeps the outputs, twice, and what each of the last blocks changed, at most k
-/// of them: memory grows with the outputs, and with what these blocks spent and made. It judges no transaction: who
-/// tells it blocks of a chain that isn't valid has an index of that.
+/// An index of a chain, which is told the chain block by block and what of it is rolled back, as a follower is: the
+/// unspent outputs by their addresses, which transactions spent from an address or paid to it, and where each
+/// transaction was put onto the chain. It keeps the outputs, twice; the identifier of each transaction since it began,
+/// once by itself and once for each address that it concerns; and what each of the last blocks changed, at most k of
+/// them: memory grows with these. It judges no transaction: who tells it blocks of a chain that isn't valid has an
+/// index of that.
 pub struct Watch {
     alloc: Global,
     k: u64,
     tip: Tip,
-    index: Index,
+    tables: Tables,
     /// What each of the last blocks changed, the newest first.
-    steps: LinkedList<Step>,
+    differences: LinkedList<Difference>,
 }
 
 // By hand, so that each exit calls it: the derived one is copied to each exit of each owner.
@@ -39,8 +46,8 @@ impl Drop for Watch {
             alloc: _,
             k: _,
             tip: _,
-            index: _,
-            steps: _,
+            tables: _,
+            differences: _,
         } = self;
     }
 }
@@ -52,7 +59,7 @@ impl Model for Watch {
 
     ghost coded = { coded_watched };
 
-    ghost use Rattle.watching.specs.Inside.{watched_of, IsBounded};
+    ghost use Rattle.watching.specs.View.{watched_of, IsBounded};
 
     ghost view = { watched_of };
 
@@ -60,43 +67,49 @@ impl Model for Watch {
 }
 
 impl Watch {
-    ghost use Rattle.std.specs.Prelude.{◌≡◌, ◌≤◌, ◌+◌, List, [], ◌∷◌, ◌++◌, length, min};
+    ghost use Rattle.std.specs.Prelude.{◌≡◌, ◌≤◌, ◌+◌, ℕ, List, [], ◌∷◌, ◌++◌, length, map, take};
     ghost use Rattle.std.specs.Prelude.{IfOk, IfErr, OnOk, OnErr};
+    ghost use Rattle.std.specs.Option.{option_map};
     ghost use Rattle.std.specs.FinMap as finite;
-    ghost use Rattle.model.specs.Value.{Asset};
-    ghost use Rattle.model.specs.Block.{Block};
+    ghost use Rattle.model.specs.Value.{Asset, Named};
+    ghost use Rattle.model.specs.Transaction.{address_bytes};
+    ghost use Rattle.model.specs.Block.{Block, SpellsBlock};
     ghost use Rattle.model.specs.Utxo as model;
     ghost use Rattle.model.specs.Utxo.{sum_of};
     ghost use Rattle.model.specs.Chain.{Follows, IsLinked, genesis_tip, tip_after};
-    ghost use Rattle.model.specs.Follower.{IsReplayed, RollBack};
+    ghost use Rattle.model.specs.Follower.{AddBlock, RollBack};
     ghost use Rattle.tx.specs.View.{address_of};
     ghost use Rattle.utxo_rules.specs.Entries.{pairs_of};
     ghost use Rattle.value.specs.Totals.{total_of};
-    ghost use Rattle.watching.specs.Chains.{unspent_of, with_block, IsRolledBack, IsIndexOf};
+    ghost use Rattle.watching.specs.Chains.{unspent_of, only_outputs, with_block, IsIndexOf};
+    ghost use Rattle.watching.specs.Histories.{history_at};
+    ghost use Rattle.watching.specs.Ledgers.{IsTaken, IsIndexOfTold};
     ghost use Rattle.watching.specs.Faults.{IsAddFault, IsBackFault};
     ghost use Rattle.watching.specs.Balances.{outputs_with};
+    ghost use Rattle.watching.specs.Holders.{AreHolders};
+    ghost use Rattle.watching.specs.View.{holder_of, inclusion_of};
 
     /// An index of a chain that ends at the tip and leaves these outputs. Blocks that are put on from there on can be
     /// rolled back, at most k of them; after a rollback fewer, until as many were put on again. With [`Tip::genesis`]
-    /// and what a genesis grants it begins before the first block. Err where memory runs out. Takes a few look-ups and
-    /// two copies for each output.
+    /// and what a genesis grants it begins before the first block; where it begins later, no history goes further back.
+    /// Err where memory runs out. Takes a few look-ups and two copies for each output.
     pub fn new(alloc: Global, tip: Tip, outputs: &Utxo, k: u64) -> Result<Watch, AllocError>
         ensures new { IfOk result (λ watch. watch ≡ record {
           k = k;
-          last = record { tip = tip_of tip; outputs = outputs.now };
-          before = [];
+          last = record { tip = tip_of tip; tables = only_outputs outputs.now };
+          older = [];
         }) }
         // It is the index of each chain that ends so and leaves these.
-        ensures chain { IfOk result (λ watch. (start : model.Utxo) (chain : List Block) →
-            tip_of tip ≡ tip_after genesis_tip chain → outputs.now ≡ unspent_of start chain →
-            IsIndexOf start chain watch) }
+        ensures chain { IfOk result (λ watch. (granted : model.Utxo) (past : List Block) →
+            IsLinked genesis_tip past → tip_of tip ≡ tip_after genesis_tip past →
+            outputs.now ≡ unspent_of granted past → IsIndexOf granted past [] watch) }
     {
         Ok(Watch {
             alloc,
             k,
             tip,
-            index: Index::from_outputs(alloc, outputs)?,
-            steps: LinkedList::new(alloc),
+            tables: Tables::new(alloc, outputs)?,
+            differences: LinkedList::new(alloc),
         })
     }
 
@@ -109,56 +122,90 @@ impl Watch {
 
     /// How many blocks can be rolled back: at most k.
     pub fn depth(&self) -> usize
-        ensures depth { result ≡ length self.now.before }
+        ensures depth { result ≡ length self.now.older }
         ensures within { result ≤ self.now.k }
     {
-        self.steps.len()
+        self.differences.len()
     }
 
     /// All unspent outputs. Copies nothing; [`Utxo::try_clone`] of them is a snapshot that takes no memory.
     pub fn all(&self) -> &Utxo
-        ensures { result.now ≡ self.now.last.outputs }
+        ensures { result.now ≡ self.now.last.tables.outputs }
     {
-        self.index.all()
+        self.tables.index.all()
     }
 
     /// The unspent outputs of this address, in the order of their inputs. Takes a look-up, and copies nothing.
     pub fn outputs(&self, address: &Address) -> &Utxo
-        ensures { finite.entries result.now ≡ pairs_of (address_of address.now) (finite.entries self.now.last.outputs) }
+        ensures { finite.entries result.now ≡
+            pairs_of (address_of address.now) (finite.entries self.now.last.tables.outputs) }
     {
-        self.index.of(address)
+        self.tables.index.of(address)
     }
 
     /// What the unspent outputs of this address hold together, each asset by itself, and how many they are. Looks at
     /// each of them. Err where memory runs out, and where they are more than 2^62.
     pub fn balance(&self, address: &Address) -> Result<Totals, AllocError>
         ensures sums { IfOk result (λ totals. (asset : Asset) →
-            total_of totals asset ≡ sum_of asset (outputs_with (address_of address.now) self.now.last.outputs)) }
+            total_of totals asset ≡ sum_of asset (outputs_with (address_of address.now) self.now.last.tables.outputs)) }
         ensures counted { IfOk result (λ totals.
-            totals.values ≡ length (outputs_with (address_of address.now) self.now.last.outputs)) }
+            totals.values ≡ length (outputs_with (address_of address.now) self.now.last.tables.outputs)) }
     {
         balance(self.alloc, self.outputs(address))
     }
 
+    /// Who holds the asset of this policy and name, and how much of it, in the order of the bytes of their addresses:
+    /// each address once whose unspent outputs hold some. Ada is no asset of a policy. Walks through all unspent
+    /// outputs, with a few look-ups for each asset in them, and takes memory for the assets of one address at a time
+    /// and for the holders. Amounts are exact. Err where memory runs out, and where an address has more than 2^62
+    /// outputs, whose sum might not fit 128 bits.
+    pub fn holders(&self, policy: &ScriptHash, name: &[u8]) -> Result<Vec<Holder>, AllocError>
+        ensures { IfOk result (λ holders.
+            AreHolders (Named policy.now.bytes name.now) self.now.last.tables.outputs (map holder_of holders.items)) }
+    {
+        self.tables.index.holders(self.alloc, policy, name)
+    }
+
+    /// Which transactions spent from this address or paid to it, since the index began, the newest first: each one once
+    /// for each time that it came onto the chain, which on a valid chain is once. Takes a look-up, and copies nothing.
+    pub fn history(&self, address: &Address) -> &History
+        ensures { result.now ≡ history_at self.now.last.tables.histories (address_bytes (address_of address.now)) }
+    {
+        self.tables.histories.of(&Owner::of(address))
+    }
+
+    /// Where the transaction with this identifier was put onto the chain, the last time, if it was since the index
+    /// began. Takes a look-up.
+    pub fn transaction(&self, id: &TxId) -> Option<Inclusion>
+        ensures { option_map inclusion_of result ≡ finite.get self.now.last.tables.inclusions id.now.bytes }
+    {
+        let inclusion = self.tables.inclusions.get(&TxKey::of(id))?;
+        Some(inclusion.inclusion())
+    }
+
     /// Puts a block on. Where it can't come next, or memory runs out, nothing changes. Takes a few look-ups for each
-    /// input and each output, and memory for the outputs and for what the block changed.
+    /// input and each output, and memory for the outputs, for what the block changed, and for a copy of each node on
+    /// the way to a change, until the block is on.
     pub fn add_block<S: SigScheme>(&mut self, block: &CheckedBlock<S>) -> Result<(), WatchFault>
         ensures ok { OnOk result (self.new ≡ with_block self.old block.now) }
         ensures next { OnOk result (Follows self.old.last.tip block.now) }
         ensures fault { IfErr result (IsAddFault self.old block.now) }
         ensures err { OnErr result (self.new ≡ self.old) }
         // The index of a chain is then that of the chain with the block after it.
-        ensures chain { OnOk result ((start : model.Utxo) (chain : List Block) →
-            IsIndexOf start chain self.old → IsIndexOf start (chain ++ block.now ∷ []) self.new) }
+        ensures chain { OnOk result ((granted : model.Utxo) (past since : List Block) →
+            IsIndexOf granted past since self.old → IsIndexOf granted past (since ++ block.now ∷ []) self.new) }
+        // It has taken the instruction that has the block's bytes.
+        ensures taken { OnOk result ((bytes : List ℕ) → SpellsBlock block.now bytes →
+            IsTaken self.old (AddBlock bytes) self.new) }
     {
         if !self.tip.precedes(block) {
             return Err(WatchFault::NotNext);
         }
-        let advance = Advance::new(self.alloc, self.index.try_clone()?);
-        let Advance { index, changes } = advance.apply_all(block.transactions())?;
+        let advance = Advance::new(self.alloc, self.tables.try_clone()?);
+        let Advance { tables, changes } = advance.apply_all(block.header(), block.transactions())?;
         let tip = self.tip;
-        push_newest(&mut self.steps, Step { tip, changes }, self.k)?;
-        self.index = index;
+        push_newest(&mut self.differences, Difference { tip, changes }, self.k)?;
+        self.tables = tables;
         self.tip = Tip::at(block);
         Ok(())
     }
@@ -167,20 +214,20 @@ impl Watch {
     /// Takes time and memory that grow with the blocks that are rolled back and what they changed; for a point that
     /// isn't kept, time that grows with k.
     pub fn roll_back(&mut self, point: &Point) -> Result<(), WatchFault>
-        ensures ok { OnOk result (IsRolledBack self.old (point_of point.now) self.new) }
+        ensures ok { OnOk result (IsTaken self.old (RollBack (point_of point.now)) self.new) }
         ensures fault { IfErr result (IsBackFault self.old (point_of point.now)) }
         ensures err { OnErr result (self.new ≡ self.old) }
-        // The index of a chain is then that of the chain which the follower is told to go back to.
-        ensures chain { OnOk result ((start : model.Utxo) (chain after : List Block) →
-            IsLinked genesis_tip chain → IsIndexOf start chain self.old →
-            IsReplayed chain (RollBack (point_of point.now)) after → IsIndexOf start after self.new) }
+        // The index of a chain is then that of the chain up to the point.
+        ensures chain { OnOk result ((granted : model.Utxo) (past since : List Block) →
+            IsIndexOf granted past since self.old →
+            IsIndexOfTold granted past (take (point_of point.now).number (past ++ since)) self.new) }
     {
-        let Some((back, tip)) = find(&self.tip, &self.steps, point) else {
+        let Some((back, tip)) = find(&self.tip, &self.differences, point) else {
             return Err(WatchFault::UnknownPoint);
         };
-        self.index = before_steps(self.index.try_clone()?, &self.steps, back)?;
+        self.tables = before_blocks(self.tables.try_clone()?, &self.differences, back)?;
         self.tip = tip;
-        drop_newest(&mut self.steps, back);
+        drop_newest(&mut self.differences, back);
         Ok(())
     }
 }

@@ -10,9 +10,9 @@ pub enum WatchFault {
     /// slot.
     #[error("the block doesn't come next")]
     NotNext,
-    /// The index keeps no version that ends at the point: it is on another chain, lies before where the index began, or
-    /// is more than k blocks before the furthest block that was put on.
-    #[error("the point isn't kept")]
+    /// The index keeps no version that ends at the point: its chain doesn't pass there, or not yet; or the point lies
+    /// before where the index began, or more than k blocks before the furthest block that was put on.
+    #[error("the point isn't tables")]
     UnknownPoint,
     /// Memory ran out.
     #[error("out of memory")]

@@ -1,11 +1,13 @@
 -- With what is still to be put on it is what is asked for, and what is undone is what it was.
 use Rattle.std.proofs.Common.{◌≡◌}
+use Rattle.block.specs.View.{header_of}
 use Rattle.watching.specs.Changes.{all_put_back}
+use Rattle.watching.specs.View.{tables_of}
 use Rattle.watching.proofs.Advancing.{IsPartOn}
 use Rattle.watching.proofs.advance.Advance.apply_all.Given as goal
 
-abbrev pub invariant-loop-tx : goal.invariant-loop-tx
-invariant-loop-tx g l = record {
-  part : IsPartOn l.fn.self.index l.advance.index l.transactions l.tx-index;
-  back : all_put_back l.advance.changes.items l.advance.index ≡ all_put_back l.fn.self.changes.items l.fn.self.index;
+abbrev pub invariant-loop-index : goal.invariant-loop-index
+invariant-loop-index g l = record {
+  part : IsPartOn (header_of l.header) (tables_of l.fn.self.tables) (tables_of l.advance.tables) l.transactions l.index;
+  back : all_put_back l.advance.changes.items (tables_of l.advance.tables) ≡ all_put_back l.fn.self.changes.items (tables_of l.fn.self.tables);
 }

@@ -4,7 +4,7 @@ use Rattle.model.specs.Transaction.{Output, address_bytes}
 use Rattle.model.specs.Utxo.{Utxo, output_at}
 use Rattle.tx.specs.View.{input_of, output_of}
 use Rattle.watching.specs.Owned.{owned_at, only_of}
-use Rattle.watching.proofs.Owning.{given_as, more_owned}
+use Rattle.watching.proofs.Owning.{given_as, set_given, more_owned}
 use Rattle.watching.proofs.index.Index.with.Goals as goal
 
 pub invariant_of-result : goal.invariant_of-result
@@ -19,7 +19,7 @@ invariant_of-result c =
     c.in_ok-insert.ensures.ok
     ∙ ap (λ (u : Utxo). finite.insert u i (output_of c.in_ok-try_clone.field-0)) (c.in_ok-outputs.ensures ∙ ap (owned_at owned) c.of-owner.ensures)
     ∙ ap (λ (o : Output). finite.insert (owned_at owned mine) i o) c.in_ok-try_clone.ensures in
-    let given = given_as owned c.set.new.self c.of-owner.result mine c.insert.new.self (finite.insert (owned_at owned mine) i x) c.of-owner.ensures more c.in_ok-set.ensures in (
+    let given = given_as owned c.set.new.self c.of-owner.result mine c.insert.new.self (finite.insert (owned_at owned mine) i x) c.of-owner.ensures more (set_given owned c.set.new.self c.of-owner.result c.insert.new.self c.in_ok-set.ensures) in (
       (λ owner input.
           more_owned owned c.set.new.self all i x free c.self.invariant.0 given owner input
           ∙ ap (λ (u : Utxo). only_of owner (output_at u input)) (sym c.in_ok-insert-2.ensures.ok)),

@@ -4,7 +4,7 @@ use Rattle.model.specs.Transaction.{address_bytes}
 use Rattle.model.specs.Utxo.{Utxo, output_at}
 use Rattle.tx.specs.View.{input_of, output_of}
 use Rattle.watching.specs.Owned.{owned_at, only_of}
-use Rattle.watching.proofs.Owning.{given_as, less_owned, none_removed}
+use Rattle.watching.proofs.Owning.{given_as, set_given, less_owned, none_removed}
 use Rattle.watching.proofs.index.Index.without.Goals as goal
 
 pub returns-in-None-clause-left : goal.returns-in-None-clause-left
@@ -24,7 +24,7 @@ invariant_of-index c =
     let there : output_at all i ≡ Some x = sym found ∙ ap Some (sym c.in_ok-output-in-Some.ensures) in
     let less : c.remove.new.self ≡ finite.remove (owned_at owned mine) i =
     c.in_ok-remove.ensures.ok ∙ ap (λ (u : Utxo). finite.remove u i) (c.in_ok-outputs.ensures ∙ ap (owned_at owned) c.of-owner.ensures) in
-    let given = given_as owned c.set.new.self c.of-owner.result mine c.remove.new.self (finite.remove (owned_at owned mine) i) c.of-owner.ensures less c.in_ok-set.ensures in (
+    let given = given_as owned c.set.new.self c.of-owner.result mine c.remove.new.self (finite.remove (owned_at owned mine) i) c.of-owner.ensures less (set_given owned c.set.new.self c.of-owner.result c.remove.new.self c.in_ok-set.ensures) in (
       (λ owner input.
           less_owned owned c.set.new.self all i x there c.self.invariant.0 given owner input
           ∙ ap (λ (u : Utxo). only_of owner (output_at u input)) (sym c.in_ok-remove-2.ensures.ok)),

@@ -10,7 +10,7 @@ use Rattle.watching.proofs.watch.Watch.balance.Goals as goal
 
 pub returns-clause-counted : goal.returns-clause-counted
 returns-clause-counted c =
-    let all = c.args.self.now.last.outputs in
+    let all = c.args.self.now.last.tables.outputs in
     let held = c.outputs.result.now in
     let many : finite.len held ≡ length (outputs_with (address_of c.args.address.now) all) =
     finite.len-entries held ∙ ap (λ (ps : List (Input × Output)). length ps) c.outputs.ensures

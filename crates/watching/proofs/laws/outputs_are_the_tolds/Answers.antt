@@ -1,0 +1,5 @@
+use Rattle.watching.proofs.Following.{outputs_are_told}
+use Rattle.watching.proofs.laws.outputs_are_the_tolds.Goals as goal
+
+pub returns : goal.returns
+returns c = outputs_are_told
