@@ -6,3 +6,5 @@ mod Identity
 mod Assets
 mod Faults
 mod Finishing
+mod Bodies
+mod BodyTexts

@@ -4,10 +4,11 @@ use Rattle.std.specs.Prelude.{◌≡◌, ℕ, ◌<◌, ◌≤◌, nat_lt, nat_le
 use Rattle.std.specs.Prelude.{◌∷◌, ◌++◌, length, map, Option, Some, None, is_some, unwrap_or, bytes_eq}
 use Rattle.std.specs.Prelude.{if◌then◌else◌}
 use Rattle.std.specs.List.{list_any, count_by, AllZip}
-use Rattle.model.specs.Cbor.{nesting}
+use Rattle.model.specs.Cbor.{nesting, text_of}
 use Rattle.model.specs.Limits.{script_nesting_limit, name_size_limit, output_limit}
 use Rattle.model.specs.Script.{Script, item_of_script, script_hash_of}
-use Rattle.model.specs.Transaction.{Address, Input, Output, KeyWitness, Transaction, transaction_id_of}
+use Rattle.model.specs.Transaction.{Address, Input, Output, KeyWitness, Transaction, SpellsTransaction}
+use Rattle.model.specs.Transaction.{transaction_id_of, item_of_body, item_of_transaction}
 use Rattle.model.specs.Value.{Mint}
 use Rattle.value.specs.Parts as values
 use Rattle.value.specs.Parts.{AssetQuantity, IsValueOf, IsMintOf, is_of}
@@ -26,6 +27,10 @@ pub record DraftOutput : Type 0 where
 pub record Signer : Type 0 where
   pub key : List ℕ
   pub signs : (message : List ℕ) → List ℕ
+
+-- a signature that was made elsewhere, as its signer: it makes this one of each message
+abbrev pub made_elsewhere : (key signature : List ℕ) → Signer
+made_elsewhere key signature = record { key = key; signs = λ message. signature }
 
 -- the parts, in the order in which they were added
 pub record Draft : Type 0 where
@@ -130,6 +135,9 @@ with_minted a d =
 abbrev pub with_signer : Signer → Draft → Option Draft
 with_signer signer d = unless (has_key signer.key d.signers) (record d { signers = d.signers ++ signer ∷ [] })
 
+abbrev pub with_signature : (key signature : List ℕ) → Draft → Option Draft
+with_signature key signature d = with_signer (made_elsewhere key signature) d
+
 abbrev pub with_script : Script → Draft → Option Draft
 with_script script d =
     unless (is_deep script || has_hash (script_hash_of script) d.scripts)
@@ -188,9 +196,41 @@ pub record IsTxOfDraft (d : Draft) (tx : Transaction) : Type 0 where
   pub mint : IsMintOf tx.mint d.mint
   pub parts : IsTxOf tx (parts_with d tx.outputs tx.mint (transaction_id_of tx))
 
+-- the draft with these keys and scripts in place of its own
+abbrev pub with_witnesses : Draft → List Signer → List Script → Draft
+with_witnesses d signers scripts = record d { signers = signers; scripts = scripts }
+
 -- the draft without keys and scripts, of which the identifier is
 abbrev pub without_witnesses : Draft → Draft
-without_witnesses d = record d { signers = []; scripts = [] }
+without_witnesses d = with_witnesses d [] []
+
+-- the transaction has the parts of the draft, whoever signed it and whatever scripts are supplied
+pub record HasPartsOf (d : Draft) (tx : Transaction) : Type 0 where
+  pub signers : List Signer
+  pub scripts : List Script
+  pub is_tx : IsTxOfDraft (with_witnesses d signers scripts) tx
+  pub spelled : SpellsTransaction tx (text_of (item_of_transaction tx))
+
+-- there is a transaction with the parts of the draft, and of each one that has them these bytes are told
+pub record IsToldOfAll (told : Transaction → List ℕ) (d : Draft) (bytes : List ℕ) : Type 0 where
+  pub one : (tx : Transaction) × HasPartsOf d tx
+  pub all : (tx : Transaction) → HasPartsOf d tx → told tx ≡ bytes
+
+-- the text of its body, whoever signs
+abbrev pub IsBodyOf : Draft → List ℕ → Type 0
+IsBodyOf d text = IsToldOfAll (λ tx. text_of (item_of_body tx)) d text
+
+-- its identifier, whoever signs
+abbrev pub IsIdOf : Draft → List ℕ → Type 0
+IsIdOf d id = IsToldOfAll transaction_id_of d id
+
+-- the transaction with no signatures and no scripts
+abbrev pub body_alone : Transaction → Transaction
+body_alone tx = record tx { signatures = []; scripts = [] }
+
+-- the draft with the signatures that its signers make of an identifier, added in place of the signers
+abbrev pub signed_elsewhere : List ℕ → Draft → Draft
+signed_elsewhere id d = record d { signers = map (λ s. made_elsewhere s.key (s.signs id)) d.signers }
 
 -- whatever is minted and whatever identifier is signed, no transaction of the parts of the draft is refused for another
 -- fault than OutOfMemory

@@ -8,19 +8,22 @@ ghost use Rattle.tx.specs.View.{input_of, address_of};
 ghost use Rattle.draft.specs.Draft as model;
 ghost use Rattle.draft.specs.Draft.{empty_draft, HasNoFault, IsTxOfDraft};
 ghost use Rattle.draft.specs.Draft.{with_input, with_output, with_fee, with_start, with_end, with_minted};
-ghost use Rattle.draft.specs.Draft.{with_signer, with_script};
+ghost use Rattle.draft.specs.Draft.{with_signer, with_signature, with_script, without_witnesses, IsBodyOf, IsIdOf};
+ghost use Rattle.draft.specs.SignerView.{signer_of_witness};
+ghost use Rattle.draft.specs.UnsignedView.{AreBesideWitnesses, HasNoWitnesses};
 ghost use Rattle.draft.specs.View.{IsDraftOf, Adds};
 ghost use Rattle.draft.specs.declared.draft_fault.DraftFault.TheVariants.{NotBuilt};
 
 use crate::draft_fault::DraftFault;
 use crate::keyed::Keyed;
+use crate::laws::one_body_of_draft;
 use crate::signer::Signer;
-use crate::unsigned::{Unsigned, mint_of};
+use crate::unsigned::{Unsigned, body_text, clone_assets, mint_of};
 use crate::values::value_with;
-use ident::ScriptHash;
+use ident::{ScriptHash, TxId};
 use std::alloc::{AllocError, Global};
 use timelock::{Interval, Script};
-use tx::{Address, Input, MAX_OUTPUTS, MAX_SCRIPT_NESTING, Output, Tx};
+use tx::{Address, Input, KeyWitness, MAX_OUTPUTS, MAX_SCRIPT_NESTING, Output, Tx, clone_outputs};
 use value::{AssetQuantity, MAX_NAME};
 
 /// Adds an output after the others. Err where memory runs out: they are as they were.
@@ -188,6 +191,58 @@ impl<K: Signer + Drop> Draft<K> {
         Ok(())
     }
 
+    /// What the transaction has beside its witnesses, copied.
+    fn unsigned(&self) -> Result<Unsigned, AllocError>
+        ensures { IfOk result (AreBesideWitnesses self.now) }
+    {
+        let assets = clone_assets(self.alloc, &self.mint.items)?;
+        Ok(Unsigned {
+            inputs: Vec::from_slice(self.alloc, &self.inputs.items)?,
+            outputs: clone_outputs(self.alloc, &self.outputs)?,
+            fee: self.fee.unwrap_or(0),
+            interval: Interval {
+                start: self.start,
+                end: self.end,
+            },
+            mint: mint_of(self.alloc, assets)?,
+        })
+    }
+
+    /// The transaction of the parts without witnesses.
+    fn bare(&self) -> Result<Tx, AllocError>
+        ensures tx { IfOk result (λ tx. (draft : model.Draft) → IsDraftOf K.signer self.now draft →
+            IsTxOfDraft (without_witnesses draft) tx) }
+        ensures bare { IfOk result HasNoWitnesses }
+    {
+        self.unsigned()?.bare(self.alloc)
+    }
+
+    /// The text of the transaction's body as the parts stand: whoever signs and whatever scripts are supplied, it stays
+    /// this text. Keys don't sign it, but its SHA-256 digest, which is the identifier ([`Draft::id`]). Err where memory
+    /// runs out, and for nothing else. Copies the parts, and writes their text twice.
+    pub fn body(&self) -> Result<Vec<u8>, AllocError>
+        ensures body { IfOk result (λ body. (draft : model.Draft) → IsDraftOf K.signer self.now draft →
+            IsBodyOf draft body.items) }
+        ensures err { OnErr result ((draft : model.Draft) → IsDraftOf K.signer self.now draft → HasNoFault draft) }
+    {
+        one_body_of_draft();
+        let tx = self.bare()?;
+        body_text(&tx)
+    }
+
+    /// The identifier that the transaction has as the parts stand, whoever signs and whatever scripts are supplied. It
+    /// is what keys sign: its 32 bytes are the message. Err where memory runs out, and for nothing else. Copies the
+    /// parts, and writes their text once.
+    pub fn id(&self) -> Result<TxId, AllocError>
+        ensures id { IfOk result (λ id. (draft : model.Draft) → IsDraftOf K.signer self.now draft →
+            IsIdOf draft id.bytes) }
+        ensures err { OnErr result ((draft : model.Draft) → IsDraftOf K.signer self.now draft → HasNoFault draft) }
+    {
+        one_body_of_draft();
+        let tx = self.bare()?;
+        Ok(tx.id())
+    }
+
     /// The transaction of the parts, signed. Whether the rules let it through is not asked, so it may have no parts.
     /// The fee is 0 where none was set. Err where memory runs out, and for nothing else, since what was added has no
     /// fault. Sorts n parts in n log n comparisons. Inputs, outputs and mint are copied once, and their text is written
@@ -211,5 +266,18 @@ impl<K: Signer + Drop> Draft<K> {
         };
         let signers = self.signers.into_items();
         unsigned.signed(self.alloc, &signers, self.scripts.into_items())
+    }
+}
+
+/// A draft that is signed elsewhere: what signs it is a signature that was made of its identifier.
+impl Draft<KeyWitness> {
+    /// Adds a signature that was made elsewhere of [`Draft::id`], and the public key that made it. NotBuilt where a
+    /// signature by this key is there. Whether it is good isn't asked, since parts may still be added, and then the
+    /// identifier is another: the scheme's `verify` tells it of an identifier, and the rules judge it. Logarithmic in
+    /// the signatures.
+    pub fn add_signature(&mut self, key: [u8; 32], signature: [u8; 64]) -> Result<(), DraftFault>
+        ensures { Adds signer_of_witness (with_signature key signature) self.old self.new result }
+    {
+        self.sign(KeyWitness::new(key, signature))
     }
 }

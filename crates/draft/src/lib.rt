@@ -12,6 +12,16 @@
 //! draft.sign(TestSigner { key, signing: Signing::Good })?; // or an `ed25519::SecretKey`
 //! let tx = draft.finish()?; // its text has 190 bytes, and its own identifier is signed
 //! ```
+//!
+//! Where the key isn't here, as in a hardware wallet, the draft has signatures for signers:
+//!
+//! ```text
+//! let mut draft: Draft<KeyWitness> = Draft::new(alloc); // and the same parts
+//! let body = draft.body()?; // what a device shows before it signs: 84 bytes
+//! let id = draft.id()?; // the digest of these, of which a signature is made elsewhere
+//! draft.add_signature(key, signature)?;
+//! let tx = draft.finish()?; // the same transaction, if the signature is the one that the key makes
+//! ```
 #![tactic(auto)]
 
 mod draft;
@@ -24,5 +34,5 @@ mod values;
 
 pub use draft::Draft;
 pub use draft_fault::DraftFault;
-pub use laws::good_signature_verifies;
+pub use laws::{good_signature_verifies, one_body_of_draft, one_text_signed_elsewhere};
 pub use signer::{Signer, Signing, TestSigner};

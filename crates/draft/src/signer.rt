@@ -58,6 +58,21 @@ impl Signer for TestSigner {
     }
 }
 
+/// A signature that was made elsewhere stands for who made it: it is the signature, whatever the identifier is.
+impl Signer for KeyWitness {
+    ghost use Rattle.draft.specs.SignerView.{signer_of_witness};
+
+    ghost signer = { signer_of_witness };
+
+    fn public_key(&self) -> [u8; 32] {
+        self.key
+    }
+
+    fn signature(&self, _id: &[u8; 32]) -> [u8; 64] {
+        self.signature
+    }
+}
+
 /// Signs by Ed25519. The cost of a call doesn't grow: an identifier has 32 bytes.
 impl Signer for SecretKey {
     ghost use Rattle.draft.specs.Signers.{secret_signer};

@@ -1,17 +1,17 @@
 //! What a transaction has beside its witnesses.
 
-ghost use Rattle.std.specs.Prelude.{◌≡◌, ℕ, List, map, IfOk};
+ghost use Rattle.std.specs.Prelude.{◌≡◌, ℕ, List, [], map, IfOk, OnOk};
 ghost use Rattle.model.specs.Script as model;
 ghost use Rattle.model.specs.Cbor.{text_of};
 ghost use Rattle.model.specs.Transaction.{KeyWitness as Witness, Transaction, SpellsTransaction, item_of_transaction};
-ghost use Rattle.model.specs.Transaction.{transaction_id_of};
+ghost use Rattle.model.specs.Transaction.{transaction_id_of, item_of_body};
 ghost use Rattle.value.specs.Parts.{IsMintOf};
 ghost use Rattle.value.specs.View.{asset_of};
 ghost use Rattle.tx.specs.Making.{parts_of};
 ghost use Rattle.tx.specs.Parts.{IsTxOf};
 ghost use Rattle.tx.specs.View.{witness_of};
 ghost use Rattle.draft.specs.Draft.{witness_by};
-ghost use Rattle.draft.specs.UnsignedView.{parts_of_unsigned};
+ghost use Rattle.draft.specs.UnsignedView.{parts_of_unsigned, HasNoWitnesses};
 
 use crate::signer::{Signer, witness};
 use ident::TxId;
@@ -60,7 +60,69 @@ pub fn mint_of(alloc: Global, assets: Vec<AssetQuantity<i64>>) -> Result<Mint, A
     Mint::new(alloc, assets).map_err(|_| AllocError)
 }
 
+/// The same assets once more. Takes memory for all of them, and for each name.
+pub fn clone_assets<Q: Copy>(
+    alloc: Global,
+    assets: &[AssetQuantity<Q>],
+) -> Result<Vec<AssetQuantity<Q>>, AllocError>
+    ensures { IfOk result (λ copies. map asset_of copies.items ≡ map asset_of assets.now) }
+{
+    let mut copies = Vec::with_capacity(alloc, assets.len())?;
+    for asset in assets {
+        let name = Vec::from_slice(alloc, &asset.name)?;
+        copies.push(AssetQuantity {
+            policy: asset.policy,
+            name,
+            quantity: asset.quantity,
+        })?;
+    }
+    Ok(copies)
+}
+
+/// The text of the body of a transaction without witnesses. Its own text is that of an array of three: one byte stands
+/// before the body's, and two after it, the empty map of the witnesses and null.
+pub fn body_text(tx: &Tx) -> Result<Vec<u8>, AllocError>
+    requires { HasNoWitnesses tx.now }
+    ensures text { IfOk result (λ text. text.items ≡ text_of (item_of_body tx.now)) }
+    ensures spelled { OnOk result (SpellsTransaction tx.now (text_of (item_of_transaction tx.now))) }
+{
+    let mut text = tx.encode()?;
+    text.truncate(text.len() - 2);
+    text.remove(0);
+    Ok(text)
+}
+
 impl Unsigned {
+    /// The same parts once more.
+    fn try_clone(&self, alloc: Global) -> Result<Unsigned, AllocError>
+        ensures { IfOk result (λ copy. parts_of_unsigned copy [] [] ≡ parts_of_unsigned self.now [] []) }
+    {
+        Ok(Unsigned {
+            inputs: Vec::from_slice(alloc, &self.inputs)?,
+            outputs: clone_outputs(alloc, &self.outputs)?,
+            fee: self.fee,
+            interval: self.interval,
+            mint: self.mint.try_clone()?,
+        })
+    }
+
+    /// The transaction of these parts without witnesses. Writes its text once.
+    pub fn bare(self, alloc: Global) -> Result<Tx, AllocError>
+        ensures tx { IfOk result (λ tx. IsTxOf tx (parts_of_unsigned self [] [])) }
+        ensures bare { IfOk result HasNoWitnesses }
+    {
+        let parts = TxParts {
+            inputs: self.inputs,
+            outputs: self.outputs,
+            fee: self.fee,
+            interval: self.interval,
+            mint: self.mint,
+            signatures: Vec::new(alloc),
+            scripts: Vec::new(alloc),
+        };
+        tx_of(alloc, parts)
+    }
+
     /// The identifier of each transaction with these parts, whatever its witnesses are. Copies the parts, and writes
     /// their text once.
     fn id(&self, alloc: Global) -> Result<TxId, AllocError>
@@ -68,16 +130,7 @@ impl Unsigned {
             (scripts : List model.Script) → SpellsTransaction tx text
             → IsTxOf tx (parts_of_unsigned self.now signatures scripts) → transaction_id_of tx ≡ id.bytes) }
     {
-        let parts = TxParts {
-            inputs: Vec::from_slice(alloc, &self.inputs)?,
-            outputs: clone_outputs(alloc, &self.outputs)?,
-            fee: self.fee,
-            interval: self.interval,
-            mint: self.mint.try_clone()?,
-            signatures: Vec::new(alloc),
-            scripts: Vec::new(alloc),
-        };
-        let tx = tx_of(alloc, parts)?;
+        let tx = self.try_clone(alloc)?.bare(alloc)?;
         Ok(tx.id())
     }
 

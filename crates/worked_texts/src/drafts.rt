@@ -1,15 +1,17 @@
 //! Transactions in the making: each part once, each part twice, and what comes of them.
 
-use super::fixture::{KEY_HASH, MEMORY, ONES, POLICY, TWOS, ZEROS, boxed, check};
+use super::fixture::{KEY_HASH, MEMORY, ONES, POLICY, TWOS, ZEROS, boxed, check, hex, is_spelled};
 use super::scripts::nested;
+use super::transaction_making::PAYING_ID;
 use super::transactions::{PAYING_BODY, has_text};
-use super::verdicts::{DIGEST, SIGNED_BY_ED25519};
+use super::verdicts::{DIGEST, ED25519_KEY, ED25519_R, ED25519_S, SIGNED_BY_ED25519};
 use draft::{Draft, DraftFault, Signer, Signing, TestSigner};
 use ed25519::SecretKey;
 use ident::{KeyHash, ScriptHash, TxId};
 use std::process::Abort;
-use tx::{Address, Credential, Input};
+use tx::{Address, Credential, Input, KeyWitness};
 use value::AssetQuantity;
+use witness_pool::{Ed25519, SigScheme};
 
 /// A part of a draft.
 #[derive(Clone, Copy)]
@@ -252,21 +254,59 @@ fn faults_of_drafts_shown(rt: HostRuntime) {
     check(&rt, "faults", shown.as_str() == want);
 }
 
-// The same payment with a script, signed by Ed25519: its text has the signature that OpenSSL makes.
+/// The same payment with a script, which nobody signed yet.
+fn unsigned<K: Signer + Drop>(rt: &(impl Abort + AllocGlobal)) -> Draft<K> {
+    let mut draft = Draft::new(rt.alloc());
+    draft.spend(input(0, 0)).expect(rt, "an input");
+    pay(rt, &mut draft, &[]).expect(rt, "an output");
+    draft.set_fee(290).expect(rt, "a fee");
+    draft
+        .supply(&nested(rt.alloc(), 1).expect(rt, "a script"))
+        .expect(rt, "no such script is there");
+    draft
+}
+
+// It is signed by Ed25519: its text has the signature that OpenSSL makes.
 #[test]
 fn drafts_signed_by_ed25519(rt: HostRuntime) {
-    let mut draft = Draft::new(rt.alloc());
-    draft.spend(input(0, 0)).expect(&rt, "an input");
-    pay(&rt, &mut draft, &[]).expect(&rt, "an output");
-    draft.set_fee(290).expect(&rt, "a fee");
-    draft
-        .supply(&nested(rt.alloc(), 1).expect(&rt, "a script"))
-        .expect(&rt, "no such script is there");
+    let mut draft: Draft<SecretKey> = unsigned(&rt);
     draft
         .sign(SecretKey::from_seed([1; 32]))
         .expect(&rt, "a key");
     let again = draft.sign(SecretKey::from_seed([1; 32]));
     check(&rt, "again", again == Err(DraftFault::NotBuilt));
+    let tx = boxed(&rt, draft.finish().expect(&rt, MEMORY));
+    has_text(&rt, &tx, SIGNED_BY_ED25519);
+}
+
+/// The body and the identifier of a draft are those of the payment, which another program computed.
+fn is_paying<K: Signer + Drop>(rt: &(impl Abort + AllocGlobal), draft: &Draft<K>) {
+    is_spelled(rt, &[PAYING_BODY], &draft.body().expect(rt, MEMORY));
+    is_spelled(rt, &[PAYING_ID], draft.id().expect(rt, MEMORY).as_bytes());
+}
+
+// It is signed elsewhere: with the signature that OpenSSL made of the identifier the same text comes out. Body and
+// identifier are the same before and after it was added.
+#[test]
+fn drafts_signed_elsewhere(rt: HostRuntime) {
+    let mut draft: Draft<KeyWitness> = unsigned(&rt);
+    is_paying(&rt, &draft);
+    let key = hex(&rt, &[ED25519_KEY]);
+    let key = <[u8; 32]>::try_from(key.as_slice()).expect(&rt, "a key");
+    let signature = hex(&rt, &[ED25519_R, ED25519_S]);
+    let signature = <[u8; 64]>::try_from(signature.as_slice()).expect(&rt, "a signature");
+    let id = draft.id().expect(&rt, MEMORY);
+    check(
+        &rt,
+        "good",
+        Ed25519::verify(&key, id.as_bytes(), &signature),
+    );
+    draft
+        .add_signature(key, signature)
+        .expect(&rt, "no signature by it is there");
+    let again = draft.add_signature(key, [0; 64]);
+    check(&rt, "again", again == Err(DraftFault::NotBuilt));
+    is_paying(&rt, &draft);
     let tx = boxed(&rt, draft.finish().expect(&rt, MEMORY));
     has_text(&rt, &tx, SIGNED_BY_ED25519);
 }

@@ -109,13 +109,13 @@ pub const SIGNED_MINTING: &[&str] = &[
 ];
 
 /// The Ed25519 public key whose secret has 32 bytes 01.
-const ED25519_KEY: &str = "8a88e3dd7409f195fd52db2d3cba5d72ca6709bf1d94121bf3748801b40f6f5c";
+pub const ED25519_KEY: &str = "8a88e3dd7409f195fd52db2d3cba5d72ca6709bf1d94121bf3748801b40f6f5c";
 
 /// Its signature of the payment's identifier, made by OpenSSL 3.0 (`pkeyutl -sign -rawin`): the first half,
-const ED25519_R: &str = "d4fb30556f08117f347609fc15daced4dad4fb918d3253870dcc1b0ab96807e8";
+pub const ED25519_R: &str = "d4fb30556f08117f347609fc15daced4dad4fb918d3253870dcc1b0ab96807e8";
 
 /// and the second one.
-const ED25519_S: &str = "712d3ecfb283f956e8caaac11373cef48f155fb7084b0b4250079f90de2dc008";
+pub const ED25519_S: &str = "712d3ecfb283f956e8caaac11373cef48f155fb7084b0b4250079f90de2dc008";
 
 /// The payment with that signature, and with the script that asks for all of none.
 pub const SIGNED_BY_ED25519: &[&str] = &[

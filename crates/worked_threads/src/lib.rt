@@ -38,3 +38,7 @@ mod readme;
 mod resuming_tests;
 #[cfg(test)]
 mod simulation_tests;
+#[cfg(test)]
+mod wallet;
+#[cfg(test)]
+mod wallet_tests;

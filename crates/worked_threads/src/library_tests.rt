@@ -4,7 +4,7 @@ use super::readme::follow;
 use chaindb::{ArriveReply, Core, Ed25519, Genesis};
 
 /// A genesis.
-const GENESIS: &str = "network = 0
+pub const GENESIS: &str = "network = 0
 k = 2
 min_fee_a = 1
 min_fee_b = 100

@@ -16,11 +16,13 @@ pub returns-clause-tx : goal.returns-clause-tx
 returns-clause-tx g c = λ d s.
     ok_as _ _ c.signed.result (λ tx of. finished g.K.Signer.signer c.args.self d (record { inputs = c.into_items-2.result; outputs = c.args.self.outputs; fee = c.unwrap_or.result; interval = record { start = c.args.self.start; end = c.args.self.end }; mint = c.in_ok-mint.mint })
     c.deref.result.now c.into_items-3.result.items s (record {
-      inputs = c.into_items-2.ensures;
-      outputs = refl;
-      fee = c.unwrap_or.ensures;
-      interval = refl;
-      mint = subst (λ (minted : List (CodeAssetQuantity ℤ)). IsMintOf c.in_ok-mint.mint (map asset_of minted)) c.into_items.ensures c.in_ok-mint.ensures;
+      beside = record {
+        inputs = c.into_items-2.ensures;
+        outputs = refl;
+        fee = c.unwrap_or.ensures;
+        interval = refl;
+        mint = subst (λ (minted : List (CodeAssetQuantity ℤ)). IsMintOf c.in_ok-mint.mint (map asset_of minted)) c.into_items.ensures c.in_ok-mint.ensures;
+      };
       signers = c.deref.ensures.value ∙ c.into_items-signers.ensures;
       scripts = c.into_items-3.ensures;
     }) tx of) c.signed.ensures.tx
