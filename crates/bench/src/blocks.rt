@@ -48,14 +48,24 @@ fn put_large(out: &mut Vec<u8>) {
     put(out, b"\x02\x00\xa0\xf6");
 }
 
-/// The text of the first block, which has the same transaction `count` times.
-fn text_of(alloc: Global, count: u64, transaction: &[u8]) -> Vec<u8> {
+/// The text of a body that has the same transaction `count` times.
+fn body_of(alloc: Global, count: u64, transaction: &[u8]) -> Vec<u8> {
     let mut body = Vec::new(alloc);
     put_array(&mut body, count);
     for _ in 0..count {
         put(&mut body, transaction);
     }
-    End::genesis().next_text(alloc, 0, &body)
+    body
+}
+
+/// The text of a body that has the smallest transaction `count` times.
+pub fn small_body(alloc: Global, count: u64) -> Vec<u8> {
+    body_of(alloc, count, SMALLEST)
+}
+
+/// The text of the first block, which has the same transaction `count` times.
+fn text_of(alloc: Global, count: u64, transaction: &[u8]) -> Vec<u8> {
+    End::genesis().next_text(alloc, 0, &body_of(alloc, count, transaction))
 }
 
 /// The text of the first block with this content.
@@ -98,7 +108,7 @@ fn time_writing(rt: &HostRuntime, txs: &[Tx], calls: u64) -> Option<u128> {
 
 /// The same of the transactions of the block of a text.
 fn time_writing_again(rt: &HostRuntime, text: &[u8], calls: u64) -> Option<u128> {
-    let block = block::read(rt.alloc(), text).ok()?;
+    let block = block::look(rt.alloc(), text).ok()?.ok()?;
     time_writing(rt, block.transactions(), calls)
 }
 

@@ -11,7 +11,7 @@ use std::io;
 use tx::{Address, Credential, Input, Output};
 use utxo_rules::Utxo;
 use value::Value;
-use watching::Watch;
+use watching::{Watch, Which};
 use witness_pool::TestScheme;
 
 /// How many outputs each of two transactions made, each of an address of its own.
@@ -93,7 +93,7 @@ fn read_all(alloc: Global, texts: &[Vec<u8>]) -> Option<Vec<Box<CheckedBlock<Tes
 
 /// An index of these outputs.
 fn new_watch(alloc: Global, outputs: &Utxo) -> Option<Box<Watch>> {
-    let watch = Watch::new(alloc, Tip::genesis(), outputs, FURTHEST).ok()?;
+    let watch = Watch::new(alloc, Tip::genesis(), outputs, FURTHEST, Which::all()).ok()?;
     Box::new(alloc, watch).ok()
 }
 

@@ -1,6 +1,8 @@
-//! How much memory a block of a chain takes, and an unspent output; and what is kept of the last 2,160 blocks so that
-//! they can be rolled back: what each changed, beside their states, which share what they have in common.
+//! How much memory a block of a chain takes, one that waits for another, and an unspent output; and what is kept of
+//! the last 2,160 blocks so that they can be rolled back: what each changed, beside their states, which share what they
+//! have in common.
 
+use crate::blocks::small_body;
 use crate::cores::{Depth, is_kept, open};
 use crate::ledger_states::{after, block_of, grow, opening};
 use crate::reopening::PAYMENTS;
@@ -17,6 +19,11 @@ use witness_pool::TestScheme;
 
 /// How many blocks without transactions a chain has.
 const BLOCKS: u64 = 100_000;
+
+/// How many blocks wait with 80,000 of the smallest transactions each, in 0.8 MB.
+const WAITING: u64 = 20;
+
+const SMALL: u64 = 80_000;
 
 /// How many blocks make a thousand outputs each, and how many blocks of a hundred payments come after them.
 const MAKING: usize = 216;
@@ -49,6 +56,32 @@ fn are_kept(alloc: Global, core: &mut Core<TestScheme>) -> bool {
         all &= is_kept(core, &end.next_text(alloc, 0, b"\x80"));
     }
     all
+}
+
+/// Has blocks with this body arrive that go on from one which never comes, and answers whether all are kept.
+fn wait(alloc: Global, core: &mut Core<TestScheme>, blocks: u64, body: &[u8]) -> bool {
+    let mut end = End::genesis();
+    let _ = end.next_text(alloc, 1, b"\x80");
+    let mut all = true;
+    for _ in 0..blocks {
+        all &= is_kept(core, &end.next_text(alloc, 1, body));
+    }
+    all
+}
+
+/// Measures blocks with this body that wait.
+fn measure_waiting(
+    rt: &HostRuntime,
+    core: &mut Core<TestScheme>,
+    blocks: u64,
+    body: &[u8],
+) -> io::Result<()> {
+    let before = held(rt);
+    if wait(rt.alloc(), core, blocks, body) {
+        print_bytes(rt, "blocks that wait", blocks, before)
+    } else {
+        Err(io::ErrorKind::Other.into())
+    }
 }
 
 /// Measures a core on this chain.
@@ -208,10 +241,17 @@ fn measure_states(rt: &HostRuntime) -> io::Result<()> {
 
 /// Runs each measurement, and prints what it took.
 pub fn measure(rt: &HostRuntime) -> io::Result<()> {
-    // It stays to the end: what is dropped before is counted wrong, as memory that is given again.
-    let Some(mut core) = open(rt.alloc(), Depth::Usual) else {
+    // They stay to the end: what is dropped before is counted wrong, as memory that is given again.
+    let (Some(mut core), Some(mut many), Some(mut few)) = (
+        open(rt.alloc(), Depth::Usual),
+        open(rt.alloc(), Depth::Greatest),
+        open(rt.alloc(), Depth::Greatest),
+    ) else {
         return Err(io::ErrorKind::Other.into());
     };
+    let body = small_body(rt.alloc(), SMALL);
     measure_chain(rt, &mut core)?;
+    measure_waiting(rt, &mut many, BLOCKS, b"\x80")?;
+    measure_waiting(rt, &mut few, WAITING, &body)?;
     measure_states(rt)
 }

@@ -15,7 +15,7 @@ use Rattle.block.specs.View.{header_of}
 use Rattle.block.specs.Reading.{block_at}
 use Rattle.block.specs.Read.{IsRead, IsMalformed, IsMismatched, IsUnread, IsReadable}
 use Rattle.block.specs.declared.facts.Facts.{Facts}
-use Rattle.block.specs.Facts.{block_of, AreFactsOf}
+use Rattle.block.specs.Facts.{block_of, block_in, transactions_in, AreFactsOf, AreFactsIn}
 use Rattle.block.proofs.Blocks.{block_takes, block_again, no_block}
 
 -- ---- reading
@@ -58,6 +58,18 @@ pub are_facts : (facts : Facts) (ts : List Transaction) (bytes header_text body_
     → header_text ≡ text_of (item_of_header (header_of facts.header)) → body_text ≡ text_of (item_of_transactions ts) → AreFactsOf facts ts bytes
 unfolding block_hash_of body_size_of
 are_facts facts ts bytes header_text body_text read hash size header_spelled body_spelled = record { read = read; hash = hash ∙ ap sha256 header_spelled; body_size = size ∙ ap length body_spelled }
+
+-- the transactions of a block that was read are those that its bytes spell
+pub transactions_are_in : (b : Block) (bytes : List ℕ) → IsRead b bytes → transactions_in bytes ≡ b.transactions
+transactions_are_in b bytes read = rw (block_again b bytes read.read) refl
+
+-- so the facts are those of the bytes alone
+pub facts_in : (facts : Facts) (ts : List Transaction) (bytes : List ℕ) → AreFactsOf facts ts bytes → AreFactsIn facts bytes
+facts_in facts ts bytes f = subst (λ (us : List Transaction). AreFactsOf facts us bytes) (sym (transactions_are_in (block_of facts ts) bytes f.read)) f
+
+-- and the block is the same
+pub block_is_in : (facts : Facts) (ts : List Transaction) (bytes : List ℕ) → AreFactsOf facts ts bytes → block_in facts bytes ≡ block_of facts ts
+block_is_in facts ts bytes f = ap (block_of facts) (transactions_are_in (block_of facts ts) bytes f.read)
 
 -- so what was read is the block that its text spells
 pub read_text : (b : Block) (bytes : List ℕ) → IsRead b bytes → IsRead b (block_text b)

@@ -3,6 +3,7 @@ pub mod Reading
 pub mod Read
 pub mod PartsView
 pub mod Facts
+pub mod HeldChecked
 pub mod HeldSeen
 pub mod Written
 pub mod Same

@@ -1,31 +1,30 @@
-//! Blocks, as they are kept and shared.
+//! Blocks, as their texts and what their headers say.
 
 ghost use Rattle.std.specs.Prelude.{◌≡◌, ◌↔◌, [], option_map, IsTrue, IfOk, IfErr};
 ghost use Rattle.model.specs.Block.{block_text, block_hash_of, body_size_of};
 ghost use Rattle.block.specs.View.{bytes_of, header_of};
 ghost use Rattle.block.specs.Read.{IsRead, IsReadFault};
-ghost use Rattle.block.specs.Facts.{block_of, AreFactsOf};
+ghost use Rattle.block.specs.Facts.{block_in, AreFactsIn};
 
 use crate::block_ref::look;
 use crate::facts::Facts;
 use crate::fault::ReadFault;
 use crate::header::Header;
 use ident::{BlockHash, Point};
-use std::alloc::{AllocError, Global};
+use std::alloc::{AllocError, AllocFailed, Global};
 use std::fmt;
 use std::marker::Model;
 use std::sync::Arc;
-use tx::Tx;
 
 /// What the owners of a block share.
 #[derive(Drop)]
 struct Inner {
     bytes: Vec<u8>,
     facts: Facts,
-    transactions: Vec<Tx>,
 }
 
-/// A block that was read, with its bytes and its hash. The owners of a block share one allocation.
+/// A block that was read, as its text and what its header says: its transactions stand in its bytes alone, from which
+/// [`crate::CheckedBlock::from_block`] reads them again. The owners of a block share one allocation.
 #[derive(Drop)]
 pub struct Block {
     inner: Arc<Inner>,
@@ -39,12 +38,11 @@ impl Model for Block {
 
     ghost coded = { coded_block };
 
-    ghost use Rattle.block.specs.Facts.{block_of, AreFactsOf};
+    ghost use Rattle.block.specs.Facts.{block_in, AreFactsIn};
 
-    ghost view = { λ b. block_of b.inner.value.facts b.inner.value.transactions.items };
+    ghost view = { λ b. block_in b.inner.value.facts b.inner.value.bytes.items };
 
-    ghost invariant = { λ b.
-        AreFactsOf b.inner.value.facts b.inner.value.transactions.items b.inner.value.bytes.items };
+    ghost invariant = { λ b. AreFactsIn b.inner.value.facts b.inner.value.bytes.items };
 }
 
 impl Block {
@@ -98,13 +96,6 @@ impl Block {
         self.inner.facts.body_size
     }
 
-    /// The transactions of the block, in order. Copies nothing.
-    pub fn transactions(&self) -> &[Tx]
-        ensures { result.now ≡ self.now.transactions }
-    {
-        &self.inner.transactions
-    }
-
     /// Whether the block has no transactions.
     pub fn is_empty(&self) -> bool
         ensures { IsTrue result ↔ (self.now.transactions ≡ []) }
@@ -123,6 +114,13 @@ impl Block {
             number: self.number(),
             hash: self.inner.facts.hash,
         }
+    }
+
+    /// Whether these bytes are the text of the block. Linear in the bytes.
+    pub fn has_text(&self, bytes: &[u8]) -> bool
+        ensures { IsTrue result ↔ (block_text self.now ≡ bytes.now) }
+    {
+        same_bytes(self.bytes(), bytes)
     }
 
     /// One more owner of the block, in constant time and with no allocation. Err where 2^63 - 1 owners
@@ -168,25 +166,29 @@ impl fmt::Debug for Block {
     }
 }
 
+/// Whether the bytes are the same.
+fn same_bytes(bytes: &[u8], other: &[u8]) -> bool
+    ensures { IsTrue result ↔ (bytes.now ≡ other.now) }
+{
+    bytes == other
+}
+
 impl Block {
-    /// A block of its own of these bytes and what they were read as, which are moved in.
+    /// A block of its own of these bytes and what they were read as, which are moved in. Where there is no memory for
+    /// it the bytes come back.
     pub(crate) fn of_parts(
         alloc: Global,
         bytes: Vec<u8>,
         facts: Facts,
-        transactions: Vec<Tx>,
-    ) -> Result<Block, AllocError>
-        requires { AreFactsOf facts transactions.items bytes.items }
-        ensures { IfOk result (λ b. b ≡ block_of facts transactions.items) }
+    ) -> Result<Block, AllocFailed<Vec<u8>>>
+        requires { AreFactsIn facts bytes.items }
+        ensures block { IfOk result (λ b. b ≡ block_in facts bytes.items) }
+        ensures back { IfErr result (λ failed. failed.value ≡ bytes) }
     {
-        let inner = Inner {
-            bytes,
-            facts,
-            transactions,
-        };
-        Ok(Block {
-            inner: Arc::new(alloc, inner)?,
-        })
+        match Arc::new(alloc, Inner { bytes, facts }) {
+            Ok(inner) => Ok(Block { inner }),
+            Err(AllocFailed { value }) => Err(AllocFailed { value: value.bytes }),
+        }
     }
 }
 

@@ -4,11 +4,13 @@ ghost use Rattle.std.specs.Prelude.{◌≡◌, ◌↔◌, ℕ, List, IsTrue, IfO
 ghost use Rattle.model.specs.Block.{block_hash_of};
 ghost use Rattle.block.specs.Read.{IsRead, IsBadBytes, IsUnread};
 ghost use Rattle.block.specs.Facts.{AreFactsOf};
+ghost use Rattle.block.specs.View.{header_of};
 
 use crate::block::Block;
 use crate::checked_block::{CheckedBlock, check_all};
 use crate::facts::Facts;
 use crate::fault::BadBytes;
+use crate::header::Header;
 use crate::reading;
 use cbor::CborFault;
 use ident::{BlockHash, BodyHash, Point};
@@ -83,12 +85,26 @@ impl<'a> BlockRef<'a> {
         (self.facts, self.transactions)
     }
 
-    /// The block with a copy of the bytes, in two allocations. Its transactions are moved.
+    /// The header of the block.
+    pub fn header(&self) -> &Header
+        ensures { header_of result.now ≡ self.now.header }
+    {
+        &self.facts.header
+    }
+
+    /// The transactions of the block, without verdicts, in order. Copies nothing.
+    pub fn transactions(&self) -> &[Tx]
+        ensures { result.now ≡ self.now.transactions }
+    {
+        &self.transactions
+    }
+
+    /// The block with a copy of the bytes, in two allocations, and without its transactions.
     pub fn into_block(self, alloc: Global) -> Result<Block, AllocError>
         ensures { IfOk result (λ b. b ≡ self.entry) }
     {
         let bytes = Vec::from_slice(alloc, self.bytes)?;
-        Block::of_parts(alloc, bytes, self.facts, self.transactions)
+        Ok(Block::of_parts(alloc, bytes, self.facts)?)
     }
 
     /// The block with a copy of the bytes and with the verdicts on its transactions, which are moved. One call of the

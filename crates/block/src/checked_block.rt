@@ -9,10 +9,13 @@ ghost use Rattle.block.specs.View.{bytes_of, header_of};
 ghost use Rattle.block.specs.Read.{IsRead, IsReadFault};
 ghost use Rattle.block.specs.Facts.{block_of, AreFactsOf};
 
+use crate::block::Block;
 use crate::block_ref::look;
 use crate::facts::Facts;
 use crate::fault::ReadFault;
 use crate::header::Header;
+use crate::reading;
+use cbor::CborFault;
 use ident::{BlockHash, Point};
 use std::alloc::{AllocError, AllocFailed, Global};
 use std::fmt;
@@ -21,19 +24,12 @@ use std::sync::Arc;
 use tx::Tx;
 use witness_pool::{CheckedTx, SigScheme, plain};
 
-/// What the owners of a checked block share.
-#[derive(Drop)]
-struct CheckedInner<S: SigScheme> {
-    bytes: Vec<u8>,
-    facts: Facts,
-    transactions: Vec<CheckedTx<S>>,
-}
-
 /// A block that was read, with the verdicts on each of its transactions: whether its signatures are good, which keys
-/// signed, and whether its scripts hold. They are computed once. The owners of a block share one allocation.
+/// signed, and whether its scripts hold. They are computed once. The owners of a block share what it has.
 #[derive(Drop)]
 pub struct CheckedBlock<S: SigScheme> {
-    inner: Arc<CheckedInner<S>>,
+    block: Block,
+    transactions: Arc<Vec<CheckedTx<S>>>,
 }
 
 impl<S: SigScheme> Model for CheckedBlock<S> {
@@ -44,20 +40,26 @@ impl<S: SigScheme> Model for CheckedBlock<S> {
 
     ghost coded = { coded_block };
 
-    ghost use Rattle.block.specs.Facts.{block_of, AreFactsOf};
+    ghost use Rattle.block.specs.HeldChecked.{IsHeldChecked};
 
-    ghost view = { λ b. block_of b.inner.value.facts b.inner.value.transactions.items };
+    ghost view = { λ b. b.block };
 
-    ghost invariant = { λ b.
-        AreFactsOf b.inner.value.facts b.inner.value.transactions.items b.inner.value.bytes.items };
+    ghost invariant = { IsHeldChecked };
 }
 
 impl<S: SigScheme> CheckedBlock<S> {
+    /// The block without its transactions. Copies nothing.
+    pub fn block(&self) -> &Block
+        ensures { result.now ≡ self.now }
+    {
+        &self.block
+    }
+
     /// The text of the block (RFC 8949, section 4.2.1), at most 1,048,576 bytes. Copies nothing.
     pub fn bytes(&self) -> &[u8]
         ensures { IsRead self.now result.now }
     {
-        &self.inner.bytes
+        self.block.bytes()
     }
 
     /// The hash of the block: the SHA-256 digest (FIPS 180-4) of its header's text. It was computed when
@@ -65,21 +67,21 @@ impl<S: SigScheme> CheckedBlock<S> {
     pub fn hash(&self) -> BlockHash
         ensures { result.bytes ≡ block_hash_of self.now }
     {
-        self.inner.facts.hash
+        self.block.hash()
     }
 
     /// The header of the block.
     pub fn header(&self) -> &Header
         ensures { header_of result.now ≡ self.now.header }
     {
-        &self.inner.facts.header
+        self.block.header()
     }
 
     /// How many blocks the chain has up to this one, below 2^63.
     pub fn number(&self) -> u64
         ensures { result ≡ self.now.header.number }
     {
-        self.inner.facts.header.number
+        self.block.number()
     }
 
     /// The slot of time in which the block was made, below 2^63.
@@ -87,21 +89,21 @@ impl<S: SigScheme> CheckedBlock<S> {
         ensures slot { result ≡ self.now.header.slot }
         ensures small { result < number_limit }
     {
-        self.inner.facts.header.slot
+        self.block.slot()
     }
 
     /// The hash of the block before, None for the first block of a chain.
     pub fn previous(&self) -> Option<BlockHash>
         ensures { option_map bytes_of result ≡ self.now.header.previous }
     {
-        self.inner.facts.header.previous
+        self.block.previous()
     }
 
     /// The size of the body's text, in bytes.
     pub fn body_size(&self) -> usize
         ensures { result ≡ body_size_of self.now }
     {
-        self.inner.facts.body_size
+        self.block.body_size()
     }
 
     /// The transactions of the block with their verdicts, in order. Copies nothing.
@@ -110,14 +112,14 @@ impl<S: SigScheme> CheckedBlock<S> {
         // Each of them has a text.
         ensures shapes { AllByRecursion IsTransaction self.now.transactions }
     {
-        &self.inner.transactions
+        &self.transactions
     }
 
     /// Whether these bytes are the text of the block. Linear in the bytes.
     pub fn has_text(&self, bytes: &[u8]) -> bool
         ensures { IsTrue result ↔ (block_text self.now ≡ bytes.now) }
     {
-        same_bytes(self.bytes(), bytes)
+        self.block.has_text(bytes)
     }
 
     /// The place of the block on its chain: its number and its hash.
@@ -125,10 +127,7 @@ impl<S: SigScheme> CheckedBlock<S> {
         ensures number { result.number ≡ self.now.header.number }
         ensures hash { result.hash.bytes ≡ block_hash_of self.now }
     {
-        Point {
-            number: self.number(),
-            hash: self.inner.facts.hash,
-        }
+        self.block.point()
     }
 
     /// One more owner of the block, in constant time and with no allocation. Err where 2^63 - 1 owners
@@ -138,8 +137,28 @@ impl<S: SigScheme> CheckedBlock<S> {
         // What is shared is what was read.
         ensures read { IsRead self.now (block_text self.now) }
     {
-        let inner = Arc::try_clone(&self.inner)?;
-        Ok(CheckedBlock { inner })
+        Ok(CheckedBlock {
+            block: self.block.try_clone()?,
+            transactions: Arc::try_clone(&self.transactions)?,
+        })
+    }
+
+    /// The block with its transactions, which are read from its text again, and the verdicts on these. The text is
+    /// shared. Err where memory runs out. The cost grows with the bytes: one digest for each transaction and each
+    /// script, and for each signature one call of the scheme and one digest.
+    pub fn from_block(alloc: Global, block: &Block) -> Result<CheckedBlock<S>, AllocError>
+        ensures { IfOk result (λ b. b ≡ block.now) }
+    {
+        let parts = match reading::parts_of(alloc, block.bytes()) {
+            Ok(parts) => parts,
+            Err(CborFault::Malformed) => unreachable!(),
+            Err(CborFault::OutOfMemory) => return Err(AllocError),
+        };
+        let transactions = check_all(alloc, parts.transactions)?;
+        Ok(CheckedBlock {
+            block: block.try_clone()?,
+            transactions: Arc::new(alloc, transactions)?,
+        })
     }
 
     /// The block that the bytes spell, with the verdicts on its transactions: [`crate::read`] and then the verdicts.
@@ -191,13 +210,6 @@ impl<S: SigScheme> fmt::Debug for CheckedBlock<S> {
     }
 }
 
-/// Whether the bytes are the same.
-fn same_bytes(bytes: &[u8], other: &[u8]) -> bool
-    ensures { IsTrue result ↔ (bytes.now ≡ other.now) }
-{
-    bytes == other
-}
-
 /// The transactions with their verdicts, in order.
 pub fn check_all<S: SigScheme>(
     alloc: Global,
@@ -225,14 +237,13 @@ impl<S: SigScheme> CheckedBlock<S> {
         ensures block { IfOk result (λ b. b ≡ block_of facts transactions.items) }
         ensures back { IfErr result (λ failed. failed.value ≡ bytes) }
     {
-        let inner = CheckedInner {
-            bytes,
-            facts,
-            transactions,
+        let Ok(transactions) = Arc::new(alloc, transactions) else {
+            return Err(AllocFailed { value: bytes });
         };
-        match Arc::new(alloc, inner) {
-            Ok(inner) => Ok(CheckedBlock { inner }),
-            Err(AllocFailed { value }) => Err(AllocFailed { value: value.bytes }),
-        }
+        let block = Block::of_parts(alloc, bytes, facts)?;
+        Ok(CheckedBlock {
+            block,
+            transactions,
+        })
     }
 }

@@ -1,13 +1,14 @@
 //! Where a chain ends.
 
 ghost use Rattle.std.specs.Prelude.{◌≡◌, ◌↔◌, ◌+◌, IsTrue};
+ghost use Rattle.model.specs.Block as model;
 ghost use Rattle.model.specs.Chain.{tip_at, Follows};
 ghost use Rattle.model.specs.Chain as chain;
-ghost use Rattle.block.specs.View.{tip_of};
+ghost use Rattle.block.specs.View.{header_of, tip_of};
 
-use crate::checked_block::CheckedBlock;
+use crate::block::Block;
+use crate::header::Header;
 use ident::BlockHash;
-use witness_pool::SigScheme;
 
 /// Where a chain ends: the number, slot and hash of its last block, or 0, 0 and none.
 #[derive(Clone, Copy, Debug, PartialEq, Eq)]
@@ -37,7 +38,7 @@ impl Tip {
     }
 
     /// The end of a chain that ends in this block.
-    pub fn at<S: SigScheme>(block: &CheckedBlock<S>) -> Tip
+    pub fn at(block: &Block) -> Tip
         ensures { tip_of result ≡ tip_at block.now }
     {
         Tip {
@@ -49,11 +50,19 @@ impl Tip {
 
     /// Whether the block may come next, by its header alone: it has the next number, names the last block as the one
     /// before it, and has a later slot.
-    pub fn precedes<S: SigScheme>(&self, block: &CheckedBlock<S>) -> bool
+    pub fn precedes(&self, block: &Block) -> bool
         ensures { IsTrue result ↔ Follows (tip_of self.now) block.now }
     {
-        is_next(self.number, block.number())
-            && block.previous() == self.hash
-            && self.slot < block.slot()
+        self.precedes_header(block.header())
+    }
+
+    /// The same of a block that has this header.
+    pub fn precedes_header(&self, header: &Header) -> bool
+        ensures { (b : model.Block) → b.header ≡ header_of header.now →
+            IsTrue result ↔ Follows (tip_of self.now) b }
+    {
+        is_next(self.number, header.number)
+            && header.previous == self.hash
+            && self.slot < header.slot
     }
 }

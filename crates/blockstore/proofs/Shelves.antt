@@ -159,6 +159,26 @@ set_same t (e ∷ es) x y is same = one (t e.0) is (λ later. set_same t es x y 
 pub same_written : (m n : BTreeMap (List ℕ) Placed) (hash : List ℕ) (x y : Placed) → get hash_cmp m hash ≡ Some x → y.stored ≡ x.stored → n.entries ≡ set_value (is_at (hash_cmp hash)) m.entries y → AreSameBlocks m n
 same_written m n hash x y there same is = ap (map bare) is ∙ set_same (is_at (hash_cmp hash)) m.entries x y there same
 
+-- a value that is written where it stands changes nothing
+same_value : (t : List ℕ → Bool) (es : List (List ℕ × Placed)) (x y : Placed) → lookup t es ≡ Some x → y ≡ x → set_value t es y ≡ es
+same_value t [] x y is same = refl
+same_value t (e ∷ es) x y is same = one (t e.0) is (λ later. same_value t es x y later same)
+  where
+    one : (b : Bool) → cond b (Some e.1) (lookup t es) ≡ Some x → (lookup t es ≡ Some x → set_value t es y ≡ es) → cond b ((e.0, y) ∷ es) (e ∷ set_value t es y) ≡ e ∷ es
+    one true here rest = ap (λ (p : Placed). (e.0, p) ∷ es) (same ∙ sym (same_Some e.1 x here))
+    one false here rest = ap (λ (ds : List (List ℕ × Placed)). e ∷ ds) (rest here)
+
+pub rewritten : (m n : BTreeMap (List ℕ) Placed) (hash : List ℕ) (x y : Placed) → get hash_cmp m hash ≡ Some x → y ≡ x → n.entries ≡ set_value (is_at (hash_cmp hash)) m.entries y → n.entries ≡ m.entries
+rewritten m n hash x y there same is = is ∙ same_value (is_at (hash_cmp hash)) m.entries x y there same
+
+-- so it is if what is written is what stood there, and a map with the same entries has the same blocks
+pub same_blocks : (m n : BTreeMap (List ℕ) Placed) → n.entries ≡ m.entries → AreSameBlocks m n
+same_blocks m n is = ap (map bare) is
+
+-- what a shelf stands for rests on the entries alone
+pub held_same : (m n : BTreeMap (List ℕ) Placed) → n.entries ≡ m.entries → held_in n ≡ held_in m
+held_same m n is = ap (λ (es : List (List ℕ × Placed)). record { blocks = map (λ (p : Placed). p.stored) (map (λ (e : List ℕ × Placed). e.1) es); notes = map (λ (e : List ℕ × Placed). (e.0, e.1.reached)) es }) is
+
 mapped_in : (es : List (List ℕ × Placed)) → map (λ (p : Placed). p.stored) (map (λ (e : List ℕ × Placed). e.1) es) ≡ map (λ (e : List ℕ × Stored). e.1) (map bare es)
 mapped_in [] = refl
 mapped_in (e ∷ es) = ap (λ (xs : List Stored). e.1.stored ∷ xs) (mapped_in es)

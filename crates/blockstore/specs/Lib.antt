@@ -1,5 +1,6 @@
 pub mod Stored
 pub mod Tests
+pub mod HeldLive
 pub mod HeldBlock
 pub mod HeldStore
 pub mod Insertion

@@ -5,9 +5,8 @@ ghost use Rattle.block.specs.View.{bytes_of as hash_bytes};
 ghost use Rattle.blockstore.specs.Keys.{IsLinkOf, IsAgeOf, first_link, last_link};
 
 use crate::hash_key::HashKey;
-use block::CheckedBlock;
+use block::Block;
 use ident::BlockHash;
-use witness_pool::SigScheme;
 
 /// The hash as a key, if there is one.
 pub fn key_of(hash: Option<BlockHash>) -> Option<HashKey>
@@ -49,7 +48,7 @@ impl Link {
     }
 
     /// The link of the block.
-    pub fn of<S: SigScheme>(block: &CheckedBlock<S>) -> Link
+    pub fn of(block: &Block) -> Link
         ensures { IsLinkOf block.now result }
     {
         Link {
@@ -68,7 +67,7 @@ pub struct Age {
 
 impl Age {
     /// The age of the block.
-    pub fn of<S: SigScheme>(block: &CheckedBlock<S>) -> Age
+    pub fn of(block: &Block) -> Age
         ensures { IsAgeOf block.now result }
     {
         Age {

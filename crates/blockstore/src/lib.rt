@@ -14,6 +14,7 @@ mod capacity;
 mod hash_key;
 mod insert_fault;
 mod keys;
+mod live_block;
 mod placed_block;
 mod reach;
 mod shelf;
@@ -23,6 +24,7 @@ mod unconnected;
 
 pub use capacity::Capacity;
 pub use insert_fault::InsertFault;
+pub use live_block::LiveBlock;
 pub use store::BlockStore;
 pub use stored_block::StoredBlock;
 pub use unconnected::Unconnected;

@@ -7,7 +7,7 @@ ghost use Rattle.blockstore.specs.Placed.{place_of, cleared};
 ghost use Rattle.blockstore.specs.Ways.{IsLed, HasTurned, HasStayed};
 
 use crate::stored_block::StoredBlock;
-use block::{CheckedBlock, Tip};
+use block::{Block, CheckedBlock, Tip};
 use std::marker::Model;
 use witness_pool::SigScheme;
 
@@ -46,8 +46,8 @@ impl<S: SigScheme> PlacedBlock<S> {
         &self.stored
     }
 
-    /// The block.
-    pub fn block(&self) -> &CheckedBlock<S>
+    /// The block without its transactions.
+    pub fn block(&self) -> &Block
         ensures { result.now ≡ self.now.stored.block }
     {
         self.stored.block()
@@ -80,6 +80,13 @@ impl<S: SigScheme> PlacedBlock<S> {
         self.stored.mark();
         self.reached = false;
         place
+    }
+
+    /// Holds the block with its transactions from now on, if it is this one and held as its text alone.
+    pub fn hold(&mut self, block: CheckedBlock<S>)
+        ensures { self.new ≡ self.old }
+    {
+        self.stored.hold(block);
     }
 
     /// Takes the mark off, and notes that no way leads to the block. Answers that it stays.

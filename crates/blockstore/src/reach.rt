@@ -12,10 +12,11 @@ ghost use Rattle.blockstore.specs.Ways.{AreNotes, AreTurning, FollowsOne, AllSta
 ghost use Rattle.blockstore.specs.Ways.{IsNotedAt, IsLetGo, AreDropped};
 
 use crate::keys::Age;
+use crate::live_block::LiveBlock;
 use crate::placed_block::PlacedBlock;
 use crate::shelf::Shelf;
 use crate::stored_block::StoredBlock;
-use block::{CheckedBlock, Tip};
+use block::Tip;
 use ident::BlockHash;
 use std::alloc::{AllocError, Global};
 use witness_pool::SigScheme;
@@ -44,7 +45,7 @@ impl Reach {
         &mut self,
         blocks: &mut Shelf<S>,
         root: Tip,
-        block: CheckedBlock<S>,
+        block: LiveBlock<S>,
     ) -> Result<(), AllocError>
         requires alone { HasNone blocks.old.blocks (block_hash_of block) }
         requires few { length blocks.old.blocks < 2 ^ 64 - 1 }
@@ -58,8 +59,8 @@ impl Reach {
         ensures room { length blocks.new.blocks ≤ vec_capacity self.new.waiting }
     {
         self.waiting.reserve(blocks.len() + 1)?;
-        let reached = blocks.connects(&root, &block);
-        let place = Tip::at(&block);
+        let reached = blocks.connects(&root, block.block().header());
+        let place = Tip::at(block.block());
         blocks.put(PlacedBlock::new(StoredBlock::new(block), reached))?;
         if reached && blocks.goes_past(place.number) {
             let _ = self.waiting.push(place);

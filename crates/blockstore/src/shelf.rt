@@ -5,10 +5,11 @@ ghost use Rattle.std.specs.Prelude.{◌≡◌, ◌↔◌, ◌∷◌, [], ◌++�
 ghost use Rattle.std.specs.Prelude.{ℕ, List, option_map, Contains};
 ghost use Rattle.std.specs.Prelude.{IsTrue, Some, MatchOption, IfOk, OnOk, OnErr, vec_len, vec_capacity};
 ghost use Rattle.std.specs.BTreeSet.{IsOrdered};
+ghost use Rattle.model.specs.Block as model;
 ghost use Rattle.model.specs.Block.{block_hash_of, bytes_in};
 ghost use Rattle.model.specs.Limits.{block_size_limit};
 ghost use Rattle.model.specs.Chain.{HaveDistinctHashes};
-ghost use Rattle.block.specs.View.{tip_of, bytes_of as hash_bytes};
+ghost use Rattle.block.specs.View.{header_of, tip_of, bytes_of as hash_bytes};
 ghost use Rattle.blockstore.specs.Stored.{unmarked};
 ghost use Rattle.blockstore.specs.Tests.{marked_at};
 ghost use Rattle.blockstore.specs.Keys.{hash_cmp, link_cmp, links_behind};
@@ -26,7 +27,7 @@ use crate::keys::{Age, Link};
 use crate::placed_block::PlacedBlock;
 use crate::stored_block::StoredBlock;
 use crate::unconnected::Unconnected;
-use block::{CheckedBlock, Tip};
+use block::{CheckedBlock, Header, Tip};
 use ident::BlockHash;
 use std::alloc::{AllocError, Global};
 use std::collections::btree_set::Range;
@@ -150,24 +151,27 @@ impl<S: SigScheme> Shelf<S> {
         self.blocks.get(hash)
     }
 
-    /// Whether the block, which need not be here, follows the root, or one to which a way leads. A look-up.
-    pub fn connects(&self, root: &Tip, block: &CheckedBlock<S>) -> bool
-        ensures { IsTrue result ↔ HasStep (Some (tip_of root.now)) self.now.blocks self.now.notes block.now }
+    /// Whether a block with this header, which need not be here, follows the root, or one to which a way leads. A
+    /// look-up.
+    pub fn connects(&self, root: &Tip, header: &Header) -> bool
+        ensures { (b : model.Block) → b.header ≡ header_of header.now →
+            IsTrue result ↔ HasStep (Some (tip_of root.now)) self.now.blocks self.now.notes b }
     {
-        root.precedes(block) || self.has_parent(block)
+        root.precedes_header(header) || self.has_parent(header)
     }
 
     /// Whether it follows a block to which a way leads.
-    fn has_parent(&self, block: &CheckedBlock<S>) -> bool
-        ensures { IsTrue result ↔ HasParent self.now.blocks self.now.notes block.now }
+    fn has_parent(&self, header: &Header) -> bool
+        ensures { (b : model.Block) → b.header ≡ header_of header.now →
+            IsTrue result ↔ HasParent self.now.blocks self.now.notes b }
     {
-        let Some(previous) = block.previous() else {
+        let Some(previous) = header.previous else {
             return false;
         };
         let Some(parent) = self.at(&HashKey::of(previous)) else {
             return false;
         };
-        parent.is_reached() && Tip::at(parent.block()).precedes(block)
+        parent.is_reached() && Tip::at(parent.block()).precedes_header(header)
     }
 
     /// The blocks that name this one as the block before them. A look-up, and one more for each. Err only where there
@@ -245,6 +249,16 @@ impl<S: SigScheme> Shelf<S> {
         }
         self.bytes += size;
         Ok(())
+    }
+
+    /// Holds this block with its transactions from now on, if it is here as its text alone. A look-up, and then its
+    /// text is compared. Takes no memory.
+    pub fn hold(&mut self, block: CheckedBlock<S>)
+        ensures { self.new ≡ self.old }
+    {
+        if let Some(placed) = self.blocks.get_mut(&HashKey::of(block.hash())) {
+            placed.hold(block);
+        }
     }
 
     /// Marks the block with this hash, if there is one, so that no way leads on by it. Answers where it stands, if one

@@ -7,7 +7,7 @@ ghost use Rattle.model.specs.Block.{Block, block_text, bytes_in};
 ghost use Rattle.model.specs.Genesis.{IsOver};
 ghost use Rattle.block.specs.Read.{IsRead};
 ghost use Rattle.model.specs.Chain.{genesis_tip};
-ghost use Rattle.block.specs.View.{bytes_of, tip_of};
+ghost use Rattle.block.specs.View.{bytes_of, header_of, tip_of};
 ghost use Rattle.blockstore.specs.Stored.{empty_store, blocks_of, IsSet, HasBlock};
 ghost use Rattle.blockstore.specs.Insertion.{IsKnown, IsFull, IsAllowed, IsInsertFault, IsInserted};
 ghost use Rattle.blockstore.specs.Answers.{HasNoneAt, IsAt, AreSuccessors, HasSuccessor, IsMarkSet, IsRid, IsCutTo};
@@ -18,11 +18,12 @@ ghost use Rattle.blockstore.specs.Live.{HoldsNothing, GainsLive, LosesLive, Foll
 
 use crate::capacity::Capacity;
 use crate::insert_fault::InsertFault;
+use crate::live_block::LiveBlock;
 use crate::reach::Reach;
 use crate::shelf::Shelf;
 use crate::stored_block::StoredBlock;
 use crate::unconnected::Unconnected;
-use block::{CheckedBlock, Tip};
+use block::{CheckedBlock, Header, Tip};
 use ident::BlockHash;
 use std::alloc::{AllocError, Global};
 use std::marker::Model;
@@ -141,13 +142,22 @@ impl<S: SigScheme> BlockStore<S> {
         self.blocks.after(self.alloc, previous)
     }
 
-    /// Whether a way leads to this block, which need not be live: live blocks without marks, each following the one
-    /// before it, the first of them, or the block itself where there are none, following the place that chains go
-    /// through. Where none does, no chain of live blocks without marks leads from that place to it.
-    pub fn connects(&self, block: &CheckedBlock<S>) -> bool
-        ensures { IsTrue result ↔ HasWay self.now.root self.now.blocks block.now }
+    /// Whether a way leads to a block with this header, which need not be live: live blocks without marks, each
+    /// following the one before it, the first of them, or the block itself where there are none, following the place
+    /// that chains go through. Where none does, no chain of live blocks without marks leads from that place to it.
+    pub fn connects(&self, header: &Header) -> bool
+        ensures { (b : Block) → b.header ≡ header_of header.now →
+            IsTrue result ↔ HasWay self.now.root self.now.blocks b }
     {
-        self.blocks.connects(&self.root, block)
+        self.blocks.connects(&self.root, header)
+    }
+
+    /// Holds this block with its transactions from now on, if it is live and held as its text alone: so they aren't
+    /// read again. A look-up, and then its text is compared. Takes no memory.
+    pub fn hold(&mut self, block: CheckedBlock<S>)
+        ensures { self.new ≡ self.old }
+    {
+        self.blocks.hold(block);
     }
 
     /// The live blocks that no way leads to, or that have a mark, each once, those with the greatest numbers first. In
@@ -171,7 +181,7 @@ impl<S: SigScheme> BlockStore<S> {
     /// take no more memory. Texts are compared where hashes agree, and then that of one block. Where a way leads to the
     /// block, it looks behind it, and behind each that one leads to from then on: a look-up, and one more for each
     /// block that is found there.
-    pub fn insert(&mut self, block: CheckedBlock<S>) -> Result<(), InsertFault>
+    pub fn insert(&mut self, block: LiveBlock<S>) -> Result<(), InsertFault>
         ensures ok { OnOk result (IsAllowed self.old block × IsInserted self.old block self.new) }
         ensures err { IfErr result (λ fault. IsInsertFault self.old block fault × (self.new ≡ self.old)) }
         // A live block with its text is this block.
@@ -179,8 +189,8 @@ impl<S: SigScheme> BlockStore<S> {
         ensures set { IsSet self.new }
         ensures live { OnOk result (GainsLive self.old block self.new) }
     {
-        let text = block.bytes();
-        if let Some(stored) = self.get(block.hash()) {
+        let text = block.block().bytes();
+        if let Some(stored) = self.get(block.block().hash()) {
             if stored.block().has_text(text) {
                 return Err(InsertFault::Known);
             }

@@ -5,15 +5,15 @@ ghost use Rattle.std.specs.Iterator.{YieldsFirstRef, item_count};
 use crate::hash_key::HashKey;
 use crate::keys::Age;
 use crate::placed_block::PlacedBlock;
-use block::CheckedBlock;
+use block::Block;
 use std::collections::BTreeMap;
 use std::collections::btree_set::Iter;
 use std::marker::Model;
 use witness_pool::SigScheme;
 
 /// The live blocks that are still to come of those that have a mark or that no way leads to, those with the greatest
-/// numbers first: no chain of live blocks without marks goes from the place that all chains go through up to them. Takes
-/// no memory; each step takes a look-up, and one more for each block that it passes over since a way leads to it.
+/// numbers first: no chain of live blocks without marks goes from the place that all chains go through up to them.
+/// Takes no memory; each step takes a look-up, and one more for each block that it passes over since a way leads to it.
 #[derive(Drop)]
 pub struct Unconnected<'a, S: SigScheme> {
     pub(crate) blocks: &'a BTreeMap<HashKey, PlacedBlock<S>>,
@@ -36,14 +36,14 @@ impl<'a, S: SigScheme> Model for Unconnected<'a, S> {
 }
 
 impl<'a, S: SigScheme> Iterator for Unconnected<'a, S> {
-    type Item = &'a CheckedBlock<S>;
+    type Item = &'a Block;
 
     ghost next_gives = { YieldsFirstRef (λ blocks. blocks) };
 
     ghost remaining = { item_count (λ blocks. blocks) };
 
     /// The next of them, or None where no more is to come.
-    fn next(&mut self) -> Option<&'a CheckedBlock<S>> {
+    fn next(&mut self) -> Option<&'a Block> {
         while let Some(age) = self.ages.next_back() {
             let Some(placed) = self.blocks.get(&age.hash) else {
                 continue;

@@ -1,9 +1,10 @@
 //! The texts of transactions and blocks.
 
 use crate::spelled::{Spelled, Unread, put_number, put_slot, put_unknown};
-use block::Block;
+use block::CheckedBlock;
 use std::alloc::{AllocError, Global};
 use tx::{Output, Tx};
+use witness_pool::TestScheme;
 
 /// The lovelace of the first output, 0 where there is none.
 fn first_coin(outputs: &[Output]) -> u64 {
@@ -51,9 +52,14 @@ impl Spelled for Tx {
     }
 }
 
-impl Spelled for Block {
-    fn read_whole(alloc: Global, bytes: &[u8]) -> Result<Block, Unread> {
-        Ok(block::read(alloc, bytes)?)
+impl Spelled for CheckedBlock<TestScheme> {
+    // In two steps, as a live block is read that waited.
+    fn read_whole(alloc: Global, bytes: &[u8]) -> Result<CheckedBlock<TestScheme>, Unread> {
+        let block = block::read(alloc, bytes)?;
+        match CheckedBlock::from_block(alloc, &block) {
+            Ok(checked) => Ok(checked),
+            Err(AllocError) => Err(Unread::OutOfMemory),
+        }
     }
 
     // Nothing follows a block.

@@ -6,7 +6,7 @@ use crate::hex_words::NamedBytes;
 use crate::report::{Report, put_all, put_line};
 use crate::spelled::{Spelled, Unread};
 use crate::spelled_items::WrittenItem;
-use block::Block;
+use block::CheckedBlock;
 use std::alloc::{AllocError, Global};
 use timelock::Script;
 use tx::Tx;
@@ -181,7 +181,7 @@ fn put_came_of(
         "mint" => put_came::<Mint>(alloc, bytes, facts, came),
         "script" => put_came::<Script>(alloc, bytes, facts, came),
         "transaction" => put_came::<Tx>(alloc, bytes, facts, came),
-        "block" => put_came::<Block>(alloc, bytes, facts, came),
+        "block" => put_came::<CheckedBlock<TestScheme>>(alloc, bytes, facts, came),
         "holds" | "fails" => put_judging(alloc, named, bytes, facts, came),
         _ => came.push_str("no such kind of text\n"),
     }

@@ -13,12 +13,14 @@ use Rattle.utxo_rules.proofs.params.Params.TheSendSync as params
 use Rattle.genesis.proofs.genesis.Genesis.TheSendSync as genesis
 use Rattle.followers.proofs.followers.Followers.TheSendSync as followers
 use Rattle.block.proofs.tip.Tip.TheSendSync as tip
+use Rattle.block.proofs.block.Block.TheSendSync as block
 use Rattle.utxo_rules.specs.contracts.diff.Diff as Diff
 use Rattle.ledger.specs.contracts.ledger_state.LedgerState as LedgerState
 use Rattle.ledger.specs.contracts.block_diff.BlockDiff as BlockDiff
 use Rattle.ledgerdb.specs.contracts.ledger_db.LedgerDb as LedgerDb
 use Rattle.witness_pool.specs.declared.scheme.SigScheme.{Ghosts}
 use Rattle.block.proofs.ForCallers.{CheckedBlock-send}
+use Rattle.blockstore.specs.contracts.live_block.LiveBlock as LiveBlock
 use Rattle.blockstore.specs.contracts.stored_block.StoredBlock as StoredBlock
 use Rattle.blockstore.specs.contracts.shelf.Shelf as Shelf
 use Rattle.blockstore.specs.contracts.reach.Reach as Reach
@@ -54,8 +56,14 @@ reach_send : IsSend (Reach.the_field).row
 reach_send = search (map.the_send, crosses, sendable) depth 20
 
 module _ (S : RattleType) (scheme : Ghosts S.Denot) where
+  live_send : IsSend (LiveBlock.the_field S scheme).row
+  live_send =
+      let b = CheckedBlock-send S scheme in
+      let t = block.the_send in
+      search (crosses, sendable) depth 20
+
   stored_send : IsSend (StoredBlock.the_field S scheme).row
-  stored_send = let b = CheckedBlock-send S scheme in search (crosses, sendable) depth 20
+  stored_send = let b = live_send in search (crosses, sendable) depth 20
 
   shelf_send : IsSend (Shelf.the_field S scheme).row
   shelf_send = let s = stored_send in search (map.the_send, set.the_send, crosses, sendable) depth 20

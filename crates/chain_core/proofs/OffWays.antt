@@ -1,6 +1,5 @@
 -- The live blocks that the store finds off its ways are the unconnected ones of each state that the core stands for.
-use Rattle.std.proofs.Common.{◌≡◌, List, [], ◌∷◌, ◌++◌, Contains, sym, subst}
-use Rattle.std.specs.List.{AllByRecursion}
+use Rattle.std.proofs.Common.{List, [], ◌∷◌, ◌++◌, Contains, sym, subst}
 use Rattle.model.specs.Block.{Block}
 use Rattle.model.specs.Ledger.{Network}
 use Rattle.model.specs.Chain.{Tip, genesis_tip, tip_after, IsLinked, IsCandidate, immutable_part, live_blocks}

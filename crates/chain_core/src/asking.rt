@@ -18,7 +18,7 @@ use crate::node_core::Core;
 use crate::place::blocks_from;
 use crate::standing::{TxPlace, tx_place_in};
 use crate::why::{Why, why_in};
-use block::CheckedBlock;
+use block::{Block, CheckedBlock};
 use blockstore::Unconnected;
 use ident::{BlockHash, TxId};
 use std::alloc::AllocError;
@@ -44,9 +44,10 @@ impl<S: SigScheme> Core<S> {
         place_in(&self.chain_db, hash)
     }
 
-    /// The block with this hash: that of the selected chain, or else the live one, and None where there is neither. It
-    /// is the one that the core keeps, which `try_clone` shares. Takes as long as [`Core::place`], and no memory.
-    pub fn block_by_hash(&self, hash: BlockHash) -> Option<&CheckedBlock<S>>
+    /// The block with this hash, without its transactions: that of the selected chain, or else the live one, and None
+    /// where there is neither. It is the one that the core keeps, which `try_clone` shares. Takes as long as
+    /// [`Core::place`], and no memory. [`CheckedBlock::from_block`] reads its transactions.
+    pub fn block_by_hash(&self, hash: BlockHash) -> Option<&Block>
         ensures { (s : State) → Stands self.now s → MatchOption result
             (NoneHas s.chain hash.bytes × NoneHas (live_of (network_held self.now S.verifies) s) hash.bytes)
             (λ b. (Contains s.chain b.now ⊎ Contains (live_of (network_held self.now S.verifies) s) b.now)
@@ -82,7 +83,8 @@ impl<S: SigScheme> Core<S> {
     /// Why the block with this hash isn't selected: the first reason that applies. Nothing else can be: where it goes
     /// back to the chain and all of its way is let through, the chain with it isn't longer. Changes nothing, and keeps
     /// nothing. A few look-ups for each block of the way back, memory for the list of these, and where they go back to
-    /// the chain the time to judge them and to roll the others back. Err where memory runs out.
+    /// the chain the time to read those that wait, to judge them all, and to roll the others back. Err where memory
+    /// runs out.
     pub fn why(&self, hash: BlockHash) -> Result<Why, AllocError>
         ensures why { IfOk result (λ why. (s : State) → Stands self.now s →
             IsWhyOf (network_held self.now S.verifies) s hash.bytes (why_of why)) }
@@ -97,8 +99,8 @@ impl<S: SigScheme> Core<S> {
     /// with the greatest numbers first. None of them is in a valid chain of kept blocks through the immutable tip, so
     /// whoever discards them loses no chain that could be selected as things are. Blocks may be among them that were
     /// found invalid, or that go back to the chain by one that was. In constant time, and takes no memory; each step
-    /// takes time in proportion to the logarithm of the number of live blocks, once for the block that it gives and once
-    /// for each that it passes over since a way leads to it.
+    /// takes time in proportion to the logarithm of the number of live blocks, once for the block that it gives and
+    /// once for each that it passes over since a way leads to it.
     ///
     /// ```text
     /// let mut furthest = Vec::new(alloc); // what a node may do whose store of live blocks is full

@@ -31,7 +31,7 @@ use crate::finding::{Place, place_in};
 use crate::past::{Bytes, note_all};
 use crate::reopening::OpenedChain;
 use block::{CheckedBlock, Tip};
-use blockstore::{BlockStore, Capacity, InsertFault};
+use blockstore::{BlockStore, Capacity, InsertFault, LiveBlock};
 use chainsel::{Choice, Selection, Switch, chain_tip, select};
 use genesis::Genesis;
 use ident::BlockHash;
@@ -71,6 +71,17 @@ fn mark_all<S: SigScheme>(store: &mut BlockStore<S>, invalid: &[BlockHash])
 {
     for hash in invalid {
         store.mark_invalid(*hash);
+    }
+}
+
+/// Holds these blocks with their transactions, which were read, where they are live. Takes no memory.
+fn hold_all<S: SigScheme>(store: &mut BlockStore<S>, read: &[CheckedBlock<S>])
+    ensures { store.new ≡ store.old }
+{
+    for block in read {
+        if let Ok(block) = block.try_clone() {
+            store.hold(block);
+        }
     }
 }
 
@@ -135,7 +146,7 @@ impl<S: SigScheme> ChainDb<S> {
         &mut self,
         alloc: Global,
         genesis: &Genesis,
-        block: CheckedBlock<S>,
+        block: LiveBlock<S>,
     ) -> Result<Change, AllocError>
         requires whole { IsWhole (network_db genesis.now S.verifies self.old) self.old }
         requires ready { IsReady (network_db genesis.now S.verifies self.old) self.old.chain.items
@@ -155,16 +166,17 @@ impl<S: SigScheme> ChainDb<S> {
             choice,
             invalid,
             side,
+            read,
         } = select(alloc, &self.store, &self.db, &self.chain, &block)?;
         match choice {
             Choice::Keep => {
-                self.insert(block, &invalid)?;
+                self.insert(block, &invalid, &read)?;
                 self.keep_side(side);
                 Ok(Change { back: 0, added: 0 })
             }
             Choice::Switch(switch) => {
                 let resynced = self.make_ready(genesis.k(), &switch)?;
-                self.insert(block, &invalid)?;
+                self.insert(block, &invalid, &switch.blocks)?;
                 self.mempool.put(resynced);
                 self.switch_to(switch)
             }
@@ -242,9 +254,14 @@ impl<S: SigScheme> ChainDb<S> {
         )
     }
 
-    /// Takes the block into the store, where nothing is said against it, and marks the blocks of these hashes. Where
-    /// memory runs out nothing changes.
-    fn insert(&mut self, block: CheckedBlock<S>, invalid: &[BlockHash]) -> Result<(), AllocError>
+    /// Takes the block into the store, where nothing is said against it, marks the blocks of these hashes, and holds
+    /// those that were read with their transactions. Where memory runs out nothing changes.
+    fn insert(
+        &mut self,
+        block: LiveBlock<S>,
+        invalid: &[BlockHash],
+        read: &[CheckedBlock<S>],
+    ) -> Result<(), AllocError>
         requires alone { AllByRecursion (λ b. block_hash_of b ≢ block_hash_of block) (blocks_of self.old.store) }
         requires room { IsFull self.old.store (length (block_text block)) → ⊥ }
         ensures ok { OnOk result (IsTakenIn self.old.store block invalid.now self.new.store) }
@@ -254,6 +271,7 @@ impl<S: SigScheme> ChainDb<S> {
         match self.store.insert(block) {
             Ok(()) => {
                 mark_all(&mut self.store, invalid);
+                hold_all(&mut self.store, read);
                 Ok(())
             }
             Err(InsertFault::OutOfMemory) => Err(AllocError),

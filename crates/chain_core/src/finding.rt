@@ -12,7 +12,7 @@ ghost use Rattle.chain_core.specs.ChainDbs.{IsWhole, HasState};
 use crate::chain_db::ChainDb;
 use crate::past::noted;
 use crate::place::block_at;
-use block::CheckedBlock;
+use block::{Block, CheckedBlock};
 use blockstore::Unconnected;
 use ident::BlockHash;
 use witness_pool::SigScheme;
@@ -59,13 +59,13 @@ pub fn chain_block<S: SigScheme>(chain_db: &ChainDb<S>, hash: BlockHash) -> Opti
 }
 
 /// The block of the selected chain with this hash, or else the live one.
-pub fn block_with<S: SigScheme>(chain_db: &ChainDb<S>, hash: BlockHash) -> Option<&CheckedBlock<S>>
+pub fn block_with<S: SigScheme>(chain_db: &ChainDb<S>, hash: BlockHash) -> Option<&Block>
     ensures { (network : Network) (s : State) → IsWhole network chain_db.now → HasState network chain_db.now s
         → MatchOption result (NoneHas s.chain hash.bytes × NoneHas (live_of network s) hash.bytes)
         (λ b. (Contains s.chain b.now ⊎ Contains (live_of network s) b.now) × (block_hash_of b.now ≡ hash.bytes)) }
 {
     if let Some(block) = chain_block(chain_db, hash) {
-        return Some(block);
+        return Some(block.block());
     }
     match chain_db.store.get(hash) {
         Some(stored) => Some(stored.block()),

@@ -11,6 +11,7 @@ mod finding;
 mod follower;
 mod forging;
 mod judging;
+mod live_form;
 mod node_core;
 mod past;
 mod place;

@@ -6,6 +6,7 @@ use crate::event::{RawEvent, Reply};
 use crate::follower::{Instruction, NextFault, instruction_for};
 use crate::forging::{ForgeFault, Forged, forge};
 use crate::judging::first_refusal;
+use crate::live_form::{live_form, shared_live_form};
 use crate::place::{block_at, end_of, first_on};
 use crate::refusal::Refusal;
 use crate::reopening::{OpenedChain, ReopenFault, Reopening};
@@ -175,11 +176,14 @@ impl<S: SigScheme> Core<S> {
     /// selected anew, and the mempool is brought up to date with it. Where memory runs out nothing changes.
     ///
     /// Reads and hashes the bytes once, and copies them once where they aren't refused. A refusal takes no memory, but
-    /// for the transactions that are read before it is known. A block that extends the tip is judged once, and one of
-    /// a fork that is not longer isn't judged. A few look-ups among the live blocks, and one more for each block on the
-    /// way to the new one, for each that goes on from it and for each that becomes immutable; one among the hashes of
-    /// immutable blocks, and one more for each that becomes immutable. Where the chain changes, each transaction of the
-    /// mempool is judged once. Each follower is looked at once.
+    /// for the transactions that are read before it is known. A block that no way leads to from the immutable tip is
+    /// kept as these bytes alone, with what its header says, and none of its signatures is verified: whatever its
+    /// transactions, it takes no more memory than its bytes, beside a few hundred for the look-ups. Where one leads to
+    /// it later, and the chain with it is longer, its transactions are read once more, and judged. A block that extends
+    /// the tip is judged once, and one of a fork that is not longer isn't judged. A few look-ups among the live blocks,
+    /// and one more for each block on the way to the new one, for each that goes on from it and for each that becomes
+    /// immutable; one among the hashes of immutable blocks, and one more for each that becomes immutable. Where the
+    /// chain changes, each transaction of the mempool is judged once. Each follower is looked at once.
     pub fn arrive(&mut self, bytes: &[u8]) -> Result<ArriveReply, AllocError>
         // For every state of the definitions that the core stands for, this is a step to one that it then stands for.
         ensures step { Steps S.verifies self.old (Arrive bytes.now) (arrive_reply_of result) self.new }
@@ -197,7 +201,7 @@ impl<S: SigScheme> Core<S> {
         if let Some(refusal) = first_refusal(&self.chain_db, found.point(), found.bytes()) {
             return Ok(ArriveReply::Refused(refusal));
         }
-        let block = found.into_checked_block(self.alloc)?;
+        let block = live_form(self.alloc, &self.chain_db.store, found)?;
         let change = self.chain_db.add(self.alloc, &self.genesis, block)?;
         self.followers
             .moved(self.chain_db.chain.len() as u64 - change.added);
@@ -211,7 +215,8 @@ impl<S: SigScheme> Core<S> {
     /// to the bytes. Where memory runs out nothing changes.
     ///
     /// Hashes and copies no bytes, and verifies no signature: that was done when they were seen, also of a block that
-    /// is then refused. A refusal takes no memory. The rest takes as long as for [`Core::arrive`].
+    /// is then refused. Of a block that no way leads to, its transactions and verdicts are let go, as [`Core::arrive`]
+    /// has it. A refusal takes no memory. The rest takes as long as for [`Core::arrive`].
     pub fn arrive_seen(&mut self, seen: Seen<S>) -> Result<ArriveReply, AllocError>
         // For every state of the definitions that the core stands for, this is a step to one that it then stands for.
         ensures step { Steps S.verifies self.old (Arrive seen) (arrive_reply_of result) self.new }
@@ -244,7 +249,7 @@ impl<S: SigScheme> Core<S> {
         if let Some(refusal) = first_refusal(&self.chain_db, block.point(), block.bytes()) {
             return Ok(ArriveReply::Refused(refusal));
         }
-        let shared = block.try_clone()?;
+        let shared = shared_live_form(&self.chain_db.store, block)?;
         let change = self.chain_db.add(self.alloc, &self.genesis, shared)?;
         self.followers
             .moved(self.chain_db.chain.len() as u64 - change.added);

@@ -1,7 +1,8 @@
 //! Why a block isn't selected.
 
 ghost use Rattle.std.specs.Prelude.{◌≡◌, ◌≤◌, ◌-◌, ℕ, List, length, take, reverse, MatchOption, IfOk, OnErr};
-ghost use Rattle.model.specs.Block.{Block, block_hash_of};
+ghost use Rattle.model.specs.Block as model;
+ghost use Rattle.model.specs.Block.{block_hash_of};
 ghost use Rattle.model.specs.Genesis.{Genesis};
 ghost use Rattle.model.specs.Ledger.{Network, network_on};
 ghost use Rattle.model.specs.Chain.{genesis_tip, tip_at, tip_after, Follows, IsLinked, HaveDistinctHashes};
@@ -15,8 +16,8 @@ ghost use Rattle.chain_core.specs.ChainDbs.{IsWhole, HasState};
 
 use crate::chain_db::ChainDb;
 use crate::finding::{block_with, chain_block};
-use block::{CheckedBlock, Tip};
-use blockstore::BlockStore;
+use block::{Block, CheckedBlock, Tip};
+use blockstore::{BlockStore, LiveBlock};
 use chainsel::chain_tip;
 use ident::BlockHash;
 use ledger::BlockFault;
@@ -56,7 +57,7 @@ enum Before<'a, S: SigScheme> {
     /// The first blocks of the selected chain, in this number.
     Chain(usize),
     /// This live one, which isn't on the selected chain.
-    Live(&'a CheckedBlock<S>),
+    Live(&'a LiveBlock<S>),
     /// One with this hash that is missing.
     Missing(BlockHash),
     /// Nothing that it follows.
@@ -64,7 +65,7 @@ enum Before<'a, S: SigScheme> {
 }
 
 /// How many first blocks of the chain the block follows.
-fn kept_before<S: SigScheme>(chain: &[CheckedBlock<S>], block: &CheckedBlock<S>) -> Option<usize>
+fn kept_before<S: SigScheme>(chain: &[CheckedBlock<S>], block: &Block) -> Option<usize>
     ensures { MatchOption result (IsLinked genesis_tip chain.now → (keep : ℕ) → keep ≤ length chain.now
         → Follows (tip_after genesis_tip (take keep chain.now)) block.now → ⊥)
         (λ keep. (keep ≤ length chain.now) × Follows (tip_after genesis_tip (take keep chain.now)) block.now) }
@@ -80,23 +81,23 @@ fn kept_before<S: SigScheme>(chain: &[CheckedBlock<S>], block: &CheckedBlock<S>)
 /// The live block that this one follows. A look-up.
 fn live_before<'a, S: SigScheme>(
     store: &'a BlockStore<S>,
-    block: &CheckedBlock<S>,
-) -> Option<&'a CheckedBlock<S>>
+    block: &Block,
+) -> Option<&'a LiveBlock<S>>
     ensures { MatchOption result
-        (HaveDistinctHashes (blocks_of store.now) → (b : Block) → HasBlock store.now b
+        (HaveDistinctHashes (blocks_of store.now) → (b : model.Block) → HasBlock store.now b
         → Follows (tip_at b) block.now → ⊥)
         (λ before. HasBlock store.now before.now × Follows (tip_at before.now) block.now) }
 {
     let stored = store.get(block.previous()?)?;
     if Tip::at(stored.block()).precedes(block) {
-        Some(stored.block())
+        Some(stored.live())
     } else {
         None
     }
 }
 
 /// What stands before a block. A few look-ups.
-fn step_back<'a, S: SigScheme>(chain_db: &'a ChainDb<S>, block: &CheckedBlock<S>) -> Before<'a, S>
+fn step_back<'a, S: SigScheme>(chain_db: &'a ChainDb<S>, block: &Block) -> Before<'a, S>
     ensures before { (network : Network) (s : State) → IsWhole network chain_db.now → HasState network chain_db.now s
         → IsBefore network s block.now result }
     ensures on { LeadsOn block.now result }
@@ -131,7 +132,7 @@ pub enum Footing {
 #[derive(Drop)]
 pub struct Way<S: SigScheme> {
     /// The blocks that one passes, each behind the one that it follows, up to the block itself.
-    pub blocks: Vec<CheckedBlock<S>>,
+    pub blocks: Vec<LiveBlock<S>>,
     pub footing: Footing,
 }
 
@@ -140,7 +141,7 @@ pub struct Way<S: SigScheme> {
 fn way_back<S: SigScheme>(
     alloc: Global,
     chain_db: &ChainDb<S>,
-    block: &CheckedBlock<S>,
+    block: &LiveBlock<S>,
 ) -> Result<Way<S>, AllocError>
     ensures { IfOk result (λ way. (network : Network) (s : State) → IsWhole network chain_db.now
         → HasState network chain_db.now s → HasBlock chain_db.now.store block.now
@@ -150,25 +151,39 @@ fn way_back<S: SigScheme>(
     let mut blocks = vec![in alloc; block.try_clone()?]?; // the last one first
     let mut first = block;
     loop {
-        match step_back(chain_db, first) {
+        match step_back(chain_db, first.block()) {
             Before::Live(next) => {
                 blocks.push(next.try_clone()?)?;
                 first = next;
             }
             Before::Chain(keep) => return Ok(way_of(blocks, Footing::Chain(keep))),
             Before::Missing(hash) => return Ok(way_of(blocks, Footing::Missing(hash))),
-            Before::Misfit => return Ok(way_of(blocks, Footing::Misfit(first.hash()))),
+            Before::Misfit => return Ok(way_of(blocks, Footing::Misfit(first.block().hash()))),
         }
     }
 }
 
 /// The way over these blocks, of which the last one came first.
-fn way_of<S: SigScheme>(mut blocks: Vec<CheckedBlock<S>>, footing: Footing) -> Way<S>
+fn way_of<S: SigScheme>(mut blocks: Vec<LiveBlock<S>>, footing: Footing) -> Way<S>
     ensures blocks { result.blocks.items ≡ reverse blocks.items }
     ensures footing { result.footing ≡ footing }
 {
     blocks.reverse();
     Way { blocks, footing }
+}
+
+/// The blocks with their transactions.
+fn read_all<S: SigScheme>(
+    alloc: Global,
+    blocks: &[LiveBlock<S>],
+) -> Result<Vec<CheckedBlock<S>>, AllocError>
+    ensures { IfOk result (λ read. read.items ≡ blocks.now) }
+{
+    let mut read = Vec::with_capacity(alloc, blocks.len())?;
+    for block in blocks {
+        read.push(block.read(alloc)?)?;
+    }
+    Ok(read)
 }
 
 /// What becomes of these blocks where they are put on behind the first `keep` ones of the chain. Takes the time to
@@ -180,7 +195,7 @@ fn judge<S: SigScheme>(
 ) -> Result<Why, AllocError>
     requires keep { keep ≤ length chain_db.now.chain.items }
     requires depth { length chain_db.now.chain.items - keep ≤ depth chain_db.now.db }
-    ensures { IfOk result (λ why. (genesis : Genesis) (opened : List Block)
+    ensures { IfOk result (λ why. (genesis : Genesis) (opened : List model.Block)
         → IsWhole (network_on genesis S.verifies opened) chain_db.now
         → IsJudged (network_on genesis S.verifies opened) (take keep chain_db.now.chain.items) way.now why) }
 {
@@ -192,6 +207,23 @@ fn judge<S: SigScheme>(
     }
 }
 
+/// The same of live blocks: those that are held as their texts alone are read.
+fn judge_live<S: SigScheme>(
+    alloc: Global,
+    chain_db: &ChainDb<S>,
+    keep: usize,
+    way: &[LiveBlock<S>],
+) -> Result<Why, AllocError>
+    requires keep { keep ≤ length chain_db.now.chain.items }
+    requires depth { length chain_db.now.chain.items - keep ≤ depth chain_db.now.db }
+    ensures { IfOk result (λ why. (genesis : Genesis) (opened : List model.Block)
+        → IsWhole (network_on genesis S.verifies opened) chain_db.now
+        → IsJudged (network_on genesis S.verifies opened) (take keep chain_db.now.chain.items) way.now why) }
+{
+    let read = read_all(alloc, way)?;
+    judge(chain_db, keep, &read)
+}
+
 /// Why the block with this hash isn't selected.
 pub fn why_in<S: SigScheme>(
     alloc: Global,
@@ -199,7 +231,7 @@ pub fn why_in<S: SigScheme>(
     hash: BlockHash,
 ) -> Result<Why, AllocError>
     requires whole { (network : Network) × IsWhole network chain_db.now }
-    ensures why { IfOk result (λ why. (genesis : Genesis) (opened : List Block) (s : State)
+    ensures why { IfOk result (λ why. (genesis : Genesis) (opened : List model.Block) (s : State)
         → IsWhole (network_on genesis S.verifies opened) chain_db.now
         → HasState (network_on genesis S.verifies opened) chain_db.now s
         → IsWhyOf (network_on genesis S.verifies opened) s hash.bytes (why_of why)) }
@@ -213,9 +245,9 @@ pub fn why_in<S: SigScheme>(
     let Some(stored) = chain_db.store.get(hash) else {
         return Ok(Why::Unknown);
     };
-    let way = way_back(alloc, chain_db, stored.block())?;
+    let way = way_back(alloc, chain_db, stored.live())?;
     match way.footing {
-        Footing::Chain(keep) => judge(chain_db, keep, &way.blocks),
+        Footing::Chain(keep) => judge_live(alloc, chain_db, keep, &way.blocks),
         Footing::Missing(missing) => Ok(Why::Waits(missing)),
         Footing::Misfit(first) => Ok(Why::Misfit(first)),
     }

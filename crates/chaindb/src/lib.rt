@@ -40,7 +40,7 @@ pub use ident::{BlockHash, KeyHash, Point, ScriptHash, TxId};
 pub use ledger::BlockFault;
 pub use mempool::{Mempool, SubmitReply};
 pub use utxo_rules::{Detail, Reason, Utxo};
-pub use watching::{History, HistoryEntries, Holder, Inclusion, Watch, WatchFault};
+pub use watching::{History, HistoryEntries, Holder, Inclusion, Watch, WatchFault, Which};
 pub use witness_pool::{
     CheckedTx, Ed25519, Gate, OpenGate, Pool, PoolFault, SigScheme, TestScheme,
 };

@@ -145,11 +145,11 @@ module _ (verifies : Verifies) (chain : List Block) (store : Store) (db : Databa
   -- ---- where a way leads past it
   module _ (told : List BlockHash) (dead : AreDeadInAll verifies chain store db new told) (end : Block) (immutable keep : ℕ) (blocks : List Block) (led : IsLed chain store db new told end immutable keep blocks) where
     -- the chain changes
-    pub switched : {S : Type 0} (invalid : Vec BlockHash) (switch : Switch S) → invalid.items ≡ told → switch.back ≡ length chain - keep → switch.blocks.items ≡ blocks → switch.prepared.back ≡ switch.back
+    pub switched : {S : Type 0} (invalid : Vec BlockHash) (switch : Switch S) (read : Vec Block) → invalid.items ≡ told → switch.back ≡ length chain - keep → switch.blocks.items ≡ blocks → switch.prepared.back ≡ switch.back
         → count switch.prepared ≡ length switch.blocks.items
         → ((genesis : Genesis) (opened : List Block) → IsDatabaseOf (network_on genesis verifies opened) chain db → IsPreparedOf (network_on genesis verifies opened) (without_last switch.back chain) switch.blocks.items switch.prepared)
-        → IsSelectionAnswer verifies chain store db new (record { choice = choice.Switch switch; invalid = invalid; side = None })
-    switched invalid switch tells back put_on prepared_back counted prepared = record {
+        → IsSelectionAnswer verifies chain store db new (record { choice = choice.Switch switch; invalid = invalid; side = None; read = read })
+    switched invalid switch read tells back put_on prepared_back counted prepared = record {
       choice = λ genesis opened ready.
           let network = network_on genesis verifies opened in
           let same = immutable_is network chain store db new ready immutable (depth db) led.immutable_at refl in

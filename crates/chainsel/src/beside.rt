@@ -55,12 +55,12 @@ pub fn side_of<S: SigScheme>(
     back: usize,
     way: &[CheckedBlock<S>],
     dead: usize,
-    new: &CheckedBlock<S>,
+    new: BlockHash,
 ) -> Result<Option<LedgerState>, AllocError>
     requires back { back ≤ depth db.now }
     requires dead { dead ≤ length way.now }
     ensures { IfOk result (λ side. IfSome side (IsSideOf S.verifies db.now way.now)) }
 {
-    let first = index_of(way, new.hash()).unwrap_or(dead).min(dead);
+    let first = index_of(way, new).unwrap_or(dead).min(dead);
     state_on(db, back, &way[..first])
 }

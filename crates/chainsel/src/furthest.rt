@@ -6,14 +6,15 @@ ghost use Rattle.std.specs.List.{AllByRecursion};
 ghost use Rattle.std.specs.Ordering.{nat_cmp};
 ghost use Rattle.std.specs.declared.cmp.Ordering.TheVariants.{Less};
 ghost use Rattle.std.specs.Cmp.Lexicographic.{slice_cmp};
-ghost use Rattle.model.specs.Block.{Block, block_hash_of};
+ghost use Rattle.model.specs.Block as model;
+ghost use Rattle.model.specs.Block.{block_hash_of};
 ghost use Rattle.chainsel.specs.Paths.{IsOnPath, Descends, IsBest};
 ghost use Rattle.chainsel.specs.Ends.{AreEnds, AreNext, AreFurthest, HasLeastHash, ends_of};
 
 use crate::found::Found;
 use crate::links::{follows, is_fit};
-use block::CheckedBlock;
-use blockstore::BlockStore;
+use block::Block;
+use blockstore::{BlockStore, LiveBlock};
 use ident::BlockHash;
 use std::alloc::{AllocError, Global};
 use witness_pool::SigScheme;
@@ -22,15 +23,15 @@ use witness_pool::SigScheme;
 #[derive(Drop)]
 pub struct Best<'a, S: SigScheme> {
     /// The last block there, of several the one with the least hash: the block itself, where none goes on from it.
-    pub end: &'a CheckedBlock<S>,
+    pub end: &'a LiveBlock<S>,
     /// The block itself and what goes on from it, each behind the one that it follows. None where nothing can go on.
-    pub walked: Vec<&'a CheckedBlock<S>>,
+    pub walked: Vec<&'a LiveBlock<S>>,
 }
 
 /// A block and all that goes on from it, each behind the one that it follows.
 #[derive(Drop)]
 struct Walk<'a, S: SigScheme> {
-    blocks: Vec<&'a CheckedBlock<S>>,
+    blocks: Vec<&'a LiveBlock<S>>,
     /// From this place on stand those that go on furthest.
     furthest: usize,
 }
@@ -39,10 +40,10 @@ struct Walk<'a, S: SigScheme> {
 fn push_next<'a, S: SigScheme>(
     store: &'a BlockStore<S>,
     found: &Found,
-    end: &CheckedBlock<S>,
-    walked: &mut Vec<&'a CheckedBlock<S>>,
+    end: &Block,
+    walked: &mut Vec<&'a LiveBlock<S>>,
 ) -> Result<(), AllocError>
-    ensures { OnOk result ((more : List Block)
+    ensures { OnOk result ((more : List model.Block)
         × (map (λ x. x.now) walked.new.items ≡ map (λ x. x.now) walked.old.items ++ more)
         × AreNext store.now found.now.hashes.items (end.now ∷ []) more
         × AllByRecursion (λ b. b.header.number < 2 ^ 64) more) }
@@ -50,7 +51,7 @@ fn push_next<'a, S: SigScheme>(
     let successors = store.successors(Some(end.hash()))?;
     for stored in &successors {
         if is_fit(found, stored) && follows(end, stored.block()) {
-            walked.push(stored.block())?;
+            walked.push(stored.live())?;
         }
     }
     Ok(())
@@ -61,17 +62,17 @@ fn push_next<'a, S: SigScheme>(
 fn walk_on<'a, S: SigScheme>(
     store: &'a BlockStore<S>,
     found: &Found,
-    walked: &mut Vec<&'a CheckedBlock<S>>,
+    walked: &mut Vec<&'a LiveBlock<S>>,
     from: usize,
 ) -> Result<(), AllocError>
-    ensures { OnOk result ((more : List Block)
+    ensures { OnOk result ((more : List model.Block)
         × (map (λ x. x.now) walked.new.items ≡ map (λ x. x.now) walked.old.items ++ more)
         × AreNext store.now found.now.hashes.items (drop from (map (λ x. x.now) walked.old.items)) more
         × AllByRecursion (λ b. b.header.number < 2 ^ 64) more) }
 {
     for place in from..walked.len() {
         let end = walked[place];
-        push_next(store, found, end, walked)?;
+        push_next(store, found, end.block(), walked)?;
     }
     Ok(())
 }
@@ -81,7 +82,7 @@ fn walk_through<'a, S: SigScheme>(
     alloc: Global,
     store: &'a BlockStore<S>,
     found: &Found,
-    new: &'a CheckedBlock<S>,
+    new: &'a LiveBlock<S>,
 ) -> Result<Walk<'a, S>, AllocError>
     ensures steps { IfOk result (λ walk.
         AllByRecursion (IsOnPath store.now found.now.hashes.items new.now) (map (λ x. x.now) walk.blocks.items)) }
@@ -112,16 +113,13 @@ fn is_less(hash: BlockHash, other: BlockHash) -> bool
 }
 
 /// The block with the least hash of these, and the new one where there are none.
-fn least<'a, S: SigScheme>(
-    new: &'a CheckedBlock<S>,
-    ends: &[&'a CheckedBlock<S>],
-) -> &'a CheckedBlock<S>
+fn least<'a, S: SigScheme>(new: &'a LiveBlock<S>, ends: &[&'a LiveBlock<S>]) -> &'a LiveBlock<S>
     ensures member { ends.now ≢ [] → Contains (map (λ x. x.now) ends.now) result.now }
     ensures least { HasLeastHash (map (λ x. x.now) ends.now) result.now }
 {
     let mut least = *ends.first().unwrap_or(&new);
     for end in ends {
-        if is_less(end.hash(), least.hash()) {
+        if is_less(end.block().hash(), least.block().hash()) {
             least = *end;
         }
     }
@@ -134,7 +132,7 @@ pub fn furthest<'a, S: SigScheme>(
     alloc: Global,
     store: &'a BlockStore<S>,
     found: &Found,
-    new: &'a CheckedBlock<S>,
+    new: &'a LiveBlock<S>,
 ) -> Result<Best<'a, S>, AllocError>
     ensures descends { IfOk result (λ best. Descends store.now found.now.hashes.items new.now best.end.now) }
     ensures best { IfOk result (λ best.
@@ -142,7 +140,7 @@ pub fn furthest<'a, S: SigScheme>(
     ensures walked { IfOk result (λ best.
         AllByRecursion (IsOnPath store.now found.now.hashes.items new.now) (map (λ x. x.now) best.walked.items)) }
 {
-    if !store.goes_past(new.number()) {
+    if !store.goes_past(new.block().number()) {
         let walked = Vec::new(alloc);
         return Ok(Best { end: new, walked });
     }

@@ -7,7 +7,7 @@ ghost use Rattle.block.specs.View.{tip_of};
 ghost use Rattle.chainsel.specs.Paths.{IsFit};
 
 use crate::found::Found;
-use block::{CheckedBlock, Tip};
+use block::{Block, CheckedBlock, Tip};
 use blockstore::StoredBlock;
 use ident::BlockHash;
 use witness_pool::SigScheme;
@@ -20,14 +20,14 @@ fn is_next(before: u64, number: u64) -> bool
 }
 
 /// Whether the block names this one as the block before it.
-fn names<S: SigScheme>(block: &CheckedBlock<S>, hash: BlockHash) -> bool
+fn names(block: &Block, hash: BlockHash) -> bool
     ensures { IsTrue result ↔ (block.now.header.previous ≡ Some hash.bytes) }
 {
     block.previous() == Some(hash)
 }
 
 /// Whether the block may come next after the other.
-pub fn follows<S: SigScheme>(before: &CheckedBlock<S>, block: &CheckedBlock<S>) -> bool
+pub fn follows(before: &Block, block: &Block) -> bool
     ensures next { IsTrue result ↔ Follows (tip_at before.now) block.now }
     // Numbers are of 64 bits.
     ensures range { block.now.header.number < 2 ^ 64 }
@@ -42,17 +42,13 @@ pub fn chain_tip<S: SigScheme>(chain: &[CheckedBlock<S>]) -> Tip
     ensures { tip_of result ≡ tip_after genesis_tip chain.now }
 {
     match chain.last() {
-        Some(last) => Tip::at(last),
+        Some(last) => Tip::at(last.block()),
         None => Tip::genesis(),
     }
 }
 
 /// Whether the block may come next after the first `keep` blocks of the chain.
-pub fn follows_chain<S: SigScheme>(
-    chain: &[CheckedBlock<S>],
-    keep: usize,
-    block: &CheckedBlock<S>,
-) -> bool
+pub fn follows_chain<S: SigScheme>(chain: &[CheckedBlock<S>], keep: usize, block: &Block) -> bool
     requires { keep ≤ length chain.now }
     ensures { IsTrue result ↔ Follows (tip_after genesis_tip (take keep chain.now)) block.now }
 {

@@ -12,7 +12,7 @@ use crate::selection::{Choice, Selection, Switch};
 use crate::sifting::sift;
 use crate::way::way_to;
 use block::CheckedBlock;
-use blockstore::BlockStore;
+use blockstore::{BlockStore, LiveBlock};
 use ledger::LedgerState;
 use ledgerdb::{ForkFault, LedgerDb};
 use std::alloc::{AllocError, Global};
@@ -31,7 +31,7 @@ pub fn search<S: SigScheme>(
     db: &LedgerDb,
     chain: &[CheckedBlock<S>],
     immutable: usize,
-    new: &CheckedBlock<S>,
+    new: &LiveBlock<S>,
     found: Found,
 ) -> Result<Selection<S>, AllocError>
     requires immutable { immutable ≡ length chain.now - depth db.now }
@@ -41,13 +41,14 @@ pub fn search<S: SigScheme>(
 {
     let mut found = found;
     let mut side = None;
+    let hash = new.block().hash();
     loop {
         let best = furthest(alloc, store, &found, new)?;
-        if best.end.number() <= chain.len() as u64 {
-            return Ok(keep(found, side));
+        if best.end.block().number() <= chain.len() as u64 {
+            return Ok(keep(found, side, Vec::new(alloc)));
         }
         let Some(way) = way_to(alloc, store, &found, chain, immutable, new, best)? else {
-            return Ok(keep(found, side));
+            return Ok(keep(found, side, Vec::new(alloc)));
         };
         let back = chain.len() - way.keep;
         match db.fork(back, &way.blocks) {
@@ -61,15 +62,16 @@ pub fn search<S: SigScheme>(
                     choice,
                     invalid: found.into_hashes(),
                     side: None,
+                    read: Vec::new(alloc),
                 });
             }
             Err(ForkFault::OutOfMemory) => return Err(AllocError),
             Err(ForkFault::Refused(index, _)) => {
                 let dead = way.blocks[index].hash();
                 found.push(dead)?;
-                side = side_of(db, back, &way.blocks, index, new)?;
-                if dead == new.hash() || !sift(alloc, store, &mut found, side.as_ref(), new)? {
-                    return Ok(keep(found, side));
+                side = side_of(db, back, &way.blocks, index, hash)?;
+                if dead == hash || !sift(alloc, store, &mut found, side.as_ref(), new)? {
+                    return Ok(keep(found, side, way.blocks));
                 }
             }
         }
@@ -77,7 +79,11 @@ pub fn search<S: SigScheme>(
 }
 
 /// The chain stays.
-pub fn keep<S: SigScheme>(found: Found, side: Option<LedgerState>) -> Selection<S>
+pub fn keep<S: SigScheme>(
+    found: Found,
+    side: Option<LedgerState>,
+    read: Vec<CheckedBlock<S>>,
+) -> Selection<S>
     ensures choice { result.choice ≡ Choice.Keep }
     ensures invalid { result.invalid.items ≡ found.hashes.items }
     ensures side { result.side ≡ side }
@@ -86,5 +92,6 @@ pub fn keep<S: SigScheme>(found: Found, side: Option<LedgerState>) -> Selection<
         choice: Choice::Keep,
         invalid: found.into_hashes(),
         side,
+        read,
     }
 }

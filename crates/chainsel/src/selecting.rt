@@ -16,7 +16,7 @@ use crate::search::{keep, search};
 use crate::selection::Selection;
 use crate::sifting::sift;
 use block::CheckedBlock;
-use blockstore::BlockStore;
+use blockstore::{BlockStore, LiveBlock};
 use ledgerdb::LedgerDb;
 use std::alloc::{AllocError, Global};
 use witness_pool::SigScheme;
@@ -34,11 +34,12 @@ pub fn immutable<S: SigScheme>(chain: &[CheckedBlock<S>], db: &LedgerDb) -> usiz
 fn goes_no_further<S: SigScheme>(
     store: &BlockStore<S>,
     chain: &[CheckedBlock<S>],
-    new: &CheckedBlock<S>,
+    new: &LiveBlock<S>,
 ) -> Result<bool, AllocError>
     ensures { IfOk result (λ ends. IsTrue ends →
         (new.now.header.number ≤ length chain.now) × IsLast store.now new.now) }
 {
+    let new = new.block();
     if new.number() > chain.len() as u64 {
         return Ok(false);
     }
@@ -50,15 +51,15 @@ fn goes_no_further<S: SigScheme>(
 fn stays_by_links<S: SigScheme>(
     store: &BlockStore<S>,
     chain: &[CheckedBlock<S>],
-    new: &CheckedBlock<S>,
+    new: &LiveBlock<S>,
 ) -> Result<bool, AllocError>
     ensures { IfOk result (λ stays. IsTrue stays → (HasWay store.now.root store.now.blocks new.now → ⊥)
         ⊎ ((new.now.header.number ≤ length chain.now) × IsLast store.now new.now)) }
 {
-    if chain_tip(chain).precedes(new) {
+    if chain_tip(chain).precedes(new.block()) {
         return Ok(false);
     }
-    if !store.connects(new) {
+    if !store.connects(new.block().header()) {
         return Ok(true);
     }
     goes_no_further(store, chain, new)
@@ -78,22 +79,22 @@ fn stays_by_links<S: SigScheme>(
 /// so is all that goes on from the new one, each block once; then the search begins again. A block that is found dead
 /// is told, so that it is never judged again.
 ///
-/// Where the answer is Err, memory ran out.
+/// A block that is held as its text alone is read each time that it is judged. Where the answer is Err, memory ran out.
 pub fn select<S: SigScheme>(
     alloc: Global,
     store: &BlockStore<S>,
     db: &LedgerDb,
     chain: &[CheckedBlock<S>],
-    new: &CheckedBlock<S>,
+    new: &LiveBlock<S>,
 ) -> Result<Selection<S>, AllocError>
     ensures { IfOk result (IsSelectionAnswer S.verifies chain.now store.now db.now new.now) }
 {
     let mut found = Found::new(alloc);
     if stays_by_links(store, chain, new)? {
-        return Ok(keep(found, None));
+        return Ok(keep(found, None, Vec::new(alloc)));
     }
-    if !sift(alloc, store, &mut found, db.side_before(new), new)? {
-        return Ok(keep(found, None));
+    if !sift(alloc, store, &mut found, db.side_before(new.block()), new)? {
+        return Ok(keep(found, None, Vec::new(alloc)));
     }
     let immutable = immutable(chain, db);
     search(alloc, store, db, chain, immutable, new, found)

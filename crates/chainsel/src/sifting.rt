@@ -1,6 +1,8 @@
 //! What goes on from a block, judged.
 
-ghost use Rattle.std.specs.Prelude.{◌∷◌, ◌++◌, List, OnOk, IfOk, IfSome};
+ghost use Rattle.std.specs.Prelude.{◌≢◌, ◌∷◌, ◌++◌, List, OnOk, IfOk, IfErr, IfSome};
+ghost use Rattle.ledger.specs.Judgement.{IsApplyFault};
+ghost use Rattle.model.specs.Applying.{IsApplied};
 ghost use Rattle.model.specs.Genesis.{Genesis};
 ghost use Rattle.model.specs.Block.{Block};
 ghost use Rattle.model.specs.Ledger.{network_on};
@@ -13,8 +15,7 @@ ghost use Rattle.chainsel.specs.Sides.{IsSide};
 
 use crate::found::Found;
 use crate::links::{follows, is_fit};
-use block::CheckedBlock;
-use blockstore::BlockStore;
+use blockstore::{BlockStore, LiveBlock};
 use ledger::{ApplyFault, LedgerState, apply_block};
 use std::alloc::{AllocError, Global};
 use witness_pool::SigScheme;
@@ -22,17 +23,35 @@ use witness_pool::SigScheme;
 /// A block that was applied, with the state after it.
 #[derive(Drop)]
 pub struct Judged<'a, S: SigScheme> {
-    pub block: &'a CheckedBlock<S>,
+    pub block: &'a LiveBlock<S>,
     pub state: LedgerState,
+}
+
+/// Applies a live block to a state. One that is held as its text alone is read for that.
+fn apply<S: SigScheme>(
+    alloc: Global,
+    state: &LedgerState,
+    block: &LiveBlock<S>,
+) -> Result<LedgerState, ApplyFault>
+    ensures applied { IfOk result (λ after. IsApplied S.verifies state.now block.now after) }
+    ensures refused { IfErr result (λ fault.
+        fault ≢ ApplyFault.OutOfMemory → IsApplyFault S.verifies state.now block.now fault) }
+{
+    let block = match block.read(alloc) {
+        Ok(block) => block,
+        Err(AllocError) => return Err(ApplyFault::OutOfMemory),
+    };
+    apply_block(state, &block)
 }
 
 /// Judges a live block against which nothing is known, on the state of the block before it. Where it is applied it
 /// comes to wait with the state after it, and else it is found dead.
 fn judge<'a, S: SigScheme>(
+    alloc: Global,
     store: &'a BlockStore<S>,
     found: &mut Found,
     before: &Judged<'_, S>,
-    block: &'a CheckedBlock<S>,
+    block: &'a LiveBlock<S>,
     waiting: &mut Vec<Judged<'a, S>>,
 ) -> Result<(), AllocError>
     requires fit { IsFitLive store.now found.old.hashes.items block.now }
@@ -41,9 +60,9 @@ fn judge<'a, S: SigScheme>(
     ensures sifted { OnOk result (StaysSifted S.verifies store.now before.now.block.now before.now.state
         found.old.hashes.items found.new.hashes.items waiting.old.items waiting.new.items) }
 {
-    match apply_block(&before.state, block) {
+    match apply(alloc, &before.state, block) {
         Ok(state) => waiting.push(Judged { block, state })?,
-        Err(ApplyFault::Refused(_)) => found.push(block.hash())?,
+        Err(ApplyFault::Refused(_)) => found.push(block.block().hash())?,
         Err(ApplyFault::OutOfMemory) => return Err(AllocError),
     }
     Ok(())
@@ -51,6 +70,7 @@ fn judge<'a, S: SigScheme>(
 
 /// Judges the live blocks that follow this one, against which nothing is known.
 fn judge_next<'a, S: SigScheme>(
+    alloc: Global,
     store: &'a BlockStore<S>,
     found: &mut Found,
     before: &Judged<'_, S>,
@@ -60,10 +80,11 @@ fn judge_next<'a, S: SigScheme>(
     ensures sifted { OnOk result (StaysSifted S.verifies store.now before.now.block.now before.now.state
         found.old.hashes.items found.new.hashes.items waiting.old.items waiting.new.items) }
 {
-    let successors = store.successors(Some(before.block.hash()))?;
+    let last = before.block.block();
+    let successors = store.successors(Some(last.hash()))?;
     for stored in &successors {
-        if is_fit(found, stored) && follows(before.block, stored.block()) {
-            judge(store, found, before, stored.block(), waiting)?;
+        if is_fit(found, stored) && follows(last, stored.block()) {
+            judge(alloc, store, found, before, stored.live(), waiting)?;
         }
     }
     Ok(())
@@ -74,7 +95,7 @@ fn judge_behind<'a, S: SigScheme>(
     alloc: Global,
     store: &'a BlockStore<S>,
     found: &mut Found,
-    block: &'a CheckedBlock<S>,
+    block: &'a LiveBlock<S>,
     state: &LedgerState,
 ) -> Result<(), AllocError>
     ensures found { OnOk result (GainsFound store.now found.old.hashes.items found.new.hashes.items) }
@@ -89,7 +110,7 @@ fn judge_behind<'a, S: SigScheme>(
         let Some(before) = waiting.pop() else {
             return Ok(());
         };
-        judge_next(store, found, &before, &mut waiting)?;
+        judge_next(alloc, store, found, &before, &mut waiting)?;
     }
     Ok(())
 }
@@ -101,7 +122,7 @@ fn judge_on<'a, S: SigScheme>(
     store: &'a BlockStore<S>,
     found: &mut Found,
     state: &LedgerState,
-    new: &'a CheckedBlock<S>,
+    new: &'a LiveBlock<S>,
 ) -> Result<bool, AllocError>
     requires { Follows state.now.tip new.now }
     ensures found { IfOk result (λ stays. FindsDead store.now new.now stays
@@ -111,13 +132,13 @@ fn judge_on<'a, S: SigScheme>(
         → AreDead (network_on genesis S.verifies opened) chain store.now new.now found.old.hashes.items
         → AreDead (network_on genesis S.verifies opened) chain store.now new.now found.new.hashes.items) }
 {
-    match apply_block(state, new) {
+    match apply(alloc, state, new) {
         Ok(after) => {
             judge_behind(alloc, store, found, new, &after)?;
             Ok(true)
         }
         Err(ApplyFault::Refused(_)) => {
-            found.push(new.hash())?;
+            found.push(new.block().hash())?;
             Ok(false)
         }
         Err(ApplyFault::OutOfMemory) => Err(AllocError),
@@ -132,7 +153,7 @@ pub fn sift<'a, S: SigScheme>(
     store: &'a BlockStore<S>,
     found: &mut Found,
     state: Option<&LedgerState>,
-    new: &'a CheckedBlock<S>,
+    new: &'a LiveBlock<S>,
 ) -> Result<bool, AllocError>
     ensures found { IfOk result (λ stays. FindsDead store.now new.now stays
         found.old.hashes.items found.new.hashes.items) }
@@ -143,7 +164,7 @@ pub fn sift<'a, S: SigScheme>(
         → AreDead (network_on genesis S.verifies opened) chain store.now new.now found.new.hashes.items) }
 {
     match state {
-        Some(state) if state.precedes(new) => judge_on(alloc, store, found, state, new),
+        Some(state) if state.precedes(new.block()) => judge_on(alloc, store, found, state, new),
         _ => Ok(true),
     }
 }

@@ -2,7 +2,7 @@
 
 ghost use Rattle.std.specs.Prelude.{◌≡◌, ◌∷◌, ◌++◌, ◌≤◌, List, length, map, Contains, MatchOption, IfSome, IfOk};
 ghost use Rattle.std.specs.List.{AllByRecursion};
-ghost use Rattle.model.specs.Block.{Block};
+ghost use Rattle.model.specs.Block as model;
 ghost use Rattle.model.specs.Chain.{genesis_tip, tip_at, Follows, IsLinked, HaveDistinctHashes};
 ghost use Rattle.blockstore.specs.Stored.{blocks_of};
 ghost use Rattle.chainsel.specs.Paths.{IsFitLive, IsOnPath, IsWay, HasNoWay};
@@ -10,8 +10,8 @@ ghost use Rattle.chainsel.specs.Paths.{IsFitLive, IsOnPath, IsWay, HasNoWay};
 use crate::found::Found;
 use crate::furthest::Best;
 use crate::links::{follows, follows_chain, is_fit};
-use block::CheckedBlock;
-use blockstore::BlockStore;
+use block::{Block, CheckedBlock};
+use blockstore::{BlockStore, LiveBlock};
 use std::alloc::{AllocError, Global};
 use witness_pool::SigScheme;
 
@@ -26,16 +26,16 @@ pub struct Way<S: SigScheme> {
 fn live_parent<'a, S: SigScheme>(
     store: &'a BlockStore<S>,
     found: &Found,
-    block: &CheckedBlock<S>,
-) -> Option<&'a CheckedBlock<S>>
+    block: &Block,
+) -> Option<&'a LiveBlock<S>>
     ensures { MatchOption result
-        (HaveDistinctHashes (blocks_of store.now) → (b : Block) → IsFitLive store.now found.now.hashes.items b
+        (HaveDistinctHashes (blocks_of store.now) → (b : model.Block) → IsFitLive store.now found.now.hashes.items b
         → Follows (tip_at b) block.now → ⊥)
         (λ before. IsFitLive store.now found.now.hashes.items before.now × Follows (tip_at before.now) block.now) }
 {
     let stored = store.get(block.previous()?)?;
     if is_fit(found, stored) && follows(stored.block(), block) {
-        Some(stored.block())
+        Some(stored.live())
     } else {
         None
     }
@@ -44,16 +44,16 @@ fn live_parent<'a, S: SigScheme>(
 /// The last of these blocks that the other follows. It and those behind it are taken out: who goes back by blocks that
 /// stand behind the ones that they follow looks at each of them once.
 fn walked_parent<'a, S: SigScheme>(
-    walked: &mut Vec<&'a CheckedBlock<S>>,
-    block: &CheckedBlock<S>,
-) -> Option<&'a CheckedBlock<S>>
-    ensures front { (rest : List Block)
+    walked: &mut Vec<&'a LiveBlock<S>>,
+    block: &Block,
+) -> Option<&'a LiveBlock<S>>
+    ensures front { (rest : List model.Block)
         × (map (λ x. x.now) walked.old.items ≡ map (λ x. x.now) walked.new.items ++ rest) }
     ensures parent { IfSome result (λ before. Contains (map (λ x. x.now) walked.old.items) before.now
         × Follows (tip_at before.now) block.now) }
 {
     while let Some(before) = walked.pop() {
-        if follows(before, block) {
+        if follows(before.block(), block) {
             return Some(before);
         }
     }
@@ -64,23 +64,23 @@ fn walked_parent<'a, S: SigScheme>(
 fn parent<'a, S: SigScheme>(
     store: &'a BlockStore<S>,
     found: &Found,
-    new: &'a CheckedBlock<S>,
-    walked: &mut Vec<&'a CheckedBlock<S>>,
-    block: &CheckedBlock<S>,
-) -> Option<&'a CheckedBlock<S>>
+    new: &'a LiveBlock<S>,
+    walked: &mut Vec<&'a LiveBlock<S>>,
+    block: &Block,
+) -> Option<&'a LiveBlock<S>>
     requires { AllByRecursion (IsOnPath store.now found.now.hashes.items new.now) (map (λ x. x.now) walked.old.items) }
     ensures walked { AllByRecursion (IsOnPath store.now found.now.hashes.items new.now)
         (map (λ x. x.now) walked.new.items) }
     ensures parent { MatchOption result
-        (HaveDistinctHashes (blocks_of store.now) → (b : Block) → IsOnPath store.now found.now.hashes.items new.now b
-        → Follows (tip_at b) block.now → ⊥)
+        (HaveDistinctHashes (blocks_of store.now) → (b : model.Block)
+        → IsOnPath store.now found.now.hashes.items new.now b → Follows (tip_at b) block.now → ⊥)
         (λ before. IsOnPath store.now found.now.hashes.items new.now before.now
         × Follows (tip_at before.now) block.now) }
 {
     if let Some(before) = walked_parent(walked, block) {
         return Some(before);
     }
-    if follows(new, block) {
+    if follows(new.block(), block) {
         return Some(new);
     }
     live_parent(store, found, block)
@@ -94,7 +94,7 @@ pub fn way_to<'a, S: SigScheme>(
     found: &Found,
     chain: &[CheckedBlock<S>],
     immutable: usize,
-    new: &'a CheckedBlock<S>,
+    new: &'a LiveBlock<S>,
     best: Best<'a, S>,
 ) -> Result<Option<Way<S>>, AllocError>
     requires { AllByRecursion (IsOnPath store.now found.now.hashes.items new.now)
@@ -109,13 +109,13 @@ pub fn way_to<'a, S: SigScheme>(
     let Best { end, mut walked } = best;
     let mut way = Vec::new(alloc); // the newest first
     let mut first = end;
-    for keep in (immutable..end.number() as usize).rev() {
-        way.push(first.try_clone()?)?;
-        if keep <= chain.len() && follows_chain(chain, keep, first) {
+    for keep in (immutable..end.block().number() as usize).rev() {
+        way.push(first.read(alloc)?)?;
+        if keep <= chain.len() && follows_chain(chain, keep, first.block()) {
             way.reverse();
             return Ok(Some(Way { keep, blocks: way }));
         }
-        let Some(before) = parent(store, found, new, &mut walked, first) else {
+        let Some(before) = parent(store, found, new, &mut walked, first.block()) else {
             return Ok(None);
         };
         first = before;

@@ -1,4 +1,5 @@
-//! Who holds an asset: what an index of random outputs tells, beside a walk through them.
+//! Who holds an asset, and what an index keeps of some addresses or policies: what an index of random outputs tells,
+//! beside a walk through them.
 
 use crate::random::Random;
 use block::Tip;
@@ -7,13 +8,16 @@ use std::alloc::Global;
 use tx::{Address, Credential, Input, Output};
 use utxo_rules::Utxo;
 use value::{AssetQuantity, Value};
-use watching::{Holder, Watch};
+use watching::{Holder, Watch, Which};
 
 /// How many outputs a set has.
 const OUTPUTS: u16 = 30;
 
 /// How many addresses they are of.
 const ADDRESSES: usize = 5;
+
+/// How many of these are of keys.
+const KEYS: usize = 3;
 
 /// How many policies their assets have.
 const POLICIES: usize = 2;
@@ -26,10 +30,10 @@ fn policy(number: usize) -> ScriptHash {
     ScriptHash::from_bytes([(number % 256) as u8; 32])
 }
 
-/// Of two kinds; those of keys come first, as their bytes do.
+/// Of two kinds, of which two have the same hashes; those of keys come first, as their bytes do.
 fn address(number: usize) -> Option<Address> {
-    let hash = [(number % 256) as u8; 32];
-    if number < 3 {
+    let hash = [(number % KEYS) as u8; 32];
+    if number < KEYS {
         Address::new(0, Credential::Key(KeyHash::from_bytes(hash)))
     } else {
         Address::new(0, Credential::Script(ScriptHash::from_bytes(hash)))
@@ -110,11 +114,46 @@ fn is_told(watch: &Watch, policy: &ScriptHash, name: &[u8]) -> Option<bool> {
     Some(same && holders.len() == found)
 }
 
-/// Whether the index of a random set of outputs tells of each asset what a walk finds.
+/// Whether an output stands at the input just where it is meant to.
+fn is_kept(kept: &Utxo, input: &Input, is_meant: bool) -> bool {
+    kept.get(input).is_some() == is_meant
+}
+
+/// Whether an index of an address of a key and of one of a script keeps their outputs and no others, also none of the
+/// addresses of the other kind with the same hashes.
+fn keeps_addresses(alloc: Global, outputs: &Utxo) -> Option<bool> {
+    let mine = [address(1)?, address(KEYS)?];
+    let which = Which::addresses(alloc, &mine).ok()?;
+    let watch = Watch::new(alloc, Tip::genesis(), outputs, 1, which).ok()?;
+    let mut same = true;
+    for (input, output) in outputs.iter() {
+        let is_meant = output.address == mine[0] || output.address == mine[1];
+        same &= is_kept(watch.all(), &input, is_meant);
+    }
+    Some(same)
+}
+
+/// Whether an index of a policy keeps the outputs that hold some of an asset of it and no others.
+fn keeps_policy(alloc: Global, outputs: &Utxo) -> Option<bool> {
+    let which = Which::policies(alloc, &[policy(0)]).ok()?;
+    let watch = Watch::new(alloc, Tip::genesis(), outputs, 1, which).ok()?;
+    let mut same = true;
+    for (input, output) in outputs.iter() {
+        let mut sum: u128 = 0;
+        for name in NAMES {
+            sum = sum.saturating_add(quantity_in(&output.value, &policy(0), name));
+        }
+        same &= is_kept(watch.all(), &input, sum > 0);
+    }
+    Some(same)
+}
+
+/// Whether the index of a random set of outputs tells of each asset what a walk finds, and whether indexes of some of
+/// these outputs keep just those.
 fn are_told(alloc: Global, random: &mut Random) -> Option<bool> {
     let outputs = random_outputs(alloc, random)?;
-    let watch = Watch::new(alloc, Tip::genesis(), &outputs, 1).ok()?;
-    let mut same = true;
+    let watch = Watch::new(alloc, Tip::genesis(), &outputs, 1, Which::all()).ok()?;
+    let mut same = keeps_addresses(alloc, &outputs)? && keeps_policy(alloc, &outputs)?;
     for number in 0..=POLICIES {
         for name in NAMES {
             same &= is_told(&watch, &policy(number), name)?;

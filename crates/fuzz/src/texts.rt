@@ -84,16 +84,16 @@ fn payment_again(alloc: Global, bytes: &[u8]) -> Option<Vec<u8>> {
 
 /// Writes the block of the bytes again.
 fn block_again(alloc: Global, bytes: &[u8]) -> Option<Vec<u8>> {
-    match block::read(alloc, bytes) {
-        Ok(block) => block::write(
+    match block::look(alloc, bytes) {
+        Ok(Ok(block)) => block::write(
             alloc,
-            block.number(),
-            block.slot(),
-            block.previous(),
+            block.header().number,
+            block.header().slot,
+            block.header().previous,
             block.transactions(),
         )
         .ok(),
-        Err(_) => None,
+        Ok(Err(_)) | Err(_) => None,
     }
 }
 

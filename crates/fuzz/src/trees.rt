@@ -1,16 +1,14 @@
 //! Random trees of blocks, good and bad, that arrive at three cores: as they come by chance; before the blocks that go
 //! on from them; and in another order at a core that was opened anew. Each is to select one of the longest chains of
-//! good blocks, which is looked for here block by block. An index follows one of them.
+//! good blocks, which is looked for here block by block. Indexes follow one of them.
 
 use crate::changing::put;
 use crate::random::Random;
-use crate::watched;
-use block::Tip;
+use crate::watched::{self, Watches};
 use chain_core::Core;
 use genesis::Genesis;
 use ident::BlockHash;
 use std::alloc::Global;
-use watching::Watch;
 use witness_pool::TestScheme;
 
 /// How many blocks a tree has.
@@ -167,22 +165,22 @@ fn arrive_all(core: &mut Core<TestScheme>, texts: &[Vec<u8>], order: &[usize]) {
     }
 }
 
-/// The texts have come in the order of these places, at a core with a follower, whose instructions an index carries out
-/// after each. None where the index doesn't have what the core has.
+/// The texts have come in the order of these places, at a core with a follower, whose instructions indexes carry out
+/// after each. None where these don't have what the core has.
 fn arrive_watched(
     alloc: Global,
     core: &mut Core<TestScheme>,
     tree: &Tree,
     order: &[usize],
 ) -> Option<()> {
-    let mut watch = Watch::new(alloc, Tip::genesis(), core.utxo(), WATCHED_BACK).ok()?;
     let granted = core.utxo().iter().next()?.1.address;
+    let mut watches = Watches::new(alloc, core.utxo(), WATCHED_BACK, &granted)?;
     let follower = core.open().ok()?;
     for place in order {
         if let Some(text) = tree.texts.get(*place) {
             let _ = core.arrive(text);
         }
-        if !watched::agrees(core, follower, &mut watch, &granted) {
+        if !watched::agrees(core, follower, &mut watches, &granted) {
             return None;
         }
     }

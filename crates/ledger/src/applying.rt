@@ -72,7 +72,7 @@ fn with_block<S: SigScheme>(
 {
     let (fees, tip) = (state.fees, state.tip);
     let (mut after, diffs) = state.with_transactions(block.slot(), block.transactions())?;
-    after.tip = Tip::at(block);
+    after.tip = Tip::at(block.block());
     Ok((after, BlockDiff { diffs, tip, fees }))
 }
 

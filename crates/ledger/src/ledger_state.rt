@@ -13,13 +13,12 @@ ghost use Rattle.model.specs.Applying.{opening_state, IsStateOf};
 ghost use Rattle.utxo_rules.specs.View.{params_of};
 
 use crate::opening::{open_params, open_utxo};
-use block::{CheckedBlock, Tip};
+use block::{Block, Tip};
 use genesis::Genesis;
 use ident::Point;
 use std::alloc::{AllocError, Global};
 use std::marker::Model;
 use utxo_rules::{Params, Utxo};
-use witness_pool::SigScheme;
 
 /// What a chain leaves: its unspent outputs, its fees and where it ends, with what the network asks of the next block.
 /// A copy takes no memory and shares what the two have in common, so that a program can keep thousands of states. What
@@ -119,7 +118,7 @@ impl LedgerState {
 
     /// Whether the block may come next, by its header alone: it has the number after that of the last block, names that
     /// one as the block before it, and has a later slot. Takes no memory.
-    pub fn precedes<S: SigScheme>(&self, block: &CheckedBlock<S>) -> bool
+    pub fn precedes(&self, block: &Block) -> bool
         ensures { IsTrue result ↔ Follows self.now.tip block.now }
     {
         self.tip.precedes(block)

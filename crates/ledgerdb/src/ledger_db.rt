@@ -4,7 +4,7 @@ use crate::applying::apply_all;
 use crate::diffs::{drop_newest, drop_oldest, nth_newest, undo_last};
 use crate::fork_fault::ForkFault;
 use crate::prepared::Prepared;
-use block::CheckedBlock;
+use block::{Block, CheckedBlock};
 use ledger::{BlockDiff, LedgerState, misfit_before};
 use std::alloc::{AllocError, Global};
 use std::collections::LinkedList;
@@ -210,7 +210,7 @@ impl LedgerDb {
     }
 
     /// The state beside the chain that the block may come next after, if one is kept. Takes no memory.
-    pub fn side_before<S: SigScheme>(&self, block: &CheckedBlock<S>) -> Option<&LedgerState>
+    pub fn side_before(&self, block: &Block) -> Option<&LedgerState>
         ensures { MatchOption result
             (AllByRecursion (λ s. Follows s.tip block.now → ⊥) self.now.sides)
             (λ s. Contains self.now.sides s.now × Follows s.now.tip block.now) }

@@ -63,21 +63,21 @@ IsPartTold asset pairs told rest =
 
 -- ---- no sum is below nothing
 
-abbrev IsWhole : ℤ → Type 0
+abbrev pub IsWhole : ℤ → Type 0
 IsWhole z = (n : ℕ) × (z ≡ pos n)
 
 both_whole : (y z : ℤ) → IsWhole y → IsWhole z → IsWhole (y +ℤ z)
 both_whole y z a b = (a.0 + b.0, ap (λ (x : ℤ). x +ℤ z) a.1 ∙ ap (λ (x : ℤ). pos a.0 +ℤ x) b.1)
 
-if_whole : (b : Bool) (z : ℤ) → IsWhole z → IsWhole (if b then z else pos 0)
+pub if_whole : (b : Bool) (z : ℤ) → IsWhole z → IsWhole (if b then z else pos 0)
 if_whole true z whole = whole
 if_whole false z whole = (0, refl)
 
-named_whole : (name : List ℕ) (ts : List (Token ℕ)) → IsWhole (named_amount pos name ts)
+pub named_whole : (name : List ℕ) (ts : List (Token ℕ)) → IsWhole (named_amount pos name ts)
 named_whole name [] = (0, refl)
 named_whole name (t ∷ ts) = both_whole _ _ (if_whole (bytes_eq name t.name) (pos t.quantity) (t.quantity, refl)) (named_whole name ts)
 
-policy_whole : (policy name : List ℕ) (ps : List (Policy ℕ)) → IsWhole (policy_amount pos policy name ps)
+pub policy_whole : (policy name : List ℕ) (ps : List (Policy ℕ)) → IsWhole (policy_amount pos policy name ps)
 policy_whole policy name [] = (0, refl)
 policy_whole policy name (p ∷ ps) = both_whole _ _ (if_whole (bytes_eq policy p.id) (named_amount pos name p.tokens) (named_whole name p.tokens)) (policy_whole policy name ps)
 

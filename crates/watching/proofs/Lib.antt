@@ -1,5 +1,9 @@
 mod Owning
 mod Sifted
+mod Choosing
+mod Meaning
+mod Narrowing
+mod Gathering
 mod Changing
 mod Entering
 mod Advancing

@@ -6,6 +6,7 @@ use Rattle.model.specs.Block.{Block}
 use Rattle.model.specs.Chain.{Tip, Point, Follows, IsLinked, genesis_tip, tip_after}
 use Rattle.model.specs.Follower.{Instruction, Stay, AddBlock, RollBack, IsReplayed, AreReplayed}
 use Rattle.model.proofs.Chains.{tip_after-append, tip_number, linked_rest}
+use Rattle.watching.specs.Which.{Which}
 use Rattle.watching.specs.Chains.{Version, Watched, with_block, first_version, rolled_back, back_by, point_at, IsIndexOf}
 use Rattle.watching.specs.Ledgers.{IsTaken}
 use Rattle.watching.specs.Due.{NextAreTaken, PointsAreKept, ReachesBack, AreWithin, ReachStays}
@@ -23,7 +24,8 @@ taken_few (suc n) (b ∷ bs) = let rest = taken_few n bs in omega (arith, rest)
 
 pub points_kept : PointsAreKept
 points_kept granted past since after w point of replayed within =
-    let first = first_version granted past in
+    let which = w.which in
+    let first = first_version which granted past in
     let chain = past ++ since in
     let linked : IsLinked genesis_tip after = subst (IsLinked genesis_tip) (sym replayed.0) (taken_linked genesis_tip point.number chain of.linked) in
     let counted : (tip_after genesis_tip after).number ≡ 0 + length after = tip_number genesis_tip after linked in
@@ -32,14 +34,14 @@ points_kept granted past since after w point of replayed within =
     let few : point.number ≤ length chain = let most = taken_few point.number chain in omega (arith, counted, named, cut, most) in
     let back = length chain - point.number in
     let enough : back ≤ length w.older = omega (arith, within) in
-    let left = blocks_left first since back w.k w.last w.older enough of.last of.versions in
+    let left = blocks_left which first since back w.k w.last w.older enough of.last of.versions in
     let n = length since - back in
     let long : back ≤ length since = left.long in
     let whole : length chain ≡ length past + length since = length-append past since in
     let same : length past + n ≡ point.number = omega (arith, few, long, whole) in
     let front : past ++ take n since ≡ after = sym (taken_front past since n) ∙ ap (λ (m : ℕ). take m chain) same ∙ sym replayed.0 in
-    let tip : (rolled_back back w.k w.last w.older).last.tip ≡ tip_after genesis_tip after =
-    ap (λ (v : Version). v.tip) left.last ∙ version_tip first (take n since) ∙ sym (tip_after-append genesis_tip past (take n since)) ∙ ap (tip_after genesis_tip) front in
+    let tip : (rolled_back back w.k which w.last w.older).last.tip ≡ tip_after genesis_tip after =
+    ap (λ (v : Version). v.tip) left.last ∙ version_tip which first (take n since) ∙ sym (tip_after-append genesis_tip past (take n since)) ∙ ap (tip_after genesis_tip) front in
     record { back = back; within = enough; ends = ap point_at tip ∙ replayed.1 }
 
 -- ---- how far back it reaches
@@ -50,15 +52,15 @@ taken_or zero xs = inl refl
 taken_or (suc k) [] = inr refl
 taken_or (suc k) (x ∷ xs) = elim (taken_or k xs) [ inl are ↦ inl (ap suc are) | inr are ↦ inr (ap suc are) ]
 
-left_older : (back k : ℕ) (v : Version) (vs : List Version) → back ≤ length vs → length (rolled_back back k v vs).older + back ≡ length vs
-left_older zero k v vs within = omega arith
-left_older (suc back) k v [] within = absurd (omega (arith, within))
-left_older (suc back) k v (x ∷ vs) within = let rest = left_older back k x vs (omega (arith, within)) in omega (arith, rest)
+left_older : (back k : ℕ) (which : Which) (v : Version) (vs : List Version) → back ≤ length vs → length (rolled_back back k which v vs).older + back ≡ length vs
+left_older zero k which v vs within = omega arith
+left_older (suc back) k which v [] within = absurd (omega (arith, within))
+left_older (suc back) k which v (x ∷ vs) within = let rest = left_older back k which x vs (omega (arith, within)) in omega (arith, rest)
 
-same_k : (back k : ℕ) (v : Version) (vs : List Version) → (rolled_back back k v vs).k ≡ k
-same_k zero k v vs = refl
-same_k (suc back) k v [] = refl
-same_k (suc back) k v (x ∷ vs) = same_k back k x vs
+same_k : (back k : ℕ) (which : Which) (v : Version) (vs : List Version) → (rolled_back back k which v vs).k ≡ k
+same_k zero k which v vs = refl
+same_k (suc back) k which v [] = refl
+same_k (suc back) k which v (x ∷ vs) = same_k back k which x vs
 
 reach_with : (furthest begun height next : ℕ) (w new : Watched) (b : Block) → new ≡ with_block w b → next ≡ height + 1 → next ≤ furthest → ReachesBack furthest begun height w → ReachesBack furthest begun next new
 reach_with furthest begun height next w new b is more few reach =
@@ -70,8 +72,8 @@ reach_with furthest begun height next w new b is more few reach =
 
 reach_back : (furthest begun height next back : ℕ) (w new : Watched) → new ≡ back_by back w → back ≤ length w.older → next + back ≡ height → ReachesBack furthest begun height w → ReachesBack furthest begun next new
 reach_back furthest begun height next back w new is within less reach =
-    let older = left_older back w.k w.last w.older within in
-    let k = same_k back w.k w.last w.older in
+    let older = left_older back w.k w.which w.last w.older within in
+    let k = same_k back w.k w.which w.last w.older in
     subst (ReachesBack furthest begun next) (sym is)
     (elim reach [
       | inl near ↦ inl (omega (arith, older, less, near))
@@ -87,7 +89,7 @@ reach_one furthest granted past since next (AddBlock bytes) old new of taken rep
     let long : length next ≡ length (past ++ since) + 1 = let are = ap length replayed.2 in omega (arith, are, length-append (past ++ since) (replayed.0 ∷ [])) in
     reach_with furthest (length past) (length (past ++ since)) (length next) old new taken.0 taken.3 long few reach
 reach_one furthest granted past since next (RollBack point) old new of taken replayed few reach =
-    let left = blocks_left (first_version granted past) since taken.back old.k old.last old.older taken.within of.last of.versions in
+    let left = blocks_left old.which (first_version old.which granted past) since taken.back old.k old.last old.older taken.within of.last of.versions in
     let to = rolled_to granted past since old new point taken of in
     let is : next ≡ past ++ to.since = replayed.0 ∙ to.goes_on in
     let whole : length (past ++ since) ≡ length past + length since = length-append past since in

@@ -1,16 +1,16 @@
 -- Outputs in the order of their inputs: those of an owner, and all of them put in again.
 use Rattle.std.proofs.Common.{◌≡◌, ℕ, Bool, true, false, cond, List, [], ◌∷◌, Option, Some, None, refl, sym, ap, ◌∙◌}
-use Rattle.std.specs.Prelude.{T, ◌&&◌, filter}
+use Rattle.std.specs.Prelude.{T, ◌&&◌, filter, bytes_eq}
 use Rattle.std.specs.FinMap as finite
 use Rattle.std.specs.FinMap.{find, is_sorted}
 use Rattle.std.specs.FinMap.Entries.{below_all, same_entries}
 use Rattle.std.specs.Ordering.{eq_by_cmp, is_lt}
-use Rattle.model.specs.Transaction.{Input, Output, input_cmp}
+use Rattle.model.specs.Transaction.{Input, Output, input_cmp, address_bytes}
 use Rattle.model.specs.Utxo.{Utxo, output_at, with_pairs}
 use Rattle.model.proofs.Unspent.{inputs_total, inputs_same, same_pairs, same_from, at_inserted}
 use Rattle.model.proofs.UtxoSums.{below_none, first, second}
 use Rattle.utxo_rules.specs.Entries.{has_address, pairs_with}
-use Rattle.watching.specs.Owned.{Owned, owned_at, only_of, AreOwned}
+use Rattle.watching.specs.Owned.{Owned, owned_at, only_if, only_of, AreOwned}
 
 both : (a b : Bool) → T a → T b → T (a && b)
 both true b p q = q
@@ -25,7 +25,7 @@ below_sifted x p (e ∷ es) h =
       | false ↦ rest
     ]
 
-sorted_sifted : (p : Input × Output → Bool) (es : List (Input × Output)) → T (is_sorted input_cmp es) → T (is_sorted input_cmp (filter p es))
+pub sorted_sifted : (p : Input × Output → Bool) (es : List (Input × Output)) → T (is_sorted input_cmp es) → T (is_sorted input_cmp (filter p es))
 sorted_sifted p [] h = tt
 sorted_sifted p (e ∷ es) h =
     let rest = sorted_sifted p es (second (below_all input_cmp e.0 es) (is_sorted input_cmp es) h) in
@@ -35,22 +35,22 @@ sorted_sifted p (e ∷ es) h =
     ]
 
 -- the first of a sorted list is none of the others
-first_apart : (q : Input) (e : Input × Output) (es : List (Input × Output)) → T (is_sorted input_cmp (e ∷ es)) → eq_by_cmp input_cmp q e.0 ≡ true → find input_cmp q es ≡ None
+pub first_apart : (q : Input) (e : Input × Output) (es : List (Input × Output)) → T (is_sorted input_cmp (e ∷ es)) → eq_by_cmp input_cmp q e.0 ≡ true → find input_cmp q es ≡ None
 first_apart q e es h here =
     ap (λ (i : Input). find input_cmp i es) (same_from q e.0 here) ∙ below_none e.0 es (first (below_all input_cmp e.0 es) (is_sorted input_cmp es) h)
 
--- what is found among an owner's outputs
-found_sifted : (owner : List ℕ) (q : Input) (es : List (Input × Output)) → T (is_sorted input_cmp es) → find input_cmp q (pairs_with owner es) ≡ only_of owner (find input_cmp q es)
-found_sifted owner q [] h = refl
-found_sifted owner q (e ∷ es) h =
-    let rest = found_sifted owner q es (second (below_all input_cmp e.0 es) (is_sorted input_cmp es) h) in
-    let left = pairs_with owner es in
-    elim (eq_by_cmp input_cmp q e.0) as (λ t. eq_by_cmp input_cmp q e.0 ≡ t → find input_cmp q (cond (has_address owner e) (e ∷ left) left) ≡ only_of owner (cond t (Some e.1) (find input_cmp q es))) [
-      | true ↦ λ here. elim (has_address owner e) as (λ b. find input_cmp q (cond b (e ∷ left) left) ≡ cond b (Some e.1) None) [
+-- what is found among outputs that pass a test
+pub found_sifted : (test : Output → Bool) (q : Input) (es : List (Input × Output)) → T (is_sorted input_cmp es) → find input_cmp q (filter (λ e. test e.1) es) ≡ only_if test (find input_cmp q es)
+found_sifted test q [] h = refl
+found_sifted test q (e ∷ es) h =
+    let rest = found_sifted test q es (second (below_all input_cmp e.0 es) (is_sorted input_cmp es) h) in
+    let left = filter (λ (e : Input × Output). test e.1) es in
+    elim (eq_by_cmp input_cmp q e.0) as (λ t. eq_by_cmp input_cmp q e.0 ≡ t → find input_cmp q (cond (test e.1) (e ∷ left) left) ≡ only_if test (cond t (Some e.1) (find input_cmp q es))) [
+      | true ↦ λ here. elim (test e.1) as (λ b. find input_cmp q (cond b (e ∷ left) left) ≡ cond b (Some e.1) None) [
         | true ↦ ap (λ (t : Bool). cond t (Some e.1) (find input_cmp q left)) here
-        | false ↦ rest ∙ ap (only_of owner) (first_apart q e es h here)
+        | false ↦ rest ∙ ap (only_if test) (first_apart q e es h here)
       ]
-      | false ↦ λ elsewhere. elim (has_address owner e) as (λ b. find input_cmp q (cond b (e ∷ left) left) ≡ only_of owner (find input_cmp q es)) [
+      | false ↦ λ elsewhere. elim (test e.1) as (λ b. find input_cmp q (cond b (e ∷ left) left) ≡ only_if test (find input_cmp q es)) [
         | true ↦ ap (λ (t : Bool). cond t (Some e.1) (find input_cmp q left)) elsewhere ∙ rest
         | false ↦ rest
       ]
@@ -62,7 +62,7 @@ owner_entries owned all owner are =
     let mine = owned_at owned owner in
     let es = finite.entries all in
     same_entries input_cmp inputs_total inputs_same (finite.entries mine) (pairs_with owner es) (finite.entries_sorted mine) (sorted_sifted (has_address owner) es (finite.entries_sorted all))
-    (λ q. sym (finite.get-entries mine q) ∙ are owner q ∙ ap (only_of owner) (finite.get-entries all q) ∙ sym (found_sifted owner q es (finite.entries_sorted all)))
+    (λ q. sym (finite.get-entries mine q) ∙ are owner q ∙ ap (only_of owner) (finite.get-entries all q) ∙ sym (found_sifted (λ o. bytes_eq (address_bytes o.address) owner) q es (finite.entries_sorted all)))
 
 -- ---- outputs that are put in, one after the other
 
@@ -90,16 +90,3 @@ put_again outputs = same_pairs (with_pairs (finite.entries outputs) finite.empty
     at_all (finite.entries outputs) finite.empty q (finite.entries_sorted outputs)
     ∙ ap (λ (o : Option Output). or_else (find input_cmp q (finite.entries outputs)) o) (finite.get-empty input_cmp q)
     ∙ or_nothing (find input_cmp q (finite.entries outputs)) ∙ sym (finite.get-entries outputs q))
-
--- with those that are left to put in, the index has all
-abbrev pub IsPartPut : (outputs now : Utxo) → (rest : List (Input × Output)) → Type 0
-IsPartPut outputs now rest = with_pairs rest now ≡ outputs
-
-pub none_put : (outputs now : Utxo) (rest : List (Input × Output)) → now ≡ finite.empty → rest ≡ finite.entries outputs → IsPartPut outputs now rest
-none_put outputs now rest none all = ap (with_pairs rest) none ∙ ap (λ (es : List (Input × Output)). with_pairs es finite.empty) all ∙ put_again outputs
-
-pub one_put : (outputs now new : Utxo) (left rest : List (Input × Output)) (input : Input) (x : Output) → left ≡ (input, x) ∷ rest → new ≡ finite.insert now input x → IsPartPut outputs now left → IsPartPut outputs new rest
-one_put outputs now new left rest input x is inserted part = ap (with_pairs rest) inserted ∙ ap (λ (es : List (Input × Output)). with_pairs es now) (sym is) ∙ part
-
-pub all_put : (outputs now : Utxo) (rest : List (Input × Output)) → rest ≡ [] → IsPartPut outputs now rest → now ≡ outputs
-all_put outputs now rest none part = ap (λ (es : List (Input × Output)). with_pairs es now) (sym none) ∙ part

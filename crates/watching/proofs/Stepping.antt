@@ -4,6 +4,8 @@ use Rattle.std.proofs.lemmas.List.{take_all}
 use Rattle.std.proofs.lemmas.Bool.{cases_lt}
 use Rattle.model.specs.Block.{Block}
 use Rattle.model.specs.Chain.{Tip, Point, tip_at}
+use Rattle.watching.specs.Which.{Which, AreWatched}
+use Rattle.watching.specs.View.{AreAllWatched}
 use Rattle.watching.specs.Chains.{Tables, tables_after_all, Version, Watched, with_block, rolled_back, back_by, point_at, CanRollBack, IsRolledBack}
 use Rattle.watching.specs.Changes.{Change, Difference, all_put_back, before_blocks, versions_before, tip_back}
 
@@ -88,59 +90,85 @@ all_undone all left old now count back few done part =
     part.state ∙ ap (λ (ss : List Difference). before_blocks ss old)
     (sym (taken_first part.undone left) ∙ ap (λ (ss : List Difference). take (length part.undone) ss) part.parts ∙ ap (λ (m : ℕ). take m all) at)
 
-pub rolled : (back k : ℕ) (tip : Tip) (u : Tables) (ss : List Difference) → back ≤ length ss
-    → rolled_back back k (record { tip = tip; tables = u }) (versions_before u ss)
-    ≡ record { k = k; last = record { tip = tip_back back tip ss; tables = before_blocks (take back ss) u }; older = versions_before (before_blocks (take back ss) u) (drop back ss) }
-rolled zero k tip u ss within = refl
-rolled (suc back) k tip u [] within = absurd (omega (arith, within))
-rolled (suc back) k tip u (s ∷ ss) within = rolled back k s.tip (all_put_back s.changes u) ss (omega (arith, within))
+pub rolled : (back k : ℕ) (which : Which) (tip : Tip) (u : Tables) (ss : List Difference) → back ≤ length ss
+    → rolled_back back k which (record { tip = tip; tables = u }) (versions_before u ss)
+    ≡ record { k = k; which = which; last = record { tip = tip_back back tip ss; tables = before_blocks (take back ss) u }; older = versions_before (before_blocks (take back ss) u) (drop back ss) }
+rolled zero k which tip u ss within = refl
+rolled (suc back) k which tip u [] within = absurd (omega (arith, within))
+rolled (suc back) k which tip u (s ∷ ss) within = rolled back k which s.tip (all_put_back s.changes u) ss (omega (arith, within))
 
 -- ---- a block more, and blocks less
 
-pub block_on : (k : ℕ) (tip at : Tip) (old new : Tables) (changes : List Change) (ss left : List Difference) (b : Block) (w : Watched)
-    → record { k = k; last = record { tip = tip; tables = old }; older = versions_before old ss } ≡ w → at ≡ tip_at b → new ≡ tables_after_all b.header 0 old b.transactions → all_put_back changes new ≡ old
-    → left ≡ take k (record { tip = tip; changes = changes } ∷ ss) → record { k = k; last = record { tip = at; tables = new }; older = versions_before new left } ≡ with_block w b
-block_on k tip at old new changes ss left b w view ends are back is =
+pub newest_watched : (which : Which) (u : Tables) (ss : List Difference) → AreAllWatched which u ss → AreWatched which u.outputs
+newest_watched which u [] are = are
+newest_watched which u (s ∷ ss) are = are.0
+
+few_watched : (which : Which) (n : ℕ) (u : Tables) (ss : List Difference) → AreAllWatched which u ss → AreAllWatched which u (take n ss)
+few_watched which zero u ss are = newest_watched which u ss are
+few_watched which (suc n) u [] are = are
+few_watched which (suc n) u (s ∷ ss) are = (are.0, few_watched which n (all_put_back s.changes u) ss are.1)
+
+-- no version has an output that isn't watched: with a block more
+pub more_watched : (which : Which) (k : ℕ) (old new : Tables) (s : Difference) (ss left : List Difference) → all_put_back s.changes new ≡ old → left ≡ take k (s ∷ ss)
+    → AreWatched which new.outputs → AreAllWatched which old ss → AreAllWatched which new left
+more_watched which k old new s ss left back is now before =
+    let all : AreAllWatched which new (s ∷ ss) = (now, subst (λ (u : Tables). AreAllWatched which u ss) (sym back) before) in
+    subst (AreAllWatched which new) (sym is) (few_watched which k new (s ∷ ss) all)
+
+older_watched : (which : Which) (back : ℕ) (u : Tables) (ss : List Difference) → AreAllWatched which u ss → AreAllWatched which (before_blocks (take back ss) u) (drop back ss)
+older_watched which zero u ss are = are
+older_watched which (suc back) u [] are = are
+older_watched which (suc back) u (s ∷ ss) are = older_watched which back (all_put_back s.changes u) ss are.1
+
+-- and with blocks less
+pub less_watched : (which : Which) (back : ℕ) (u new : Tables) (ss left : List Difference) → new ≡ before_blocks (take back ss) u → left ≡ drop back ss → AreAllWatched which u ss → AreAllWatched which new left
+less_watched which back u new ss left is dropped are =
+    subst (λ (v : Tables). AreAllWatched which v left) (sym is) (subst (AreAllWatched which (before_blocks (take back ss) u)) (sym dropped) (older_watched which back u ss are))
+
+pub block_on : (k : ℕ) (which : Which) (tip at : Tip) (old new : Tables) (changes : List Change) (ss left : List Difference) (b : Block) (w : Watched)
+    → record { k = k; which = which; last = record { tip = tip; tables = old }; older = versions_before old ss } ≡ w → at ≡ tip_at b → new ≡ tables_after_all which b.header 0 old b.transactions → all_put_back changes new ≡ old
+    → left ≡ take k (record { tip = tip; changes = changes } ∷ ss) → record { k = k; which = which; last = record { tip = at; tables = new }; older = versions_before new left } ≡ with_block w b
+block_on k which tip at old new changes ss left b w view ends are back is =
     let before = kept_steps k old new (record { tip = tip; changes = changes }) ss left back is in
-    let was : Watched = record { k = k; last = record { tip = tip; tables = old }; older = versions_before old ss } in
-    let whole : record { k = k; last = record { tip = at; tables = new }; older = versions_before new left } ≡ with_block was b =
-    λ i. record { k = k; last = record { tip = ends i; tables = are i }; older = before i } in
+    let was : Watched = record { k = k; which = which; last = record { tip = tip; tables = old }; older = versions_before old ss } in
+    let whole : record { k = k; which = which; last = record { tip = at; tables = new }; older = versions_before new left } ≡ with_block was b =
+    λ i. record { k = k; which = which; last = record { tip = ends i; tables = are i }; older = before i } in
     whole ∙ ap (λ (v : Watched). with_block v b) view
 
-within_versions : (back k : ℕ) (tip : Tip) (u : Tables) (ss : List Difference) (w : Watched) → record { k = k; last = record { tip = tip; tables = u }; older = versions_before u ss } ≡ w → length w.older ≡ length ss
-within_versions back k tip u ss w view = sym (ap (λ (v : Watched). length v.older) view) ∙ versions_length u ss
+within_versions : (back k : ℕ) (which : Which) (tip : Tip) (u : Tables) (ss : List Difference) (w : Watched) → record { k = k; which = which; last = record { tip = tip; tables = u }; older = versions_before u ss } ≡ w → length w.older ≡ length ss
+within_versions back k which tip u ss w view = sym (ap (λ (v : Watched). length v.older) view) ∙ versions_length u ss
 
-rolled_tip : (back k : ℕ) (tip : Tip) (u : Tables) (ss : List Difference) (w : Watched) → record { k = k; last = record { tip = tip; tables = u }; older = versions_before u ss } ≡ w → back ≤ length ss
+rolled_tip : (back k : ℕ) (which : Which) (tip : Tip) (u : Tables) (ss : List Difference) (w : Watched) → record { k = k; which = which; last = record { tip = tip; tables = u }; older = versions_before u ss } ≡ w → back ≤ length ss
     → (back_by back w).last.tip ≡ tip_back back tip ss
-rolled_tip back k tip u ss w view within =
-    sym (ap (λ (v : Watched). (back_by back v).last.tip) view) ∙ ap (λ (v : Watched). v.last.tip) (rolled back k tip u ss within)
+rolled_tip back k which tip u ss w view within =
+    sym (ap (λ (v : Watched). (back_by back v).last.tip) view) ∙ ap (λ (v : Watched). v.last.tip) (rolled back k which tip u ss within)
 
 -- the point is that of a version
-pub kept_there : (back k : ℕ) (tip to : Tip) (u : Tables) (ss : List Difference) (point : Point) (w : Watched) → record { k = k; last = record { tip = tip; tables = u }; older = versions_before u ss } ≡ w
+pub kept_there : (back k : ℕ) (which : Which) (tip to : Tip) (u : Tables) (ss : List Difference) (point : Point) (w : Watched) → record { k = k; which = which; last = record { tip = tip; tables = u }; older = versions_before u ss } ≡ w
     → back ≤ length ss → to ≡ tip_back back tip ss → point_at to ≡ point → CanRollBack w point
-kept_there back k tip to u ss point w view within is ends = record {
+kept_there back k which tip to u ss point w view within is ends = record {
   back = back;
-  within = (let many = within_versions back k tip u ss w view in omega (arith, many, within));
-  ends = ap point_at (rolled_tip back k tip u ss w view within ∙ sym is) ∙ ends;
+  within = (let many = within_versions back k which tip u ss w view in omega (arith, many, within));
+  ends = ap point_at (rolled_tip back k which tip u ss w view within ∙ sym is) ∙ ends;
 }
 
 -- or of none
-pub kept_nowhere : (k : ℕ) (tip : Tip) (u : Tables) (ss : List Difference) (point : Point) (w : Watched) → record { k = k; last = record { tip = tip; tables = u }; older = versions_before u ss } ≡ w
+pub kept_nowhere : (k : ℕ) (which : Which) (tip : Tip) (u : Tables) (ss : List Difference) (point : Point) (w : Watched) → record { k = k; which = which; last = record { tip = tip; tables = u }; older = versions_before u ss } ≡ w
     → ((back : ℕ) → back ≤ length ss → point_at (tip_back back tip ss) ≡ point → ⊥) → CanRollBack w point → ⊥
-kept_nowhere k tip u ss point w view none tables =
-    let within : tables.back ≤ length ss = let many = within_versions tables.back k tip u ss w view in let few = tables.within in omega (arith, many, few) in
-    none tables.back within (ap point_at (sym (rolled_tip tables.back k tip u ss w view within)) ∙ tables.ends)
+kept_nowhere k which tip u ss point w view none tables =
+    let within : tables.back ≤ length ss = let many = within_versions tables.back k which tip u ss w view in let few = tables.within in omega (arith, many, few) in
+    none tables.back within (ap point_at (sym (rolled_tip tables.back k which tip u ss w view within)) ∙ tables.ends)
 
-pub rolled_there : (back k : ℕ) (tip to : Tip) (u new : Tables) (ss left : List Difference) (point : Point) (w : Watched) → record { k = k; last = record { tip = tip; tables = u }; older = versions_before u ss } ≡ w
+pub rolled_there : (back k : ℕ) (which : Which) (tip to : Tip) (u new : Tables) (ss left : List Difference) (point : Point) (w : Watched) → record { k = k; which = which; last = record { tip = tip; tables = u }; older = versions_before u ss } ≡ w
     → back ≤ length ss → to ≡ tip_back back tip ss → new ≡ before_blocks (take back ss) u → left ≡ drop back ss → point_at to ≡ point
-    → IsRolledBack w point (record { k = k; last = record { tip = to; tables = new }; older = versions_before new left })
-rolled_there back k tip to u new ss left point w view within is are dropped ends =
-    let few : back ≤ length w.older = let many = within_versions back k tip u ss w view in omega (arith, many, within) in
+    → IsRolledBack w point (record { k = k; which = which; last = record { tip = to; tables = new }; older = versions_before new left })
+rolled_there back k which tip to u new ss left point w view within is are dropped ends =
+    let few : back ≤ length w.older = let many = within_versions back k which tip u ss w view in omega (arith, many, within) in
     let before : versions_before new left ≡ versions_before (before_blocks (take back ss) u) (drop back ss) = λ i. versions_before (are i) (dropped i) in
-    let one : Watched = record { k = k; last = record { tip = to; tables = new }; older = versions_before new left } in
-    let other : Watched = record { k = k; last = record { tip = tip_back back tip ss; tables = before_blocks (take back ss) u }; older = versions_before (before_blocks (take back ss) u) (drop back ss) } in
-    let whole : one ≡ other = λ i. record { k = k; last = record { tip = is i; tables = are i }; older = before i } in
-    record { back = back; within = few; is = whole ∙ sym (rolled back k tip u ss within) ∙ ap (back_by back) view; ends = ends }
+    let one : Watched = record { k = k; which = which; last = record { tip = to; tables = new }; older = versions_before new left } in
+    let other : Watched = record { k = k; which = which; last = record { tip = tip_back back tip ss; tables = before_blocks (take back ss) u }; older = versions_before (before_blocks (take back ss) u) (drop back ss) } in
+    let whole : one ≡ other = λ i. record { k = k; which = which; last = record { tip = is i; tables = are i }; older = before i } in
+    record { back = back; within = few; is = whole ∙ sym (rolled back k which tip u ss within) ∙ ap (back_by back) view; ends = ends }
 
 -- ---- the step whose chain ended at a point
 

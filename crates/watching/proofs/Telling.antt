@@ -14,18 +14,21 @@ use Rattle.std.specs.Cmp.{tied_itself, nat_cmp_is}
 use Rattle.std.proofs.lemmas.Bool.{false_from_ne_true}
 use Rattle.std.proofs.lemmas.Slice.Eq.{bytes_eq-Decides}
 use Rattle.model.specs.Transaction.{Transaction, transaction_id_of}
-use Rattle.model.specs.Utxo.{Utxo}
+use Rattle.model.specs.Utxo.{Utxo, utxo_after}
+use Rattle.model.specs.Mempool.{utxo_after_all}
 use Rattle.model.specs.Block.{Block, Header}
 use Rattle.model.specs.Chain.{genesis_tip, IsLinked}
 use Rattle.model.proofs.Chains.{linked_rest}
 use Rattle.persistent_map.proofs.ForCallers.{empty_of}
 use Rattle.watching.specs.Owned.{owner_cmp}
-use Rattle.watching.specs.Histories.{Inclusion, inclusion_in, inclusion_cmp, History, Histories, history_at, with_entry, with_entries, owners_in}
+use Rattle.watching.specs.Histories.{Inclusion, inclusion_in, inclusion_cmp, History, Histories, Inclusions, history_at, with_entry, with_entries, owners_in, is_told}
+use Rattle.watching.specs.Which.{Which, watched_among}
 use Rattle.watching.specs.Chains.{Tables, tables_after, tables_after_all, Version, version_after, version_after_all, first_version, unspent_of}
 use Rattle.watching.specs.Told.{Entry, entry_if, entries_in, entries_of, concerns, or_first, last_of, HistoriesAreTheChains, InclusionsAreTheChains}
 use Rattle.watching.proofs.Owning.{owners_total}
 use Rattle.watching.proofs.Entering.{inclusions_total, inclusions_same, same_owner, at_history, history_set, entered}
 use Rattle.watching.proofs.Following.{outputs_after}
+use Rattle.watching.proofs.Narrowing.{after_watched, same_owners, same_told}
 
 -- ---- one owner of those for whom a transaction is entered
 
@@ -152,37 +155,38 @@ record IsBlockTold (owner : List ℕ) (header : Header) (k : Tables) (entries : 
 turned : (xs ys older : Entries) → reverse ys ++ (reverse xs ++ older) ≡ reverse (xs ++ ys) ++ older
 turned xs ys older = sym (append_assoc (reverse ys) (reverse xs) older) ∙ ap (λ (es : Entries). es ++ older) (sym (reverse-append xs ys))
 
-block_told : (owner : List ℕ) (header : Header) (index : ℕ) (k : Tables) (ts : List Transaction) (older : Entries) → AreTold (history_at k.histories owner) header index older
-    → IsBlockTold owner header (tables_after_all header index k ts) (reverse (entries_in (concerns owner) header index k.outputs ts) ++ older)
-block_told owner header index k [] older told = record { are = told.are; up = told.up }
-block_told owner header index k (t ∷ ts) older told =
+block_told : (which : Which) (owner : List ℕ) (header : Header) (index : ℕ) (k : Tables) (u : Utxo) (ts : List Transaction) (older : Entries) → k.outputs ≡ watched_among which u → AreTold (history_at k.histories owner) header index older
+    → IsBlockTold owner header (tables_after_all which header index k ts) (reverse (entries_in (concerns which owner) header index u ts) ++ older)
+block_told which owner header index k u [] older is told = record { are = told.are; up = told.up }
+block_told which owner header index k u (t ∷ ts) older is told =
     let m = inclusion_in header index in
     let id = transaction_id_of t in
-    let next = tables_after m k t in
-    let own = entry_if (concerns owner k.outputs t) header index t in
-    let others = entries_in (concerns owner) header (suc index) next.outputs ts in
-    let rest = block_told owner header (suc index) next ts (reverse own ++ older)
-    (one_told (concerns owner k.outputs t) (history_at k.histories owner) (history_at next.histories owner) header index t older (entries_seen m id (owners_in k.outputs t) k.histories owner) told) in
-    subst (IsBlockTold owner header (tables_after_all header (suc index) next ts)) (turned own others older) rest
+    let next = tables_after which m k t in
+    let own = entry_if (concerns which owner u t) header index t in
+    let others = entries_in (concerns which owner) header (suc index) (utxo_after u t) ts in
+    let seen = entries_seen m id (owners_in which k.outputs t) k.histories owner ∙ ap (λ (os : List (List ℕ)). seen_with m id (list_any (bytes_eq owner) os) (history_at k.histories owner)) (same_owners which t u k.outputs is) in
+    let rest = block_told which owner header (suc index) next (utxo_after u t) ts (reverse own ++ older) (after_watched which t u k.outputs is)
+    (one_told (concerns which owner u t) (history_at k.histories owner) (history_at next.histories owner) header index t older seen told) in
+    subst (IsBlockTold owner header (tables_after_all which header (suc index) next ts)) (turned own others older) rest
 
 -- ---- over a chain
 
-chain_told : (owner : List ℕ) (v : Version) (bs : List Block) (older : Entries) → IsLinked v.tip bs → finite.entries (history_at v.tables.histories owner) ≡ older → AreUpTo v.tip.number older
-    → finite.entries (history_at (version_after_all v bs).tables.histories owner) ≡ reverse (entries_of (concerns owner) v.tables.outputs bs) ++ older
-chain_told owner v [] older linked are up = are
-chain_told owner v (b ∷ bs) older linked are up =
+chain_told : (which : Which) (owner : List ℕ) (v : Version) (u : Utxo) (bs : List Block) (older : Entries) → v.tables.outputs ≡ watched_among which u → IsLinked v.tip bs → finite.entries (history_at v.tables.histories owner) ≡ older → AreUpTo v.tip.number older
+    → finite.entries (history_at (version_after_all which v bs).tables.histories owner) ≡ reverse (entries_of (concerns which owner) u bs) ++ older
+chain_told which owner v u [] older is linked are up = are
+chain_told which owner v u (b ∷ bs) older is linked are up =
     let n = linked.0.number in
-    let next = version_after v b in
+    let next = version_after which v b in
+    let after = utxo_after_all u b.transactions in
     let first : AreTold (history_at v.tables.histories owner) b.header 0 older = record {
       are = are;
       newer = newer_block b.header v.tip.number older (omega (arith, n)) up;
       up = up_to_more v.tip.number b.header.number older (omega (arith, n)) up;
     } in
-    let block = block_told owner b.header 0 v.tables b.transactions older first in
-    let own = entries_in (concerns owner) b.header 0 v.tables.outputs b.transactions in
-    chain_told owner next bs (reverse own ++ older) linked.1 block.are block.up
-    ∙ turned own (entries_of (concerns owner) next.tables.outputs bs) older
-    ∙ ap (λ (u : Utxo). reverse (own ++ entries_of (concerns owner) u bs) ++ older) (outputs_after b.header 0 v.tables b.transactions)
+    let block = block_told which owner b.header 0 v.tables u b.transactions older is first in
+    let own = entries_in (concerns which owner) b.header 0 u b.transactions in
+    chain_told which owner next after bs (reverse own ++ older) (outputs_after which b.header 0 v.tables u b.transactions is) linked.1 block.are block.up
+    ∙ turned own (entries_of (concerns which owner) after bs) older
 
 nothing_told : (owner : List ℕ) → finite.entries (history_at finite.empty owner) ≡ []
 nothing_told owner =
@@ -191,9 +195,10 @@ nothing_told owner =
 
 pub histories_are_its : HistoriesAreTheChains
 histories_are_its granted past since w owner of =
+    let which = w.which in
     ap (λ (v : Version). finite.entries (history_at v.tables.histories owner)) of.last
-    ∙ chain_told owner (first_version granted past) since [] (linked_rest genesis_tip past since of.linked) (nothing_told owner) tt
-    ∙ append-nil (reverse (entries_of (concerns owner) (unspent_of granted past) since))
+    ∙ chain_told which owner (first_version which granted past) (unspent_of granted past) since [] refl (linked_rest genesis_tip past since of.linked) (nothing_told owner) tt
+    ∙ append-nil (reverse (entries_of (concerns which owner) (unspent_of granted past) since))
 
 -- ---- where transactions were put on
 
@@ -211,14 +216,11 @@ last_append id (x ∷ xs) ys =
     let own : Option Inclusion = if bytes_eq x.1 id then Some x.0 else None in
     ap (λ (o : Option Inclusion). or_first o own) (last_append id xs ys) ∙ sym (or_again (last_of id ys) (last_of id xs) own)
 
-abbrev all : Utxo → Transaction → Bool
-all utxo t = true
-
-put_on : (k : Tables) (m : Inclusion) (t : Transaction) (id : List ℕ) → finite.get (tables_after m k t).inclusions id ≡ or_first (last_of id ((m, transaction_id_of t) ∷ [])) (finite.get k.inclusions id)
-put_on k m t id =
-    let tid = transaction_id_of t in
-    finite.get-insert owners_total k.inclusions tid m id
-    ∙ ap (λ (b : Bool). cond b (Some m) (finite.get k.inclusions id)) (same_test id tid)
+-- one entry, where the transaction is told
+told_as : (b : Bool) (m : Inclusion) (tid id : List ℕ) (old : Inclusions) → finite.get (if b then finite.insert old tid m else old) id ≡ or_first (last_of id (if b then (m, tid) ∷ [] else [])) (finite.get old id)
+told_as true m tid id old =
+    finite.get-insert owners_total old tid m id
+    ∙ ap (λ (b : Bool). cond b (Some m) (finite.get old id)) (same_test id tid)
     ∙ either_way (bytes_eq tid id)
   where
     is_tied : (a b : List ℕ) → a ≡ b → owner_cmp a b ≡ Equal
@@ -227,41 +229,50 @@ put_on k m t id =
     same_test : (a b : List ℕ) → eq_by_cmp owner_cmp a b ≡ bytes_eq b a
     same_test a b = one_answer (eq_by_cmp owner_cmp a b) (bytes_eq b a) (λ tie. sym (same_owner a b tie), λ is. ap is_eq (is_tied a b (sym is))) (bytes_eq-Decides b a)
 
-    either_way : (b : Bool) → cond b (Some m) (finite.get k.inclusions id) ≡ or_first (if b then Some m else None) (finite.get k.inclusions id)
+    either_way : (b : Bool) → cond b (Some m) (finite.get old id) ≡ or_first (if b then Some m else None) (finite.get old id)
     either_way true = refl
     either_way false = refl
+told_as false m tid id old = refl
 
-block_put_on : (header : Header) (index : ℕ) (k : Tables) (ts : List Transaction) (id : List ℕ)
-    → finite.get (tables_after_all header index k ts).inclusions id ≡ or_first (last_of id (entries_in all header index k.outputs ts)) (finite.get k.inclusions id)
-block_put_on header index k [] id = refl
-block_put_on header index k (t ∷ ts) id =
-    let m = inclusion_in header index in
-    let next = tables_after m k t in
-    let own = entry_if true header index t in
-    let others = entries_in all header (suc index) next.outputs ts in
-    block_put_on header (suc index) next ts id
-    ∙ ap (or_first (last_of id others)) (put_on k m t id)
+put_on : (which : Which) (header : Header) (index : ℕ) (k : Tables) (u : Utxo) (t : Transaction) (id : List ℕ) → k.outputs ≡ watched_among which u
+    → finite.get (tables_after which (inclusion_in header index) k t).inclusions id ≡ or_first (last_of id (entry_if (is_told which u t) header index t)) (finite.get k.inclusions id)
+put_on which header index k u t id is =
+    told_as (is_told which k.outputs t) (inclusion_in header index) (transaction_id_of t) id k.inclusions
+    ∙ ap (λ (b : Bool). or_first (last_of id (entry_if b header index t)) (finite.get k.inclusions id)) (same_told which t u k.outputs is)
+
+block_put_on : (which : Which) (header : Header) (index : ℕ) (k : Tables) (u : Utxo) (ts : List Transaction) (id : List ℕ) → k.outputs ≡ watched_among which u
+    → finite.get (tables_after_all which header index k ts).inclusions id ≡ or_first (last_of id (entries_in (is_told which) header index u ts)) (finite.get k.inclusions id)
+block_put_on which header index k u [] id is = refl
+block_put_on which header index k u (t ∷ ts) id is =
+    let next = tables_after which (inclusion_in header index) k t in
+    let own = entry_if (is_told which u t) header index t in
+    let others = entries_in (is_told which) header (suc index) (utxo_after u t) ts in
+    block_put_on which header (suc index) next (utxo_after u t) ts id (after_watched which t u k.outputs is)
+    ∙ ap (or_first (last_of id others)) (put_on which header index k u t id is)
     ∙ or_again (last_of id others) (last_of id own) (finite.get k.inclusions id)
     ∙ ap (λ (o : Option Inclusion). or_first o (finite.get k.inclusions id)) (sym (last_append id own others))
 
-chain_put_on : (v : Version) (bs : List Block) (id : List ℕ) → finite.get (version_after_all v bs).tables.inclusions id ≡ or_first (last_of id (entries_of all v.tables.outputs bs)) (finite.get v.tables.inclusions id)
-chain_put_on v [] id = refl
-chain_put_on v (b ∷ bs) id =
-    let next = version_after v b in
-    let own = entries_in all b.header 0 v.tables.outputs b.transactions in
-    let others = entries_of all next.tables.outputs bs in
-    chain_put_on next bs id
-    ∙ ap (or_first (last_of id others)) (block_put_on b.header 0 v.tables b.transactions id)
+chain_put_on : (which : Which) (v : Version) (u : Utxo) (bs : List Block) (id : List ℕ) → v.tables.outputs ≡ watched_among which u
+    → finite.get (version_after_all which v bs).tables.inclusions id ≡ or_first (last_of id (entries_of (is_told which) u bs)) (finite.get v.tables.inclusions id)
+chain_put_on which v u [] id is = refl
+chain_put_on which v u (b ∷ bs) id is =
+    let next = version_after which v b in
+    let after = utxo_after_all u b.transactions in
+    let own = entries_in (is_told which) b.header 0 u b.transactions in
+    let others = entries_of (is_told which) after bs in
+    chain_put_on which next after bs id (outputs_after which b.header 0 v.tables u b.transactions is)
+    ∙ ap (or_first (last_of id others)) (block_put_on which b.header 0 v.tables u b.transactions id is)
     ∙ or_again (last_of id others) (last_of id own) (finite.get v.tables.inclusions id)
     ∙ ap (λ (o : Option Inclusion). or_first o (finite.get v.tables.inclusions id)) (sym (last_append id own others))
-    ∙ ap (λ (u : Utxo). or_first (last_of id (own ++ entries_of all u bs)) (finite.get v.tables.inclusions id)) (outputs_after b.header 0 v.tables b.transactions)
 
 pub inclusions_are_its : InclusionsAreTheChains
 inclusions_are_its granted past since w id of =
+    let which = w.which in
+    let told = last_of id (entries_of (is_told which) (unspent_of granted past) since) in
     ap (λ (v : Version). finite.get v.tables.inclusions id) of.last
-    ∙ chain_put_on (first_version granted past) since id
-    ∙ ap (or_first (last_of id (entries_of all (unspent_of granted past) since))) (finite.get-empty owner_cmp id)
-    ∙ nothing_first (last_of id (entries_of all (unspent_of granted past) since))
+    ∙ chain_put_on which (first_version which granted past) (unspent_of granted past) since id refl
+    ∙ ap (or_first told) (finite.get-empty owner_cmp id)
+    ∙ nothing_first told
   where
     nothing_first : (o : Option Inclusion) → or_first o None ≡ o
     nothing_first None = refl

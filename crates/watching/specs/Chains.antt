@@ -1,6 +1,6 @@
 -- What a chain leaves to be spent and to be told, and which index is that of a chain.
 use Rattle.std.specs.Prelude.{◌≡◌, ◌≢◌, ℕ, zero, suc, ◌-◌, ◌≤◌, List, [], ◌∷◌, ◌++◌, length, take}
-use Rattle.std.specs.Prelude.{replicate, unwrap_or, refl}
+use Rattle.std.specs.Prelude.{replicate, unwrap_or, refl, if◌then◌else◌}
 use Rattle.std.specs.Coded.{Coded, code_by, coded×, coded_ℕ, coded_list}
 use Rattle.std.specs.FinMap as finite
 use Rattle.model.specs.Limits.{hash_size}
@@ -10,7 +10,8 @@ use Rattle.model.specs.Mempool.{utxo_after_all}
 use Rattle.model.specs.Block.{Block, Header}
 use Rattle.model.specs.Chain.{Tip, Point, genesis_tip, tip_at, tip_after, IsLinked}
 use Rattle.model.specs.Codes.{coded_bytes, coded_input, coded_output, coded_tip}
-use Rattle.watching.specs.Histories.{Inclusion, inclusion_in, Histories, Inclusions, with_entries, owners_in}
+use Rattle.watching.specs.Which.{Which, watched_among, coded_which}
+use Rattle.watching.specs.Histories.{Inclusion, inclusion_in, Histories, Inclusions, with_entries, owners_in, is_told}
 use Rattle.watching.specs.Histories.{coded_inclusion}
 
 -- what the blocks of a chain leave, where these outputs stood before its first block (Shelley, UTxO transitions). They
@@ -19,7 +20,8 @@ abbrev pub unspent_of : (granted : Utxo) → List Block → Utxo
 unspent_of granted [] = granted
 unspent_of granted (b ∷ bs) = unspent_of (utxo_after_all granted b.transactions) bs
 
--- what is kept of a chain: the outputs that it leaves, the history of each owner, and where each transaction was put on
+-- What is kept of a chain, where some outputs are watched: those of them that it leaves, the history of each owner, and
+-- where each transaction was put on.
 pub record Tables : Type 0 where
   pub outputs : Utxo
   pub histories : Histories
@@ -29,19 +31,22 @@ pub record Tables : Type 0 where
 abbrev pub only_outputs : Utxo → Tables
 only_outputs outputs = record { outputs = outputs; histories = finite.empty; inclusions = finite.empty }
 
--- the tables with one more transaction
-abbrev pub tables_after : Inclusion → Tables → Transaction → Tables
-tables_after inclusion tables t = record {
-  outputs = utxo_after tables.outputs t;
-  histories = with_entries inclusion (transaction_id_of t) (owners_in tables.outputs t) tables.histories;
-  inclusions = finite.insert tables.inclusions (transaction_id_of t) inclusion;
+-- The tables with one more transaction: the watched ones of what it leaves; the transaction for whoever has a watched
+-- output that it spends or makes; and where it was put on, if there is such an output.
+abbrev pub tables_after : Which → Inclusion → Tables → Transaction → Tables
+tables_after which inclusion tables t = record {
+  outputs = watched_among which (utxo_after tables.outputs t);
+  histories = with_entries inclusion (transaction_id_of t) (owners_in which tables.outputs t) tables.histories;
+  inclusions =
+      if is_told which tables.outputs t then finite.insert tables.inclusions (transaction_id_of t) inclusion
+      else tables.inclusions;
 }
 
 -- with the transactions of a block from this index on
-abbrev pub tables_after_all : Header → (index : ℕ) → Tables → List Transaction → Tables
-tables_after_all header index tables [] = tables
-tables_after_all header index tables (t ∷ ts) =
-    tables_after_all header (suc index) (tables_after (inclusion_in header index) tables t) ts
+abbrev pub tables_after_all : Which → Header → (index : ℕ) → Tables → List Transaction → Tables
+tables_after_all which header index tables [] = tables
+tables_after_all which header index tables (t ∷ ts) =
+    tables_after_all which header (suc index) (tables_after which (inclusion_in header index) tables t) ts
 
 -- where a chain ends, and what is kept of it
 pub record Version : Type 0 where
@@ -49,33 +54,40 @@ pub record Version : Type 0 where
   pub tables : Tables
 
 -- the version with one more block
-abbrev pub version_after : Version → Block → Version
-version_after v b = record { tip = tip_at b; tables = tables_after_all b.header 0 v.tables b.transactions }
+abbrev pub version_after : Which → Version → Block → Version
+version_after which v b =
+    record { tip = tip_at b; tables = tables_after_all which b.header 0 v.tables b.transactions }
 
 -- the version with these blocks
-abbrev pub version_after_all : Version → List Block → Version
-version_after_all v [] = v
-version_after_all v (b ∷ bs) = version_after_all (version_after v b) bs
+abbrev pub version_after_all : Which → Version → List Block → Version
+version_after_all which v [] = v
+version_after_all which v (b ∷ bs) = version_after_all which (version_after which v b) bs
 
--- What an index keeps: the version of its chain, and those before each of the last blocks, the newest first. Not more
--- than k of these are ever kept.
+-- What an index keeps of the outputs that it watches: the version of its chain, and those before each of the last
+-- blocks, the newest first. Not more than k of these are ever kept.
 pub record Watched : Type 0 where
   pub k : ℕ
+  pub which : Which
   pub last : Version
   pub older : List Version
 
 -- the index with one more block
 abbrev pub with_block : Watched → Block → Watched
-with_block w b = record { k = w.k; last = version_after w.last b; older = take w.k (w.last ∷ w.older) }
+with_block w b = record {
+  k = w.k;
+  which = w.which;
+  last = version_after w.which w.last b;
+  older = take w.k (w.last ∷ w.older);
+}
 
 -- the index without the last `back` blocks, as far as these can be rolled back
-abbrev pub rolled_back : (back : ℕ) → (k : ℕ) → Version → List Version → Watched
-rolled_back zero k last older = record { k = k; last = last; older = older }
-rolled_back (suc back) k last [] = record { k = k; last = last; older = [] }
-rolled_back (suc back) k last (v ∷ vs) = rolled_back back k v vs
+abbrev pub rolled_back : (back : ℕ) → (k : ℕ) → Which → Version → List Version → Watched
+rolled_back zero k which last older = record { k = k; which = which; last = last; older = older }
+rolled_back (suc back) k which last [] = record { k = k; which = which; last = last; older = [] }
+rolled_back (suc back) k which last (v ∷ vs) = rolled_back back k which v vs
 
 abbrev pub back_by : ℕ → Watched → Watched
-back_by back w = rolled_back back w.k w.last w.older
+back_by back w = rolled_back back w.k w.which w.last w.older
 
 -- the point at a tip; that of genesis has a hash of zero bytes
 abbrev pub point_at : Tip → Point
@@ -97,27 +109,29 @@ pub record IsRolledBack (old : Watched) (point : Point) (new : Watched) : Type 0
 -- ---- the index of a chain
 
 -- the version with which an index begins, behind these blocks
-abbrev pub first_version : (granted : Utxo) → (past : List Block) → Version
-first_version granted past =
-    record { tip = tip_after genesis_tip past; tables = only_outputs (unspent_of granted past) }
+abbrev pub first_version : Which → (granted : Utxo) → (past : List Block) → Version
+first_version which granted past = record {
+  tip = tip_after genesis_tip past;
+  tables = only_outputs (watched_among which (unspent_of granted past));
+}
 
 -- a chain without its last block
 abbrev pub without_last : List Block → List Block
 without_last chain = take (length chain - 1) chain
 
 -- the versions of the blocks without the last one, without the last two, and so on
-abbrev pub AreOlder : Version → (since : List Block) → List Version → Type 0
-AreOlder first since [] = Unit {0}
-AreOlder first since (v ∷ vs) =
-    (since ≢ []) × (v ≡ version_after_all first (without_last since)) × AreOlder first (without_last since) vs
+abbrev pub AreOlder : Which → Version → (since : List Block) → List Version → Type 0
+AreOlder which first since [] = Unit {0}
+AreOlder which first since (v ∷ vs) = (since ≢ []) × (v ≡ version_after_all which first (without_last since))
+    × AreOlder which first (without_last since) vs
 
 -- INDEX OF A CHAIN
 -- The index of a chain that began behind the blocks `past` and went on by the blocks `since`: what is kept after these,
 -- and, for as many of the last blocks as can be rolled back, what was kept before each.
 pub record IsIndexOf (granted : Utxo) (past since : List Block) (w : Watched) : Type 0 where
   pub linked : IsLinked genesis_tip (past ++ since)
-  pub last : w.last ≡ version_after_all (first_version granted past) since
-  pub versions : AreOlder (first_version granted past) since w.older
+  pub last : w.last ≡ version_after_all w.which (first_version w.which granted past) since
+  pub versions : AreOlder w.which (first_version w.which granted past) since w.older
 
 -- ---- codes
 
@@ -145,7 +159,8 @@ coded_version =
 
 abbrev pub coded_watched : Coded Watched
 coded_watched =
-    code_by (ℕ × (Version × List Version)) (coded× coded_ℕ (coded× coded_version (coded_list coded_version)))
-    (λ w. (w.k, (w.last, w.older)))
-    (λ p. record { k = p.0; last = p.1.0; older = p.1.1 })
+    code_by (ℕ × (Which × (Version × List Version)))
+    (coded× coded_ℕ (coded× coded_which (coded× coded_version (coded_list coded_version))))
+    (λ w. (w.k, (w.which, (w.last, w.older))))
+    (λ p. record { k = p.0; which = p.1.0; last = p.1.1.0; older = p.1.1.1 })
     (λ _. refl)

@@ -1,6 +1,7 @@
 -- Which transactions spent from an owner or paid to it, and where each was put onto a chain.
-use Rattle.std.specs.Prelude.{ℕ, List, [], ◌∷◌, ◌++◌, map, unwrap_or, Some, ◌≡◌, ◌<◌, refl}
+use Rattle.std.specs.Prelude.{ℕ, Bool, ◌||◌, List, [], ◌∷◌, ◌++◌, map, unwrap_or, Some, ◌≡◌, ◌<◌, refl}
 use Rattle.std.specs.Coded.{Coded, code_by, coded×, coded_ℕ}
+use Rattle.std.specs.List.{list_any}
 use Rattle.std.specs.FinMap as finite
 use Rattle.std.specs.Ordering.{nat_cmp, ordering_then}
 use Rattle.std.specs.declared.cmp.Ordering.{Ordering}
@@ -8,6 +9,7 @@ use Rattle.model.specs.Transaction.{Transaction, Output, address_bytes}
 use Rattle.model.specs.Utxo.{Utxo, spent_outputs}
 use Rattle.model.specs.Block.{Header}
 use Rattle.watching.specs.Owned.{owner_cmp}
+use Rattle.watching.specs.Which.{Which, is_all, is_watched, watched_outputs}
 
 -- where a transaction was put onto a chain: the number and the slot of its block, and its place in that, counted from 0
 pub record Inclusion : Type 0 where
@@ -63,10 +65,16 @@ owner_of o = address_bytes o.address
 abbrev pub owners_of : List Output → List (List ℕ)
 owners_of outputs = map owner_of outputs
 
--- whose outputs a transaction spends and makes. An output that another one replaces isn't spent; on a valid chain none
--- is replaced.
-abbrev pub owners_in : Utxo → Transaction → List (List ℕ)
-owners_in utxo t = owners_of (spent_outputs utxo t) ++ owners_of t.outputs
+-- whose watched outputs a transaction spends and makes. An output that another one replaces isn't spent; on a valid
+-- chain none is replaced.
+abbrev pub owners_in : Which → Utxo → Transaction → List (List ℕ)
+owners_in which utxo t =
+    owners_of (watched_outputs which (spent_outputs utxo t)) ++ owners_of (watched_outputs which t.outputs)
+
+-- the transaction spends a watched output or makes one; or all outputs are watched, whatever it does
+abbrev pub is_told : Which → Utxo → Transaction → Bool
+is_told which utxo t =
+    is_all which || (list_any (is_watched which) (spent_outputs utxo t) || list_any (is_watched which) t.outputs)
 
 -- identifiers are ordered by their bytes
 abbrev pub id_cmp : List ℕ → List ℕ → Ordering

@@ -1,5 +1,7 @@
 pub mod Chains
 pub mod Owned
+pub mod Which
+pub mod WhichView
 pub mod Histories
 pub mod Changes
 pub mod Advances

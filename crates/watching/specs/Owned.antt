@@ -1,5 +1,5 @@
 -- The outputs of each owner, by the bytes of its address.
-use Rattle.std.specs.Prelude.{◌≡◌, ℕ, List, nat_eq, Option, Some, None, unwrap_or, if◌then◌else◌, bytes_eq}
+use Rattle.std.specs.Prelude.{◌≡◌, ℕ, Bool, List, nat_eq, Option, Some, None, unwrap_or, if◌then◌else◌, bytes_eq}
 use Rattle.std.specs.FinMap as finite
 use Rattle.std.specs.Ordering.{nat_cmp, eq_by_cmp}
 use Rattle.std.specs.declared.cmp.Ordering.{Ordering}
@@ -24,10 +24,14 @@ abbrev pub IsGiven : (old : Owned) → (owner : List ℕ) → Utxo → (new : Ow
 IsGiven old owner outputs new =
     (other : List ℕ) → owned_at new other ≡ (if eq_by_cmp owner_cmp other owner then outputs else owned_at old other)
 
+-- the output, if it passes the test
+abbrev pub only_if : (Output → Bool) → Option Output → Option Output
+only_if test None = None
+only_if test (Some o) = if test o then Some o else None
+
 -- the output, if it is of this owner
 abbrev pub only_of : (owner : List ℕ) → Option Output → Option Output
-only_of owner None = None
-only_of owner (Some o) = if bytes_eq (address_bytes o.address) owner then Some o else None
+only_of owner output = only_if (λ o. bytes_eq (address_bytes o.address) owner) output
 
 -- each owner has just those of all outputs that are of its address
 abbrev pub AreOwned : Owned → (all : Utxo) → Type 0

@@ -1,5 +1,5 @@
 -- What an index tells of transactions, as lists over the blocks of a chain.
-use Rattle.std.specs.Prelude.{◌≡◌, ℕ, suc, Bool, true, List, [], ◌∷◌, ◌++◌, reverse, if◌then◌else◌, bytes_eq}
+use Rattle.std.specs.Prelude.{◌≡◌, ℕ, suc, Bool, List, [], ◌∷◌, ◌++◌, reverse, if◌then◌else◌, bytes_eq}
 use Rattle.std.specs.Prelude.{Option, Some, None}
 use Rattle.std.specs.List.{list_any}
 use Rattle.std.specs.FinMap as finite
@@ -7,7 +7,8 @@ use Rattle.model.specs.Transaction.{Transaction, transaction_id_of}
 use Rattle.model.specs.Utxo.{Utxo, utxo_after}
 use Rattle.model.specs.Mempool.{utxo_after_all}
 use Rattle.model.specs.Block.{Block, Header}
-use Rattle.watching.specs.Histories.{Inclusion, inclusion_in, history_at, owners_in}
+use Rattle.watching.specs.Which.{Which}
+use Rattle.watching.specs.Histories.{Inclusion, inclusion_in, history_at, owners_in, is_told}
 use Rattle.watching.specs.Chains.{unspent_of, Watched, IsIndexOf}
 
 -- a transaction's identifier, with its inclusion
@@ -32,18 +33,18 @@ entries_of test utxo (b ∷ bs) =
 
 -- ---- an owner's history
 
--- the transaction spends an output of the owner, or makes one, where these outputs stand
-abbrev pub concerns : (owner : List ℕ) → Utxo → Transaction → Bool
-concerns owner utxo t = list_any (bytes_eq owner) (owners_in utxo t)
+-- the transaction spends a watched output of the owner, or makes one, where these outputs stand
+abbrev pub concerns : Which → (owner : List ℕ) → Utxo → Transaction → Bool
+concerns which owner utxo t = list_any (bytes_eq owner) (owners_in which utxo t)
 
 -- HISTORY OF A CHAIN
--- What an index tells of an owner are the transactions that spent from it or paid to it, in the blocks since the index
--- began, the newest first.
+-- What an index tells of an owner are the transactions that spent a watched output of it or made one, in the blocks
+-- since the index began, the newest first.
 abbrev pub HistoriesAreTheChains : Type 0
 HistoriesAreTheChains = (granted : Utxo) (past since : List Block) (w : Watched) (owner : List ℕ)
     → IsIndexOf granted past since w
     → finite.entries (history_at w.last.tables.histories owner)
-    ≡ reverse (entries_of (concerns owner) (unspent_of granted past) since)
+    ≡ reverse (entries_of (concerns w.which owner) (unspent_of granted past) since)
 
 -- ---- where a transaction was put on
 
@@ -58,9 +59,10 @@ last_of id [] = None
 last_of id (e ∷ es) = or_first (last_of id es) (if bytes_eq e.1 id then Some e.0 else None)
 
 -- INCLUSIONS OF A CHAIN
--- What an index tells of a transaction is where it was put on last, in the blocks since the index began.
+-- What an index tells of a transaction is where it was put on last, in the blocks since the index began, if it spent a
+-- watched output there or made one; of each transaction, where all outputs are watched.
 abbrev pub InclusionsAreTheChains : Type 0
 InclusionsAreTheChains = (granted : Utxo) (past since : List Block) (w : Watched) (id : List ℕ)
     → IsIndexOf granted past since w
     → finite.get w.last.tables.inclusions id
-    ≡ last_of id (entries_of (λ _ _. true) (unspent_of granted past) since)
+    ≡ last_of id (entries_of (is_told w.which) (unspent_of granted past) since)

@@ -1,13 +1,14 @@
 -- What an index stands for.
-use Rattle.std.specs.Prelude.{ℕ, ◌≤◌, List, length}
+use Rattle.std.specs.Prelude.{ℕ, ◌≤◌, List, [], ◌∷◌, length}
 use Rattle.ident.specs.Kinds.{TxId}
 use Rattle.block.specs.View.{tip_of}
 use Rattle.model.specs.Transaction.{address_bytes}
 use Rattle.tx.specs.View.{address_of}
+use Rattle.watching.specs.Which.{Which, AreWatched}
 use Rattle.watching.specs.Chains as chains
 use Rattle.watching.specs.Chains.{Watched}
 use Rattle.watching.specs.Histories as values
-use Rattle.watching.specs.Changes.{versions_before}
+use Rattle.watching.specs.Changes.{Difference, all_put_back, versions_before}
 use Rattle.watching.specs.declared.holders.Holder.{Holder}
 use Rattle.watching.specs.declared.inclusion.Inclusion.{Inclusion}
 use Rattle.watching.specs.declared.tables.Tables.{Tables}
@@ -31,10 +32,18 @@ tables_of k = record { outputs = k.index; histories = k.histories; inclusions = 
 abbrev pub watched_of : watch.Inside → Watched
 watched_of w = record {
   k = w.k;
+  which = w.which;
   last = record { tip = tip_of w.tip; tables = tables_of w.tables };
   older = versions_before (tables_of w.tables) w.differences;
 }
 
--- no more blocks can be rolled back than k
-abbrev pub IsBounded : watch.Inside → Type 0
-IsBounded w = length w.differences ≤ w.k
+-- in these tables, and in those before each of these blocks, all outputs are watched
+abbrev pub AreAllWatched : Which → chains.Tables → List Difference → Type 0
+AreAllWatched which tables [] = AreWatched which tables.outputs
+AreAllWatched which tables (d ∷ ds) =
+    AreWatched which tables.outputs × AreAllWatched which (all_put_back d.changes tables) ds
+
+-- no more blocks can be rolled back than k, and no version has an output that isn't watched
+pub record IsWatching (w : watch.Inside) : Type 0 where
+  pub bounded : length w.differences ≤ w.k
+  pub watched : AreAllWatched w.which (tables_of w.tables) w.differences

@@ -3,6 +3,7 @@
 use crate::holders::{Holder, holders};
 use crate::owner::Owner;
 use crate::owners::Owners;
+use crate::which::Which;
 use ident::ScriptHash;
 use std::alloc::{AllocError, Global};
 use std::marker::Model;
@@ -45,11 +46,13 @@ impl Model for Index {
 }
 
 impl Index {
-    ghost use Rattle.std.specs.Prelude.{◌≡◌, IfOk, None, map, option_map};
+    ghost use Rattle.std.specs.Prelude.{◌≡◌, IfOk, None, is_some, map, option_map};
+    ghost use Rattle.std.specs.List.{list_any};
     ghost use Rattle.watching.specs.Changes.{restored};
     ghost use Rattle.watching.specs.Histories.{owner_of};
     ghost use Rattle.watching.specs.Holders.{AreHolders};
     ghost use Rattle.watching.specs.View.{holder_of};
+    ghost use Rattle.watching.specs.Which.{watched_among};
     ghost use Rattle.std.specs.FinMap as finite;
     ghost use Rattle.model.specs.Value.{Named};
     ghost use Rattle.model.specs.Utxo.{output_at};
@@ -67,15 +70,44 @@ impl Index {
         }
     }
 
-    /// These outputs. Err where memory runs out. Takes a few look-ups for each.
-    pub fn from_outputs(alloc: Global, outputs: &Utxo) -> Result<Index, AllocError>
+    /// These outputs, all of them, which are shared. Err where memory runs out. Takes a look-up and a copy for each.
+    fn of_all(alloc: Global, outputs: &Utxo) -> Result<Index, AllocError>
         ensures { IfOk result (λ index. index ≡ outputs.now) }
+    {
+        let mut owners = Owners::new(alloc);
+        for (input, output) in outputs.iter() {
+            owners.add(&input, output)?;
+        }
+        Ok(Index {
+            all: outputs.try_clone()?,
+            owners,
+            nothing: Utxo::new(alloc),
+        })
+    }
+
+    /// The watched ones of these outputs. Err where memory runs out. Takes a look-up for each, and a few more and two
+    /// copies for each that is watched.
+    fn of_watched(alloc: Global, which: &Which, outputs: &Utxo) -> Result<Index, AllocError>
+        ensures { IfOk result (λ index. index ≡ watched_among which.now outputs.now) }
     {
         let mut index = Index::new(alloc);
         for (input, output) in outputs.iter() {
-            index = index.put(&input, output.try_clone()?)?;
+            if which.watches(output) {
+                index = index.put(&input, output.try_clone()?)?;
+            }
         }
         Ok(index)
+    }
+
+    /// The watched ones of these outputs. Err where memory runs out. Takes a look-up and a copy for each, where all are
+    /// watched; else a look-up for each, and a few more and two copies for each that is watched.
+    pub fn from_outputs(alloc: Global, which: &Which, outputs: &Utxo) -> Result<Index, AllocError>
+        ensures { IfOk result (λ index. index ≡ watched_among which.now outputs.now) }
+    {
+        if which.is_all() {
+            return Index::of_all(alloc, outputs);
+        }
+        Index::of_watched(alloc, which, outputs)
     }
 
     /// The same again, in constant time and with no memory.
@@ -128,6 +160,18 @@ impl Index {
         Some(Owner::of(&output.address))
     }
 
+    /// Whether one of these inputs would spend an output. Takes a look-up for each, until one does.
+    pub fn has_some(&self, inputs: &[Input]) -> bool
+        ensures { result ≡ list_any (λ i. is_some (output_at self.now i)) (map input_of inputs.now) }
+    {
+        for input in inputs {
+            if self.all.get(input).is_some() {
+                return true;
+            }
+        }
+        false
+    }
+
     /// The index without the output that this input would spend, and that output, if one stands there. Err where memory
     /// runs out: the index is gone with the call. Takes a few look-ups, and memory for a copy of each node on the way
     /// that another version shares.
@@ -169,10 +213,7 @@ impl Index {
             mut owners,
             nothing,
         } = self;
-        let owner = Owner::of(&output.address);
-        let mut outputs = owners.outputs(&owner)?;
-        outputs.insert(input, output.try_clone()?)?;
-        owners.set(owner, outputs)?;
+        owners.add(input, &output)?;
         all.insert(input, output)?;
         Ok(Index {
             all,

@@ -1,18 +1,41 @@
 //! What an index tells, beside the ledger of its chain and beside what a follower is told.
 
 ghost use Rattle.watching.specs.Ledgers.{OutputsAreTheLedgers, OutputsAreTheChains, FollowsTheTold, OutputsAreTheTolds};
+ghost use Rattle.watching.specs.Ledgers.{WhichStays};
 ghost use Rattle.watching.specs.Due.{NextAreTaken, PointsAreKept, ReachStays};
 ghost use Rattle.watching.specs.Holders.{HoldersAreOne};
 ghost use Rattle.watching.specs.Told.{HistoriesAreTheChains, InclusionsAreTheChains};
+ghost use Rattle.watching.specs.Which.{WatchedAreMeant, WatchedAreLeft, NoneIsLeftOut};
 
 /// What the blocks of a chain leave of the genesis outputs is the UTXO of its ledger, where it has a ledger.
 pub fn outputs_are_the_ledgers()
     ensures { OutputsAreTheLedgers }
 {}
 
-/// The outputs of an index are what its chain leaves: the blocks before it began, and those since.
+/// Of outputs whose values have a text those are watched that are meant: all, those of the addresses, or those that
+/// hold an amount of an asset of one of the policies.
+pub fn watched_are_meant()
+    ensures { WatchedAreMeant }
+{}
+
+/// Of unspent outputs those are left that are watched, each at its input.
+pub fn watched_are_left()
+    ensures { WatchedAreLeft }
+{}
+
+/// Where all outputs are kept, none is left out: what is told of watched outputs is then told of all.
+pub fn none_is_left_out()
+    ensures { NoneIsLeftOut }
+{}
+
+/// The outputs of an index are the watched ones of what its chain leaves: the blocks before it began, and those since.
 pub fn outputs_are_the_chains()
     ensures { OutputsAreTheChains }
+{}
+
+/// Whatever instructions an index takes, it watches what it watched before.
+pub fn which_stays()
+    ensures { WhichStays }
 {}
 
 /// An index that takes each instruction of a follower is that of the chain that the follower was told.
@@ -20,18 +43,19 @@ pub fn follows_the_told()
     ensures { FollowsTheTold }
 {}
 
-/// So its outputs are the UTXO of that chain's ledger, where the chain has one.
+/// So its outputs are the watched ones of the UTXO of that chain's ledger, where the chain has one.
 pub fn outputs_are_the_tolds()
     ensures { OutputsAreTheTolds }
 {}
 
-/// What an index tells of an owner are the transactions that spent from it or paid to it, in the blocks since the index
-/// began, the newest first.
+/// What an index tells of an owner are the transactions that spent a watched output of it or made one, in the blocks
+/// since the index began, the newest first.
 pub fn histories_are_the_chains()
     ensures { HistoriesAreTheChains }
 {}
 
-/// What an index tells of a transaction is where it was put on last, in the blocks since the index began.
+/// What an index tells of a transaction is where it was put on last, in the blocks since the index began, if it spent a
+/// watched output there or made one; of each transaction, where all outputs are watched.
 pub fn inclusions_are_the_chains()
     ensures { InclusionsAreTheChains }
 {}

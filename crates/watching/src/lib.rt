@@ -1,9 +1,12 @@
 //! An index that follows: the unspent outputs and the history of each address, who holds an asset, and where each
 //! transaction was put onto the chain, kept by a follower's instructions alone. It knows of no chain database: whoever
-//! is told blocks and rollbacks can keep an index, a wallet or an explorer beside a node.
+//! is told blocks and rollbacks can keep an index, a wallet or an explorer beside a node. It keeps all outputs, or
+//! those of some addresses alone, or those that hold some of an asset of some policies.
 //!
 //! ```text
-//! let mut watch = Watch::new(alloc, Tip::genesis(), core.utxo(), k)?; // a new core has what the genesis granted
+//! let which = Which::all(); // or Which::addresses(alloc, &[address])?, or Which::policies(alloc, &[policy])?
+//! let utxo = core.utxo(); // a new core has what the genesis granted
+//! let mut watch = Watch::new(alloc, Tip::genesis(), utxo, k, which)?;
 //! match core.next(follower)? {
 //!     Some(Instruction::AddBlock(block)) => watch.add_block(&block)?,
 //!     Some(Instruction::RollBack(point)) => watch.roll_back(&point)?,
@@ -32,14 +35,17 @@ mod tables;
 mod tx_key;
 mod watch;
 mod watch_fault;
+mod which;
 
 pub use history::{History, HistoryEntries};
 pub use holders::Holder;
 pub use inclusion::Inclusion;
 pub use laws::{
     follows_the_told, histories_are_the_chains, holders_are_one, inclusions_are_the_chains,
-    next_are_taken, outputs_are_the_chains, outputs_are_the_ledgers, outputs_are_the_tolds,
-    points_are_kept, reach_stays,
+    next_are_taken, none_is_left_out, outputs_are_the_chains, outputs_are_the_ledgers,
+    outputs_are_the_tolds, points_are_kept, reach_stays, watched_are_left, watched_are_meant,
+    which_stays,
 };
 pub use watch::Watch;
 pub use watch_fault::WatchFault;
+pub use which::Which;

@@ -5,6 +5,7 @@ use persistent_map::{Iter, PersistentMap};
 use std::alloc::{AllocError, Global};
 use std::marker::Model;
 use std::sync::Arc;
+use tx::{Input, Output};
 use utxo_rules::Utxo;
 
 /// The outputs of each owner that has some. A copy takes no memory, and shares what the two have in common.
@@ -34,7 +35,9 @@ impl Owners {
     ghost use Rattle.std.specs.Prelude.{◌≡◌, IfOk, OnOk};
     ghost use Rattle.std.specs.Option.{option_copied};
     ghost use Rattle.std.specs.FinMap as finite;
-    ghost use Rattle.watching.specs.Owned.{owned_at, with_owned};
+    ghost use Rattle.tx.specs.View.{input_of, output_of};
+    ghost use Rattle.watching.specs.Histories.{owner_of};
+    ghost use Rattle.watching.specs.Owned.{owned_at, with_owned, IsGiven};
 
     /// Nobody has an output. Takes no memory.
     pub fn new(alloc: Global) -> Owners
@@ -79,6 +82,19 @@ impl Owners {
             Some(outputs) => outputs.try_clone(),
             None => Ok(Utxo::new(self.alloc)),
         }
+    }
+
+    /// Gives the owner of this output the output beside those that it has. Takes a look-up, and memory for the output
+    /// and for a copy of each node on the way that another version shares.
+    pub fn add(&mut self, input: &Input, output: &Output) -> Result<(), AllocError>
+        ensures { let o = output_of output.now in OnOk result (IsGiven self.old (owner_of o)
+            (finite.insert (owned_at self.old (owner_of o)) (input_of input.now) o) self.new) }
+    {
+        let owner = Owner::of(&output.address);
+        let mut outputs = self.outputs(&owner)?;
+        outputs.insert(input, output.try_clone()?)?;
+        self.set(owner, outputs)?;
+        Ok(())
     }
 
     /// Gives the owner these outputs in the place of those that it had. One that has none takes no room.

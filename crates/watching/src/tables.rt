@@ -3,15 +3,17 @@
 ghost use Rattle.std.specs.Prelude.{◌≡◌, IfOk};
 ghost use Rattle.watching.specs.Chains.{only_outputs};
 ghost use Rattle.watching.specs.View.{tables_of};
+ghost use Rattle.watching.specs.Which.{watched_among};
 
 use crate::histories::Histories;
 use crate::inclusions::Inclusions;
 use crate::index::Index;
+use crate::which::Which;
 use std::alloc::{AllocError, Global};
 use utxo_rules::Utxo;
 
-/// What an index keeps of a chain: the outputs that it leaves, the history of each owner, and the inclusion of each
-/// transaction. A copy takes no memory, and shares what the two have in common.
+/// What an index keeps of a chain: the watched outputs that it leaves, the history of each owner, and the inclusion of
+/// each transaction. A copy takes no memory, and shares what the two have in common.
 #[derive(Drop)]
 pub struct Tables {
     pub index: Index,
@@ -20,12 +22,12 @@ pub struct Tables {
 }
 
 impl Tables {
-    /// These outputs, before any transaction. Takes a few look-ups for each.
-    pub fn new(alloc: Global, outputs: &Utxo) -> Result<Tables, AllocError>
-        ensures { IfOk result (λ tables. tables_of tables ≡ only_outputs outputs.now) }
+    /// The watched ones of these outputs, before any transaction. Takes what [`Index::from_outputs`] takes.
+    pub fn new(alloc: Global, which: &Which, outputs: &Utxo) -> Result<Tables, AllocError>
+        ensures { IfOk result (λ tables. tables_of tables ≡ only_outputs (watched_among which.now outputs.now)) }
     {
         Ok(Tables {
-            index: Index::from_outputs(alloc, outputs)?,
+            index: Index::from_outputs(alloc, which, outputs)?,
             histories: Histories::new(alloc),
             inclusions: Inclusions::new(alloc),
         })

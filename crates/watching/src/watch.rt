@@ -14,6 +14,7 @@ use crate::owner::Owner;
 use crate::tables::Tables;
 use crate::tx_key::TxKey;
 use crate::watch_fault::WatchFault;
+use crate::which::Which;
 use block::{CheckedBlock, Tip};
 use ident::{Point, ScriptHash, TxId};
 use std::alloc::{AllocError, Global};
@@ -26,13 +27,16 @@ use witness_pool::SigScheme;
 
 /// An index of a chain, which is told the chain block by block and what of it is rolled back, as a follower is: the
 /// unspent outputs by their addresses, which transactions spent from an address or paid to it, and where each
-/// transaction was put onto the chain. It keeps the outputs, twice; the identifier of each transaction since it began,
-/// once by itself and once for each address that it concerns; and what each of the last blocks changed, at most k of
-/// them: memory grows with these. It judges no transaction: who tells it blocks of a chain that isn't valid has an
-/// index of that.
+/// transaction was put onto the chain. It watches all outputs, or only some ([`Which`]); of the others it tells
+/// nothing, so that what it tells of an address, a balance or a holder is that of the watched outputs. It keeps the
+/// watched outputs, twice; the identifier of each transaction since it began that spent or made one, once by itself and
+/// once for each address whose watched outputs these were; and what of that each of the last blocks changed, at most k
+/// of them: memory grows with these alone. Where all outputs are watched, it tells of every transaction. It judges
+/// none: who tells it blocks of a chain that isn't valid has an index of that.
 pub struct Watch {
     alloc: Global,
     k: u64,
+    which: Which,
     tip: Tip,
     tables: Tables,
     /// What each of the last blocks changed, the newest first.
@@ -45,6 +49,7 @@ impl Drop for Watch {
         let Watch {
             alloc: _,
             k: _,
+            which: _,
             tip: _,
             tables: _,
             differences: _,
@@ -59,11 +64,11 @@ impl Model for Watch {
 
     ghost coded = { coded_watched };
 
-    ghost use Rattle.watching.specs.View.{watched_of, IsBounded};
+    ghost use Rattle.watching.specs.View.{watched_of, IsWatching};
 
     ghost view = { watched_of };
 
-    ghost invariant = { IsBounded };
+    ghost invariant = { IsWatching };
 }
 
 impl Watch {
@@ -81,6 +86,7 @@ impl Watch {
     ghost use Rattle.tx.specs.View.{address_of};
     ghost use Rattle.utxo_rules.specs.Entries.{pairs_of};
     ghost use Rattle.value.specs.Totals.{total_of};
+    ghost use Rattle.watching.specs.Which.{watched_among};
     ghost use Rattle.watching.specs.Chains.{unspent_of, only_outputs, with_block, IsIndexOf};
     ghost use Rattle.watching.specs.Histories.{history_at};
     ghost use Rattle.watching.specs.Ledgers.{IsTaken, IsIndexOfTold};
@@ -89,14 +95,22 @@ impl Watch {
     ghost use Rattle.watching.specs.Holders.{AreHolders};
     ghost use Rattle.watching.specs.View.{holder_of, inclusion_of};
 
-    /// An index of a chain that ends at the tip and leaves these outputs. Blocks that are put on from there on can be
-    /// rolled back, at most k of them; after a rollback fewer, until as many were put on again. With [`Tip::genesis`]
-    /// and what a genesis grants it begins before the first block; where it begins later, no history goes further back.
-    /// Err where memory runs out. Takes a few look-ups and two copies for each output.
-    pub fn new(alloc: Global, tip: Tip, outputs: &Utxo, k: u64) -> Result<Watch, AllocError>
+    /// An index of a chain that ends at the tip and leaves these outputs, which watches those of them that `which`
+    /// says. Blocks that are put on from there on can be rolled back, at most k of them; after a rollback fewer, until
+    /// as many were put on again. With [`Tip::genesis`] and what a genesis grants it begins before the first block;
+    /// where it begins later, no history goes further back. Err where memory runs out. Takes a few look-ups and a copy
+    /// for each output, where all are watched; else a look-up for each, and two copies for each that is watched.
+    pub fn new(
+        alloc: Global,
+        tip: Tip,
+        outputs: &Utxo,
+        k: u64,
+        which: Which,
+    ) -> Result<Watch, AllocError>
         ensures new { IfOk result (λ watch. watch ≡ record {
           k = k;
-          last = record { tip = tip_of tip; tables = only_outputs outputs.now };
+          which = which;
+          last = record { tip = tip_of tip; tables = only_outputs (watched_among which outputs.now) };
           older = [];
         }) }
         // It is the index of each chain that ends so and leaves these.
@@ -104,13 +118,22 @@ impl Watch {
             IsLinked genesis_tip past → tip_of tip ≡ tip_after genesis_tip past →
             outputs.now ≡ unspent_of granted past → IsIndexOf granted past [] watch) }
     {
+        let tables = Tables::new(alloc, &which, outputs)?;
         Ok(Watch {
             alloc,
             k,
+            which,
             tip,
-            tables: Tables::new(alloc, outputs)?,
+            tables,
             differences: LinkedList::new(alloc),
         })
+    }
+
+    /// Which outputs it watches: always those that it was made for.
+    pub fn which(&self) -> &Which
+        ensures { result.now ≡ self.now.which }
+    {
+        &self.which
     }
 
     /// Where the chain ends.
@@ -128,14 +151,16 @@ impl Watch {
         self.differences.len()
     }
 
-    /// All unspent outputs. Copies nothing; [`Utxo::try_clone`] of them is a snapshot that takes no memory.
+    /// All watched outputs that are unspent. Copies nothing; [`Utxo::try_clone`] of them is a snapshot that takes no
+    /// memory.
     pub fn all(&self) -> &Utxo
         ensures { result.now ≡ self.now.last.tables.outputs }
     {
         self.tables.index.all()
     }
 
-    /// The unspent outputs of this address, in the order of their inputs. Takes a look-up, and copies nothing.
+    /// The watched outputs of this address that are unspent, in the order of their inputs. Takes a look-up, and copies
+    /// nothing.
     pub fn outputs(&self, address: &Address) -> &Utxo
         ensures { finite.entries result.now ≡
             pairs_of (address_of address.now) (finite.entries self.now.last.tables.outputs) }
@@ -143,8 +168,8 @@ impl Watch {
         self.tables.index.of(address)
     }
 
-    /// What the unspent outputs of this address hold together, each asset by itself, and how many they are. Looks at
-    /// each of them. Err where memory runs out, and where they are more than 2^62.
+    /// What the watched outputs of this address that are unspent hold together, each asset by itself, and how many they
+    /// are. Looks at each of them. Err where memory runs out, and where they are more than 2^62.
     pub fn balance(&self, address: &Address) -> Result<Totals, AllocError>
         ensures sums { IfOk result (λ totals. (asset : Asset) →
             total_of totals asset ≡ sum_of asset (outputs_with (address_of address.now) self.now.last.tables.outputs)) }
@@ -155,7 +180,7 @@ impl Watch {
     }
 
     /// Who holds the asset of this policy and name, and how much of it, in the order of the bytes of their addresses:
-    /// each address once whose unspent outputs hold some. Ada is no asset of a policy. Walks through all unspent
+    /// each address once of which watched outputs hold some. Ada is no asset of a policy. Walks through all watched
     /// outputs, with a few look-ups for each asset in them, and takes memory for the assets of one address at a time
     /// and for the holders. Amounts are exact. Err where memory runs out, and where an address has more than 2^62
     /// outputs, whose sum might not fit 128 bits.
@@ -166,16 +191,18 @@ impl Watch {
         self.tables.index.holders(self.alloc, policy, name)
     }
 
-    /// Which transactions spent from this address or paid to it, since the index began, the newest first: each one once
-    /// for each time that it came onto the chain, which on a valid chain is once. Takes a look-up, and copies nothing.
+    /// Which transactions spent a watched output of this address or made one, since the index began, the newest first:
+    /// each one once for each time that it came onto the chain, which on a valid chain is once. Takes a look-up, and
+    /// copies nothing.
     pub fn history(&self, address: &Address) -> &History
         ensures { result.now ≡ history_at self.now.last.tables.histories (address_bytes (address_of address.now)) }
     {
         self.tables.histories.of(&Owner::of(address))
     }
 
-    /// Where the transaction with this identifier was put onto the chain, the last time, if it was since the index
-    /// began. Takes a look-up.
+    /// Where the transaction with this identifier was put onto the chain, the last time that it spent a watched output
+    /// there or made one, if it did since the index began; where all outputs are watched, whatever it did. Takes a
+    /// look-up.
     pub fn transaction(&self, id: &TxId) -> Option<Inclusion>
         ensures { option_map inclusion_of result ≡ finite.get self.now.last.tables.inclusions id.now.bytes }
     {
@@ -184,8 +211,8 @@ impl Watch {
     }
 
     /// Puts a block on. Where it can't come next, or memory runs out, nothing changes. Takes a few look-ups for each
-    /// input and each output, and memory for the outputs, for what the block changed, and for a copy of each node on
-    /// the way to a change, until the block is on.
+    /// input and each output, and memory for the watched outputs, for what the block changed of what is kept, and for a
+    /// copy of each node on the way to a change, until the block is on.
     pub fn add_block<S: SigScheme>(&mut self, block: &CheckedBlock<S>) -> Result<(), WatchFault>
         ensures ok { OnOk result (self.new ≡ with_block self.old block.now) }
         ensures next { OnOk result (Follows self.old.last.tip block.now) }
@@ -198,15 +225,19 @@ impl Watch {
         ensures taken { OnOk result ((bytes : List ℕ) → SpellsBlock block.now bytes →
             IsTaken self.old (AddBlock bytes) self.new) }
     {
-        if !self.tip.precedes(block) {
+        if !self.tip.precedes(block.block()) {
             return Err(WatchFault::NotNext);
         }
         let advance = Advance::new(self.alloc, self.tables.try_clone()?);
-        let Advance { tables, changes } = advance.apply_all(block.header(), block.transactions())?;
+        let Advance { tables, changes } = advance.apply_all(
+            &self.which,
+            block.header(),
+            block.transactions(),
+        )?;
         let tip = self.tip;
         push_newest(&mut self.differences, Difference { tip, changes }, self.k)?;
         self.tables = tables;
-        self.tip = Tip::at(block);
+        self.tip = Tip::at(block.block());
         Ok(())
     }
 

@@ -5,7 +5,7 @@ use super::fixture::{MEMORY, boxed, same};
 use super::ledgerdb_tests::{new_db, switch};
 use super::payments::{block_of, hash_of, names_of};
 use block::CheckedBlock;
-use blockstore::{BlockStore, Capacity};
+use blockstore::{BlockStore, Capacity, LiveBlock};
 use chainsel::{Choice, Selection, Switch, chain_tip, select};
 use ident::BlockHash;
 use ledgerdb::LedgerDb;
@@ -45,7 +45,7 @@ fn new_chains(rt: &(impl Abort + AllocGlobal), k: u64, blocks: &str) -> Box<Chai
 fn select_with(
     rt: &(impl Abort + AllocGlobal),
     chains: &Chains,
-    block: &CheckedBlock<TestScheme>,
+    block: &LiveBlock<TestScheme>,
 ) -> Selection<TestScheme> {
     let Chains {
         store,
@@ -66,8 +66,17 @@ fn put_on(rt: &impl Abort, chains: &mut Chains, selected: Switch<TestScheme>) {
     chains.chain.append(&mut blocks).expect(rt, MEMORY);
 }
 
+/// The block in the form in which it comes: as its text alone, where its number is even.
+fn live(rt: &impl Abort, block: CheckedBlock<TestScheme>) -> LiveBlock<TestScheme> {
+    if block.number() % 2 == 0 {
+        LiveBlock::unread(block.block().try_clone().expect(rt, MEMORY))
+    } else {
+        LiveBlock::checked(block)
+    }
+}
+
 /// Takes the block into the store, with the marks of those that are dead, and drops what can come into no chain.
-fn keep(rt: &impl Abort, chains: &mut Chains, block: CheckedBlock<TestScheme>, dead: &[BlockHash]) {
+fn keep(rt: &impl Abort, chains: &mut Chains, block: LiveBlock<TestScheme>, dead: &[BlockHash]) {
     chains.store.insert(block).expect(rt, "room");
     for hash in dead {
         chains.store.mark_invalid(*hash);
@@ -80,16 +89,17 @@ fn keep(rt: &impl Abort, chains: &mut Chains, block: CheckedBlock<TestScheme>, d
 
 /// The block of this name comes; then the chain has `length` blocks, and `dead` are found dead.
 fn comes(rt: &(impl Abort + AllocGlobal), chains: &mut Chains, name: &str, length: u64, dead: u64) {
-    let block = block_of(rt, &chains.names, name);
+    let block = live(rt, Box::into_inner(block_of(rt, &chains.names, name)));
     let Selection {
         choice,
         invalid,
         side: _,
+        read: _,
     } = select_with(rt, chains, &block);
     if let Choice::Switch(selected) = choice {
         put_on(rt, chains, selected);
     }
-    keep(rt, chains, Box::into_inner(block), &invalid);
+    keep(rt, chains, block, &invalid);
     same(rt, name, chains.chain.len() as u64, length);
     same(rt, name, invalid.len() as u64, dead);
 }

@@ -12,7 +12,7 @@ returns-then-precedes g c =
     let hash = c.in_ok-previous.field-0.bytes in
     let live = found_live c.args.store.now hash c.in_ok-stored.stored.now c.in_ok-stored.ensures.found in
     let follows = subst (λ (t : Tip). Follows t c.args.block.now) (c.at.ensures ∙ ap tip_at c.block.ensures) (c.if-precedes.ensures.0 refl) in
-    subst (λ (b : Block). HasBlock c.args.store.now b × Follows (tip_at b) c.args.block.now) (sym c.block-then-precedes.ensures) (live, follows)
+    subst (λ (b : Block). HasBlock c.args.store.now b × Follows (tip_at b) c.args.block.now) (sym c.live.ensures) (live, follows)
 
 pub returns-else-precedes : goal.returns-else-precedes
 returns-else-precedes g c =

@@ -29,8 +29,8 @@ pub returns-in_err-way-clause-memory : goal.returns-in_err-way-clause-memory
 returns-in_err-way-clause-memory g c =
     on_err c.from_residual.result _ (λ network s whole has. beside_is network c.args.chain_db.now s has c.args.hash.bytes c.in-Some-get.stored.now c.in-Some-get.ensures.found (c.in_default.ensures network whole))
 
-pub judge-requires-clause-keep : goal.judge-requires-clause-keep
-judge-requires-clause-keep g c =
+pub judge_live-requires-clause-keep : goal.judge_live-requires-clause-keep
+judge_live-requires-clause-keep g c =
     let a = c.args.chain_db.now in
     let network = c.requires.whole.0 in
     let whole = c.requires.whole.1 in
@@ -38,11 +38,11 @@ judge-requires-clause-keep g c =
     let way = c.in_ok-way.way in
     let s = at_rest a in
     let has = rests network a whole in
-    let to = way_at network a s has hash c.in-Some-get.stored.now c.block.result.now c.in-Some-get.ensures.found c.block.ensures (c.in_default.ensures network whole) way.blocks.items way.footing (c.in_ok-way.ensures network s whole has) in
+    let to = way_at network a s has hash c.in-Some-get.stored.now c.live.result.now c.in-Some-get.ensures.found c.live.ensures (c.in_default.ensures network whole) way.blocks.items way.footing (c.in_ok-way.ensures network s whole has) in
     (way_keeps network a whole hash way.blocks.items c.in-Chain.keep (subst (IsWayTo network s hash way.blocks.items) c.in-Chain.is to)).0
 
-pub judge-requires-clause-depth : goal.judge-requires-clause-depth
-judge-requires-clause-depth g c =
+pub judge_live-requires-clause-depth : goal.judge_live-requires-clause-depth
+judge_live-requires-clause-depth g c =
     let a = c.args.chain_db.now in
     let network = c.requires.whole.0 in
     let whole = c.requires.whole.1 in
@@ -50,7 +50,7 @@ judge-requires-clause-depth g c =
     let way = c.in_ok-way.way in
     let s = at_rest a in
     let has = rests network a whole in
-    let to = way_at network a s has hash c.in-Some-get.stored.now c.block.result.now c.in-Some-get.ensures.found c.block.ensures (c.in_default.ensures network whole) way.blocks.items way.footing (c.in_ok-way.ensures network s whole has) in
+    let to = way_at network a s has hash c.in-Some-get.stored.now c.live.result.now c.in-Some-get.ensures.found c.live.ensures (c.in_default.ensures network whole) way.blocks.items way.footing (c.in_ok-way.ensures network s whole has) in
     (way_keeps network a whole hash way.blocks.items c.in-Chain.keep (subst (IsWayTo network s hash way.blocks.items) c.in-Chain.is to)).1
 
 pub returns-in-Chain-clause-why : goal.returns-in-Chain-clause-why
@@ -60,19 +60,19 @@ returns-in-Chain-clause-why g c =
     let hash = c.args.hash.bytes in
     let way = c.in_ok-way.way in
     let keep = c.in-Chain.keep in
-    IfOk-weaker c.judge.result (λ why. (genesis : Genesis) (opened : List Block) → IsWhole (network_on genesis v opened) a → IsJudged (network_on genesis v opened) (take keep a.chain.items) c.deref.result.now why)
+    IfOk-weaker c.judge_live.result (λ why. (genesis : Genesis) (opened : List Block) → IsWhole (network_on genesis v opened) a → IsJudged (network_on genesis v opened) (take keep a.chain.items) c.deref.result.now why)
     (λ why. (genesis : Genesis) (opened : List Block) (s : State) → IsWhole (network_on genesis v opened) a → HasState (network_on genesis v opened) a s → IsWhyOf (network_on genesis v opened) s hash (why_of why))
     (λ why judged genesis opened s whole has.
     let network = network_on genesis v opened in
-    let to = way_at network a s has hash c.in-Some-get.stored.now c.block.result.now c.in-Some-get.ensures.found c.block.ensures (c.in_default.ensures network whole) way.blocks.items way.footing (c.in_ok-way.ensures network s whole has) in
+    let to = way_at network a s has hash c.in-Some-get.stored.now c.live.result.now c.in-Some-get.ensures.found c.live.ensures (c.in_default.ensures network whole) way.blocks.items way.footing (c.in_ok-way.ensures network s whole has) in
     why_judged network a s whole has hash way.blocks.items keep why (subst (IsWayTo network s hash way.blocks.items) c.in-Chain.is to)
     (subst (λ (bs : List Block). IsJudged network (take keep bs) way.blocks.items why) has.chain
     (subst (λ (bs : List Block). IsJudged network (take keep a.chain.items) bs why) c.deref.ensures.value (judged genesis opened whole))))
-    c.judge.ensures
+    c.judge_live.ensures
 
 pub returns-in-Chain-clause-memory : goal.returns-in-Chain-clause-memory
 returns-in-Chain-clause-memory g c =
-    on_err c.judge.result _ (λ network s whole has. beside_is network c.args.chain_db.now s has c.args.hash.bytes c.in-Some-get.stored.now c.in-Some-get.ensures.found (c.in_default.ensures network whole))
+    on_err c.judge_live.result _ (λ network s whole has. beside_is network c.args.chain_db.now s has c.args.hash.bytes c.in-Some-get.stored.now c.in-Some-get.ensures.found (c.in_default.ensures network whole))
 
 pub returns-in-Missing-clause-why : goal.returns-in-Missing-clause-why
 returns-in-Missing-clause-why g c = λ genesis opened s whole has.
@@ -80,7 +80,7 @@ returns-in-Missing-clause-why g c = λ genesis opened s whole has.
     let a = c.args.chain_db.now in
     let hash = c.args.hash.bytes in
     let way = c.in_ok-way.way in
-    let to = way_at network a s has hash c.in-Some-get.stored.now c.block.result.now c.in-Some-get.ensures.found c.block.ensures (c.in_default.ensures network whole) way.blocks.items way.footing (c.in_ok-way.ensures network s whole has) in
+    let to = way_at network a s has hash c.in-Some-get.stored.now c.live.result.now c.in-Some-get.ensures.found c.live.ensures (c.in_default.ensures network whole) way.blocks.items way.footing (c.in_ok-way.ensures network s whole has) in
     let is = subst (IsWayTo network s hash way.blocks.items) c.in-Missing.is to in
     (is.0, is.2)
 
@@ -90,6 +90,6 @@ returns-clause-why g c = λ genesis opened s whole has.
     let a = c.args.chain_db.now in
     let hash = c.args.hash.bytes in
     let way = c.in_ok-way.way in
-    let to = way_at network a s has hash c.in-Some-get.stored.now c.block.result.now c.in-Some-get.ensures.found c.block.ensures (c.in_default.ensures network whole) way.blocks.items way.footing (c.in_ok-way.ensures network s whole has) in
+    let to = way_at network a s has hash c.in-Some-get.stored.now c.live.result.now c.in-Some-get.ensures.found c.live.ensures (c.in_default.ensures network whole) way.blocks.items way.footing (c.in_ok-way.ensures network s whole has) in
     let is = subst (IsWayTo network s hash way.blocks.items) c.in-Misfit.is to in
     (is.0, is.2.0, is.2.1)

@@ -1,6 +1,7 @@
 use Rattle.std.proofs.Common.{◌≡◌, ◌≢◌, ◌-◌, ℕ, true, false, List, [], length, map, take, drop, Contains, Bor, refl, sym, ap, subst, ◌∙◌}
 use Rattle.std.proofs.lemmas.List.{take_rest}
-use Rattle.block.specs.declared.checked_block.CheckedBlock.{CheckedBlock}
+use Rattle.blockstore.specs.declared.live_block.LiveBlock.{LiveBlock}
+use Rattle.model.specs.Block.{Block}
 use Rattle.blockstore.specs.Shelves.{HasPast}
 use Rattle.chainsel.specs.Ends.{HasLeastHash, ends_of}
 use Rattle.chainsel.proofs.EndLemmas.{least_is_best, newest_is_best}
@@ -8,7 +9,7 @@ use Rattle.chainsel.proofs.furthest.furthest.Given as given
 use Rattle.chainsel.proofs.furthest.furthest.Goals as goal
 
 -- the ends, as a slice of what was walked
-ends : (g : given.Over) (c : goal.After-least-end g) → (rest : List (Bor (CheckedBlock g.row.S.Denot))) × (rest ≡ drop c.in_ok-walk.walk.furthest c.in_ok-walk.walk.blocks.items)
+ends : (g : given.Over) (c : goal.After-least-end g) → (rest : List (Bor (LiveBlock g.row.S.Denot))) × (rest ≡ drop c.in_ok-walk.walk.furthest c.in_ok-walk.walk.blocks.items)
     × ((rest ≢ [] → Contains (map (λ x. x.now) rest) c.least-end.result.now) × HasLeastHash (map (λ x. x.now) rest) c.least-end.result.now)
 ends g c =
     let d = c.deref.result.now in
@@ -42,4 +43,4 @@ returns-then-not-goes_past-clause-best g c = λ positive.
     let store = c.args.store.now in
     let new = c.args.new.now in
     newest_is_best store c.args.found.now.hashes.items new
-    (subst (λ (n : ℕ). HasPast n store.blocks → ⊥) c.number.ensures (λ past. let e : false ≡ true = sym c.if-not-goes_past.true ∙ c.goes_past.ensures.1 past in cc))
+    (subst (λ (n : ℕ). HasPast n store.blocks → ⊥) (c.number.ensures ∙ ap (λ (b : Block). b.header.number) c.block.ensures) (λ past. let e : false ≡ true = sym c.if-not-goes_past.true ∙ c.goes_past.ensures.1 past in cc))

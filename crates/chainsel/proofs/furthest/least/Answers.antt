@@ -18,7 +18,7 @@ loop-end-preserved g c =
     let before = map (λ x. x.now) (take i ends) in
     let more : map (λ x. x.now) (take (i + 1) ends) ≡ before ++ end.now ∷ [] = map_one_more (λ x. x.now) ends i end c.loop-end-test.true c.end-item.is in
     let compared : slice_cmp nat_cmp c.hash.result.bytes c.hash-in-loop-end.result.bytes ≡ slice_cmp nat_cmp (block_hash_of end.now) (block_hash_of least.now) =
-    λ k. slice_cmp nat_cmp (c.hash.ensures k) (c.hash-in-loop-end.ensures k) in
+    λ k. slice_cmp nat_cmp ((c.hash.ensures ∙ ap block_hash_of c.block.ensures) k) ((c.hash-in-loop-end.ensures ∙ ap block_hash_of c.block-in-loop-end.ensures) k) in
     elim c.if-is_less.branch [
       | then-is_less w ↦
           let is : c.if-is_less.least.now ≡ end.now = ap (λ b. b.now) w.least-is in

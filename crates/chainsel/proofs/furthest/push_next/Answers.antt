@@ -30,11 +30,11 @@ loop-stored-preserved g c =
     elim c.if-is_fit.branch [
       | then-is_fit+then-follows+in_ok-push w ↦
           let follows : Follows (tip_at end) b = subst (Follows (tip_at end)) w.block.ensures (w.if-follows.ensures.next.0 refl) in
-          let block = w.block-then-follows.result in
+          let block = w.live.result in
           let behind : w.push.new.self.items ≡ c.loop-stored.walked.items ++ block ∷ [] = w.in_ok-push.ensures.items in (
             before.0 ++ b ∷ [],
             ap (λ (v : Vec _). map (λ x. x.now) v.items) w.walked-is
-                ∙ pushed (λ x. x.now) w.push.new.self.items c.loop-stored.walked.items block b old before.0 behind w.block-then-follows.ensures before.1,
+                ∙ pushed (λ x. x.now) w.push.new.self.items c.loop-stored.walked.items block b old before.0 behind w.live.ensures before.1,
             subst (λ (ss : List Stored). AreTaken invalid end ss (before.0 ++ b ∷ [])) (sym one_more) (taken_more invalid end found stored.now before.0 before.2 (w.if-is_fit.ensures.0 refl) follows),
             all_push (λ c. c.header.number < 2 ^ 64) before.0 b before.3 (subst (λ (d : Block). d.header.number < 2 ^ 64) w.block.ensures w.follows.ensures.range),
           )

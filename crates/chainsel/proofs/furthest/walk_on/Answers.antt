@@ -1,5 +1,4 @@
 use Rattle.std.proofs.Common.{◌≡◌, ◌+◌, ◌-◌, ◌<◌, ◌≤◌, ◌^◌, ◌++◌, ℕ, List, [], ◌∷◌, map, take, drop, length, sym, ap, subst, ◌∙◌, arith, append-nil, append_assoc}
-use Rattle.std.specs.List.{AllByRecursion}
 use Rattle.std.proofs.lemmas.List.{take_all, length-map, length-drop}
 use Rattle.model.specs.Block.{Block}
 use Rattle.model.proofs.Lists.{all_append}
@@ -32,7 +31,7 @@ loop-place-preserved g c =
       before.0 ++ added.0,
       added.1 ∙ (ap (λ (bs : List Block). bs ++ added.0) before.1 ∙ append_assoc start before.0 added.0),
       subst (λ (bs : List Block). AreNext store invalid bs (before.0 ++ added.0)) (sym one_more)
-          (next_more store invalid (take (place - from) (drop from start)) before.0 end.now added.0 before.2 added.2),
+          (next_more store invalid (take (place - from) (drop from start)) before.0 end.now added.0 before.2 (subst (λ (b : Block). AreNext store invalid (b ∷ []) added.0) c.block.ensures added.2)),
       all_append (λ b. b.header.number < 2 ^ 64) before.0 added.0 before.3 added.3,
     )
 

@@ -29,7 +29,7 @@ pub returns-then-number-chain : goal.returns-then-number-chain
 returns-then-number-chain g c =
     kept_by_number g.S.SigScheme.verifies c.args.chain.now c.args.store.now c.args.db.now c.args.new.now c.keep.result c.loop-side.found.hashes.items c.keep.ensures.choice c.keep.ensures.invalid c.loop-side.invariant.dead
     (subst (λ o. IfSome o (IsSideInAll g.S.SigScheme.verifies c.args.chain.now c.args.store.now c.args.db.now c.args.new.now)) (sym c.keep.ensures.side) c.loop-side.invariant.beside)
-    c.in_ok-best.best.end.now c.in_ok-best.ensures.best (let e = c.number.ensures in let le = c.if-number-chain.true in omega arith)
+    c.in_ok-best.best.end.now c.in_ok-best.ensures.best (let e = c.number.ensures ∙ ap (λ (b : Block). b.header.number) c.block-in-loop-side.ensures in let le = c.if-number-chain.true in omega arith)
 
 pub returns-in_default : goal.returns-in_default
 returns-in_default g c =
@@ -42,7 +42,7 @@ returns-in_default g c =
 led : (g : given.Over) (c : In-Some g) → IsLed c.args.chain.now c.args.store.now c.args.db.now c.args.new.now c.loop-side.found.hashes.items c.in_ok-best.best.end.now c.args.immutable c.in-Some.way.keep c.in-Some.way.blocks.items
 led g c = record {
   best = c.in_ok-best.ensures.best;
-  longer = let e = c.number.ensures in let not = c.if-number-chain.false in omega arith;
+  longer = let e = c.number.ensures ∙ ap (λ (b : Block). b.header.number) c.block-in-loop-side.ensures in let not = c.if-number-chain.false in omega arith;
   immutable_at = c.requires.immutable;
   way = match_some _ _ c.in_ok-way.field-0 c.in-Some.way c.in_ok-way.ensures c.in-Some.is;
 }
@@ -54,7 +54,7 @@ returns-in-Ok g c =
     let blocks = c.in-Some.way.blocks in
     let back = length chain - keep in
     switched g.S.SigScheme.verifies chain c.args.store.now c.args.db.now c.args.new.now c.loop-side.found.hashes.items c.loop-side.invariant.dead c.in_ok-best.best.end.now c.args.immutable keep blocks.items (led g (goal.at.returns-in-Ok g c).In-Some)
-    c.into_hashes.result (record { back = back; blocks = blocks; prepared = c.in-Ok.prepared }) c.into_hashes.ensures refl refl c.in-Ok.ensures.back (c.in-Ok.ensures.count ∙ ap length c.deref.ensures.value)
+    c.into_hashes.result (record { back = back; blocks = blocks; prepared = c.in-Ok.prepared }) c.new-in-Ok.result c.into_hashes.ensures refl refl c.in-Ok.ensures.back (c.in-Ok.ensures.count ∙ ap length c.deref.ensures.value)
     (λ genesis opened database. subst (λ (bs : List Block). IsPreparedOf (network_on genesis g.S.SigScheme.verifies opened) (without_last back chain) bs c.in-Ok.prepared) c.deref.ensures.value (c.in-Ok.ensures.chain genesis opened chain database))
 
 -- ---- a block of the way isn't applied
@@ -111,7 +111,7 @@ returns-then-eq g c =
           let among : Contains c.push.new.self.hashes.items dead =
           subst (λ (hashes : List BlockHash). Contains hashes dead) (sym c.in_ok-push-in-Err-Refused.ensures)
           (Contains-append_right c.loop-side.found.hashes.items (dead ∷ []) dead (contains_first dead [])) in
-          let named : dead.bytes ≡ block_hash_of new = (bytes_eq-Decides dead.bytes c.hash.result.bytes).0 (sym w.if-eq.ensures) ∙ c.hash.ensures in
+          let named : dead.bytes ≡ block_hash_of new = (bytes_eq-Decides dead.bytes c.hash-hash.result.bytes).0 (sym w.if-eq.ensures) ∙ (c.hash-hash.ensures ∙ ap block_hash_of c.block.ensures) in
           kept_by_death verifies chain store db new c.keep-then-eq.result c.push.new.self.hashes.items c.keep-then-eq.ensures.choice (c.keep-then-eq.ensures.invalid ∙ ap (λ (f : Found). f.hashes.items) w.found-is)
           all_dead still dead among named
       | then-eq-via-else-eq+in_ok-sift-in-Err-Refused+then-not-branch w ↦
@@ -136,7 +136,7 @@ found_now g c is_led =
     let b = c.index.result.now in
     let stops = subst (IsForkFault g.S.SigScheme.verifies (state_back c.args.db.now (length c.args.chain.now - keep)) blocks) c.in-Err-Refused.field-0-is
     (subst (λ (bs : List Block). IsForkFault g.S.SigScheme.verifies (state_back c.args.db.now (length c.args.chain.now - keep)) bs c.in-Err-Refused.field-0) c.deref.ensures.value c.in-Err-Refused.ensures.refused) in
-    let other : block_hash_of b ≢ block_hash_of new = λ same. let e : false ≡ true = c.if-eq.ensures ∙ (bytes_eq-Decides c.hash-dead.result.bytes c.hash.result.bytes).1 (c.hash-dead.ensures ∙ (same ∙ sym c.hash.ensures)) in cc in
+    let other : block_hash_of b ≢ block_hash_of new = λ same. let e : false ≡ true = c.if-eq.ensures ∙ (bytes_eq-Decides c.hash-dead.result.bytes c.hash-hash.result.bytes).1 (c.hash-dead.ensures ∙ (same ∙ sym (c.hash-hash.ensures ∙ ap block_hash_of c.block.ensures))) in cc in
     let fit = way_fit store old c.args.chain.now c.args.immutable new end keep blocks is_led.way c.in_ok-best.ensures.descends b (c.in-Err-Refused.index, stops.within, sym c.index.ensures) other in
     subst (AreFound store) (sym c.in_ok-push-in-Err-Refused.ensures) (one_found store old b c.hash-dead.result c.loop-side.invariant.found fit c.hash-dead.ensures)
 

@@ -1,5 +1,8 @@
 use Rattle.std.proofs.Common.{Bool, List, [], ◌∷◌, Contains, inl, inr, sym, subst, ◌∙◌}
-use Rattle.std.specs.Prelude.{IfSome}
+use Rattle.std.specs.Prelude.{IfSome, MatchOption}
+use Rattle.std.specs.List.{AllByRecursion}
+use Rattle.model.specs.Block.{Block}
+use Rattle.model.specs.Chain.{Follows}
 use Rattle.std.proofs.lemmas.List.Elements.{Contains-append_right}
 use Rattle.model.specs.Ledger.{network_on}
 use Rattle.model.proofs.Lists.{contains_first}
@@ -34,7 +37,7 @@ dead_now g c genesis opened ready =
     let chain = c.args.chain.now in
     let store = c.args.store.now in
     let new = c.args.new.now in
-    c.in_ok-sift.ensures.dead genesis opened chain (beside_ready network chain store c.args.db.now new ready c.side_before.result _ c.side_before.ensures)
+    c.in_ok-sift.ensures.dead genesis opened chain (beside_ready network chain store c.args.db.now new ready c.side_before.result _ (subst (λ (b : Block). MatchOption c.side_before.result (AllByRecursion (λ s. Follows s.tip b → ⊥) c.args.db.now.sides) (λ s. Contains c.args.db.now.sides s.now × Follows s.now.tip b)) c.block.ensures c.side_before.ensures))
     (subst (AreDead network chain store new) (sym c.new-found.ensures) tt)
 
 pub returns-then-not-branch : goal.returns-then-not-branch

@@ -18,7 +18,7 @@ judge-requires-clause-fit g c =
     record {
       stored = stored.now;
       member = ((c.in_ok-successors.ensures.found.members stored.now).0 among).0;
-      block = sym c.block-then-follows.ensures;
+      block = sym c.live.ensures;
       fit = c.if-is_fit.ensures.0 refl;
     }
 

@@ -1,7 +1,7 @@
 use Rattle.std.proofs.Common.{◌≡◌, ◌+◌, ◌-◌, ◌≤◌, List, [], ◌∷◌, ◌++◌, length, take, reverse, true, false, refl, sym, ap, subst, ◌∙◌, arith}
 use Rattle.std.proofs.lemmas.List.{reverse-append}
 use Rattle.model.specs.Block.{Block}
-use Rattle.model.specs.Chain.{genesis_tip, tip_after, Follows}
+use Rattle.model.specs.Chain.{genesis_tip, tip_at, tip_after, Follows}
 use Rattle.chainsel.specs.Paths.{IsWay}
 use Rattle.chainsel.proofs.Walks.{IsWalk, way_found, walk_step, no_way_further, no_way_lower}
 use Rattle.chainsel.proofs.way.way_to.Goals as goal
@@ -19,10 +19,10 @@ returns-then-follows_chain g c =
     let low : c.args.immutable ≤ keep = let more = c.loop-keep-test.true in omega arith in
     let number : keep + 1 ≡ first.header.number = let is = c.loop-keep.invariant.number in let more = c.loop-keep-test.true in omega arith in
     let walked : reverse c.push.new.self.items ≡ first ∷ reverse c.loop-keep.way.items =
-    reversed c.push.new.self.items c.loop-keep.way.items c.in_ok-try_clone.field-0 first c.in_ok-push.ensures.items c.in_ok-try_clone.ensures.same in
+    reversed c.push.new.self.items c.loop-keep.way.items c.in_ok-read.field-0 first c.in_ok-push.ensures.items c.in_ok-read.ensures in
     let IsWayBy : List Block → Type 0 = IsWay c.args.store.now c.args.found.now.hashes.items chain c.args.immutable c.args.new.now c.args.best.end.now keep in
     subst IsWayBy (sym {A = List Block} c.reverse.ensures.items) (subst IsWayBy (sym walked)
-    (way_found c.args.store.now c.args.found.now.hashes.items chain c.args.immutable c.args.new.now c.args.best.end.now first (reverse c.loop-keep.way.items) keep c.loop-keep.invariant.walk number low c.if-keep-chain.true (c.if-follows_chain.ensures.0 refl)))
+    (way_found c.args.store.now c.args.found.now.hashes.items chain c.args.immutable c.args.new.now c.args.best.end.now first (reverse c.loop-keep.way.items) keep c.loop-keep.invariant.walk number low c.if-keep-chain.true (subst (Follows (tip_after genesis_tip (take keep chain))) c.block-then-keep-chain.ensures (c.if-follows_chain.ensures.0 refl))))
 
 pub returns-in_default : goal.returns-in_default
 returns-in_default g c =
@@ -32,12 +32,12 @@ returns-in_default g c =
     let number : keep + 1 ≡ first.header.number = let is = c.loop-keep.invariant.number in let more = c.loop-keep-test.true in omega arith in
     let refused : keep ≤ length chain → Follows (tip_after genesis_tip (take keep chain)) first → ⊥ =
     elim c.else-keep-chain.branch [
-      | else-keep-chain-via-then-keep-chain+else-follows_chain w ↦ λ within follows. let e : false ≡ true = w.if-follows_chain.ensures.1 follows in cc
+      | else-keep-chain-via-then-keep-chain+else-follows_chain w ↦ λ within follows. let e : false ≡ true = w.if-follows_chain.ensures.1 (subst (Follows (tip_after genesis_tip (take keep chain))) (sym w.block-then-keep-chain.ensures) follows) in cc
       | else-keep-chain-via-else-keep-chain w ↦ λ within follows. let past = w.if-keep-chain.false in omega arith
     ] in
     λ distinct linked within before members path.
     no_way_further c.args.store.now c.args.found.now.hashes.items chain c.args.immutable c.args.new.now c.args.best.end.now first (reverse c.loop-keep.way.items) keep c.loop-keep.invariant.walk number refused
-    (λ apart. c.in_default.ensures.parent apart.1) before (record { distinct = distinct; chain_linked = linked; within = within; members = members; linked = path })
+    (λ apart b on follows. c.in_default.ensures.parent apart.1 b on (subst (Follows (tip_at b)) (sym c.block-in-loop-keep.ensures) follows)) before (record { distinct = distinct; chain_linked = linked; within = within; members = members; linked = path })
 
 pub loop-keep-preserved : goal.loop-keep-preserved
 loop-keep-preserved g c =
@@ -47,14 +47,14 @@ loop-keep-preserved g c =
     let number : keep + 1 ≡ first.header.number = let is = c.loop-keep.invariant.number in let more = c.loop-keep-test.true in omega arith in
     let refused : keep ≤ length chain → Follows (tip_after genesis_tip (take keep chain)) first → ⊥ =
     elim c.else-keep-chain.branch [
-      | else-keep-chain-via-then-keep-chain+else-follows_chain w ↦ λ within follows. let e : false ≡ true = w.if-follows_chain.ensures.1 follows in cc
+      | else-keep-chain-via-then-keep-chain+else-follows_chain w ↦ λ within follows. let e : false ≡ true = w.if-follows_chain.ensures.1 (subst (Follows (tip_after genesis_tip (take keep chain))) (sym w.block-then-keep-chain.ensures) follows) in cc
       | else-keep-chain-via-else-keep-chain w ↦ λ within follows. let past = w.if-keep-chain.false in omega arith
     ] in
-    let walk = walk_step c.args.store.now c.args.found.now.hashes.items chain c.args.immutable c.args.new.now c.args.best.end.now first c.in-Some.before.now (reverse c.loop-keep.way.items) keep c.loop-keep.invariant.walk number refused c.in-Some.ensures.parent.0 c.in-Some.ensures.parent.1 in
+    let walk = walk_step c.args.store.now c.args.found.now.hashes.items chain c.args.immutable c.args.new.now c.args.best.end.now first c.in-Some.before.now (reverse c.loop-keep.way.items) keep c.loop-keep.invariant.walk number refused c.in-Some.ensures.parent.0 (subst (Follows (tip_at c.in-Some.before.now)) c.block-in-loop-keep.ensures c.in-Some.ensures.parent.1) in
     record {
       walk = subst (IsWalk c.args.store.now c.args.found.now.hashes.items chain c.args.immutable c.args.new.now c.args.best.end.now c.in-Some.before.now)
-          (sym (reversed c.push.new.self.items c.loop-keep.way.items c.in_ok-try_clone.field-0 first c.in_ok-push.ensures.items c.in_ok-try_clone.ensures.same)) walk;
-      number = let next = c.in-Some.ensures.parent.1.number in omega arith;
+          (sym (reversed c.push.new.self.items c.loop-keep.way.items c.in_ok-read.field-0 first c.in_ok-push.ensures.items c.in_ok-read.ensures)) walk;
+      number = let next = (subst (Follows (tip_at c.in-Some.before.now)) c.block-in-loop-keep.ensures c.in-Some.ensures.parent.1).number in omega arith;
       walked = c.in-Some.ensures.walked;
     }
 

@@ -1,4 +1,4 @@
-use Rattle.std.proofs.Common.{◌≡◌, ◌∷◌, [], List, Some, None, true, false, ap, sym, subst, arith, length, map, inl}
+use Rattle.std.proofs.Common.{◌≡◌, ◌∷◌, List, Some, true, ap, sym, subst, arith, length, map, inl}
 use Rattle.std.proofs.lemmas.List.{length-map}
 use Rattle.model.proofs.Lists.{nothing_contained}
 use Rattle.block.specs.declared.tip.Tip.{Tip as Place}

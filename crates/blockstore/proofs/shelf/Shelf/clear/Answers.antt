@@ -1,6 +1,5 @@
-use Rattle.std.proofs.Common.{rules, ◌≡◌, ◌∙◌, ap, subst, sym, map, List, ℕ}
+use Rattle.std.proofs.Common.{rules, ◌≡◌, ◌∙◌, ap, subst, sym, map}
 use Rattle.std.proofs.lemmas.Map.Made.{map_same_pairs}
-use Rattle.blockstore.specs.Stored.{Stored}
 use Rattle.blockstore.specs.Placed.{Held, cleared, blocks_in}
 use Rattle.blockstore.specs.Keys.{IsLinkOf, IsAgeOf}
 use Rattle.blockstore.proofs.Sizes.{bytes_of, AreSized}

@@ -1,4 +1,4 @@
-use Rattle.std.proofs.Common.{◌≡◌, ◌∙◌, ◌+◌, ◌≤◌, ◌∷◌, refl, sym, ap, subst, arith, List, ℕ, Option, None, vec_len, vec_capacity, option_map}
+use Rattle.std.proofs.Common.{◌≡◌, ◌∙◌, ◌+◌, ◌≤◌, ◌∷◌, refl, sym, ap, subst, arith, List, None, vec_len, vec_capacity, option_map}
 use Rattle.block.specs.View.{tip_of}
 use Rattle.blockstore.specs.Stored.{Stored}
 use Rattle.blockstore.specs.Placed.{Held, blocks_in, notes_in, stored_at, IsKeyed}

@@ -1,4 +1,4 @@
-use Rattle.std.proofs.Common.{◌≡◌, subst, sym, ap, map, List, true, false, Contains}
+use Rattle.std.proofs.Common.{subst, sym, ap, List, Contains}
 use Rattle.std.specs.List.{filter}
 use Rattle.model.proofs.MappedLists.{contains_before, filter_member}
 use Rattle.block.specs.View.{tip_of}

@@ -33,11 +33,11 @@ returns-in-Some-clause-step g c =
 -- the block that is shared is the one that was judged
 judged : (g : given.Over) (c : In_ok-shared g) → IsFirstRefusalAt (network_held (held c.self.inside) g.S.SigScheme.verifies) c.self.inside.chain_db c.in_ok-shared.shared None
 judged g c =
-    subst (λ (b : Block). IsFirstRefusalAt (network_held (held c.self.inside) g.S.SigScheme.verifies) c.self.inside.chain_db b None) (sym c.in_ok-shared.ensures.same)
+    subst (λ (b : Block). IsFirstRefusalAt (network_held (held c.self.inside) g.S.SigScheme.verifies) c.self.inside.chain_db b None) (sym c.in_ok-shared.ensures)
     (λ (s : State) (has : HasState (network_held (held c.self.inside) g.S.SigScheme.verifies) c.self.inside.chain_db s). c.in_default.ensures (network_held (held c.self.inside) g.S.SigScheme.verifies) s c.in-Ok.block.now c.self.invariant.whole has c.bytes.ensures (c.point.ensures.number, c.point.ensures.hash))
 
 read : (g : given.Over) (c : In_ok-shared g) → IsRead c.in_ok-shared.shared c.args.seen.now
-read g c = subst (λ (b : Block). IsRead b c.args.seen.now) (sym c.in_ok-shared.ensures.same) c.in-Ok.ensures.block
+read g c = subst (λ (b : Block). IsRead b c.args.seen.now) (sym c.in_ok-shared.ensures) c.in-Ok.ensures.block
 
 -- the block may be put in
 fits : (g : given.Over) (c : In_ok-shared g) → IsReady (network_held (held c.self.inside) g.S.SigScheme.verifies) c.self.inside.chain_db.chain.items c.self.inside.chain_db.store c.self.inside.chain_db.db c.in_ok-shared.shared × (IsFull c.self.inside.chain_db.store (length (block_text c.in_ok-shared.shared)) → ⊥)

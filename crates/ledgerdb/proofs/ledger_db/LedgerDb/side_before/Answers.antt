@@ -8,10 +8,10 @@ use Rattle.ledgerdb.specs.Values.{Database}
 use Rattle.ledgerdb.proofs.ledger_db.LedgerDb.side_before.Goals as goal
 
 pub loop-side-init : goal.loop-side-init
-loop-side-init g c = ([], c.iter-rest.ensures.rest ∙ ap (λ (db : Database). db.sides) c.self.view_is, tt)
+loop-side-init c = ([], c.iter-rest.ensures.rest ∙ ap (λ (db : Database). db.sides) c.self.view_is, tt)
 
 pub returns-then-precedes : goal.returns-then-precedes
-returns-then-precedes g c =
+returns-then-precedes c =
     let passed = c.loop-side.invariant in
     let side = c.in-Some.side.now in
     let left = c.next.new.self in
@@ -19,7 +19,7 @@ returns-then-precedes g c =
     (subst (λ (ss : List LedgerState). Contains ss side) whole (Contains-append_right passed.0 (side ∷ left) side (contains_first side left)), c.precedes.ensures.0 c.if-precedes.true)
 
 pub loop-side-preserved : goal.loop-side-preserved
-loop-side-preserved g c =
+loop-side-preserved c =
     let passed = c.loop-side.invariant in
     let side = c.in-Some.side.now in
     let left = c.next.new.self in
@@ -30,7 +30,7 @@ loop-side-preserved g c =
     )
 
 pub returns : goal.returns
-returns g c =
+returns c =
     let passed = c.loop-side.invariant in
     let whole : passed.0 ≡ c.args.self.now.sides = sym (append-nil passed.0) ∙ (ap (λ (ss : List LedgerState). passed.0 ++ ss) (sym c.in_default.ensures.steps.0) ∙ passed.1) in
     subst (AllByRecursion (λ (s : LedgerState). Follows s.tip c.args.block.now → ⊥)) whole passed.2

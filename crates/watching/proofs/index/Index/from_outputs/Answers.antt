@@ -1,7 +1,10 @@
-use Rattle.std.proofs.Common.{◌∙◌}
-use Rattle.watching.proofs.Sifted.{none_put}
+use Rattle.std.proofs.Common.{sym}
+use Rattle.watching.specs.Which.{watched_among}
+use Rattle.watching.proofs.Owning.{ok_as}
+use Rattle.watching.proofs.Narrowing.{all_are_watched}
 use Rattle.watching.proofs.index.Index.from_outputs.Goals as goal
 
-pub loop-input-init : goal.loop-input-init
-loop-input-init c =
-    none_put c.args.outputs.now c.new-index.result c.into_iter-input-iterator.result c.new-index.ensures (c.into_iter-input-iterator.ensures.into_iter_gives ∙ c.iter-input-items.ensures)
+pub returns-then-is_all : goal.returns-then-is_all
+returns-then-is_all c =
+    let u = c.args.outputs.now in
+    ok_as c.of_all.result u (watched_among c.args.which.now u) (all_are_watched c.args.which.now u (sym c.if-is_all.ensures)) c.of_all.ensures
