@@ -16,9 +16,9 @@ enum Form<S: SigScheme> {
     Unread(Block),
 }
 
-/// A live block: with its transactions and the verdicts on them, or, as long as nothing asks for these, as its text
-/// alone. A transaction that was read takes many times its bytes, so who sends blocks that nothing connects fills no
-/// more memory than their bytes.
+/// A live block: with its transactions and the verdicts on them, or, where no way leads to it, as its text alone. A
+/// transaction that was read takes many times its bytes, so who sends blocks that nothing connects, or bad ones, fills
+/// no more memory than their bytes.
 #[derive(Drop)]
 pub struct LiveBlock<S: SigScheme> {
     form: Form<S>,
@@ -67,8 +67,19 @@ impl<S: SigScheme> LiveBlock<S> {
     }
 
     /// Whether it is held as its text alone.
-    pub fn is_unread(&self) -> bool {
+    pub(crate) fn is_unread(&self) -> bool {
         matches!(self.form, Form::Unread(_))
+    }
+
+    /// Holds it as its text alone from now on. Takes no memory.
+    pub(crate) fn let_go(&mut self)
+        ensures { self.new ≡ self.old }
+    {
+        if let Form::Checked(checked) = &self.form {
+            if let Ok(block) = checked.block().try_clone() {
+                self.form = Form::Unread(block);
+            }
+        }
     }
 
     /// One more owner of the block, in the same form, in constant time and with no allocation. Err where 2^63 - 1

@@ -82,11 +82,14 @@ impl<S: SigScheme> PlacedBlock<S> {
         place
     }
 
-    /// Holds the block with its transactions from now on, if it is this one and held as its text alone.
+    /// Holds the block with its transactions from now on, if it is this one, held as its text alone, and a way leads to
+    /// it.
     pub fn hold(&mut self, block: CheckedBlock<S>)
         ensures { self.new ≡ self.old }
     {
-        self.stored.hold(block);
+        if self.reached {
+            self.stored.hold(block);
+        }
     }
 
     /// Takes the mark off, and notes that no way leads to the block. Answers that it stays.
@@ -122,6 +125,9 @@ impl<S: SigScheme> PlacedBlock<S> {
             && self.is_led(root, reached) == reached;
         if turns {
             self.reached = reached;
+            if !reached {
+                self.stored.let_go();
+            }
         }
         turns
     }

@@ -152,8 +152,8 @@ impl<S: SigScheme> BlockStore<S> {
         self.blocks.connects(&self.root, header)
     }
 
-    /// Holds this block with its transactions from now on, if it is live and held as its text alone: so they aren't
-    /// read again. A look-up, and then its text is compared. Takes no memory.
+    /// Holds this block with its transactions from now on, if it is live, a way leads to it and it is held as its text
+    /// alone: so they aren't read again. A look-up, and then its text is compared. Takes no memory.
     pub fn hold(&mut self, block: CheckedBlock<S>)
         ensures { self.new ≡ self.old }
     {

@@ -79,7 +79,15 @@ impl<S: SigScheme> StoredBlock<S> {
     pub(crate) fn mark(&mut self)
         ensures { self.new ≡ marked self.old }
     {
+        self.block.let_go();
         self.invalid = true;
+    }
+
+    /// Holds the block as its text alone from now on.
+    pub(crate) fn let_go(&mut self)
+        ensures { self.new ≡ self.old }
+    {
+        self.block.let_go();
     }
 
     /// Takes the mark off, if there is one.

@@ -11,6 +11,7 @@ use std::alloc::{AllocError, Global};
 use timelock::Script;
 use tx::Tx;
 use value::{Mint, Value};
+use witness_pool::TestScheme;
 
 /// What comes of a text that is one.
 const READ: &str = "read and written again\n";

@@ -40,15 +40,16 @@ pub fn search<S: SigScheme>(
     ensures { IfOk result (IsSelectionAnswer S.verifies chain.now store.now db.now new.now) }
 {
     let mut found = found;
+    let mut read = Vec::new(alloc);
     let mut side = None;
     let hash = new.block().hash();
     loop {
         let best = furthest(alloc, store, &found, new)?;
         if best.end.block().number() <= chain.len() as u64 {
-            return Ok(keep(found, side, Vec::new(alloc)));
+            return Ok(keep(found, side, read));
         }
         let Some(way) = way_to(alloc, store, &found, chain, immutable, new, best)? else {
-            return Ok(keep(found, side, Vec::new(alloc)));
+            return Ok(keep(found, side, read));
         };
         let back = chain.len() - way.keep;
         match db.fork(back, &way.blocks) {
@@ -62,7 +63,7 @@ pub fn search<S: SigScheme>(
                     choice,
                     invalid: found.into_hashes(),
                     side: None,
-                    read: Vec::new(alloc),
+                    read,
                 });
             }
             Err(ForkFault::OutOfMemory) => return Err(AllocError),
@@ -70,8 +71,10 @@ pub fn search<S: SigScheme>(
                 let dead = way.blocks[index].hash();
                 found.push(dead)?;
                 side = side_of(db, back, &way.blocks, index, hash)?;
+                read = way.blocks;
+                read.truncate(index);
                 if dead == hash || !sift(alloc, store, &mut found, side.as_ref(), new)? {
-                    return Ok(keep(found, side, way.blocks));
+                    return Ok(keep(found, side, read));
                 }
             }
         }

@@ -37,7 +37,7 @@ pub struct Selection<S: SigScheme> {
     /// that comes first on the fork: for [`ledgerdb::LedgerDb::keep_side`], so that the next block there is judged on
     /// it. None where the chain changes, where no block was found dead, or where it was judged on such a state.
     pub side: Option<LedgerState>,
-    /// Where the block that came was found dead, those before it on its fork, with their transactions, which were read
-    /// for that: for [`blockstore::BlockStore::hold`], so that the next block there has them read no more.
+    /// Where a block was found dead and the chain stays, those before it on its fork, with their transactions, which
+    /// were read for that: for [`blockstore::BlockStore::hold`], so that the next block there has them read no more.
     pub read: Vec<CheckedBlock<S>>,
 }

@@ -1,12 +1,12 @@
 //! Blocks with transactions: what is read of one, what is written, each bit of a body flipped, and each beginning.
 
 use super::blocks::{block_of, fault_of, first_hash, has_no_beginning};
-use super::fixture::{NINES, ONES, check, hex, is_spelled};
+use super::fixture::{NINES, ONES, boxed, check, hex, is_spelled};
 use super::transaction_making::TWENTY_NINE;
 use super::transactions::{MINTING, MINTING_BODY, PAYING, PAYING_BODY, read_all};
-use block::{NoText, ReadFault, write};
+use block::{CheckedBlock, NoText, ReadFault, write};
 use std::process::Abort;
-use tx::Tx;
+use witness_pool::{CheckedTx, TestScheme};
 
 /// Block 2 in slot 5 after the first block, up to the hash of its body.
 const FRONT: &str =
@@ -79,11 +79,11 @@ fn written_blocks(rt: HostRuntime) {
 const SIZES: &[(u64, u64)] = &[(190, 290), (273, 400)];
 
 /// These are the payment and the minting.
-fn are_both(rt: &impl Abort, transactions: &[Tx]) {
+fn are_both(rt: &impl Abort, transactions: &[CheckedTx<TestScheme>]) {
     check(rt, "two", transactions.len() == 2);
     for (tx, (size, fee)) in transactions.iter().zip(SIZES) {
-        check(rt, "size", tx.size() == *size);
-        check(rt, "fee", tx.fee() == *fee);
+        check(rt, "size", tx.tx().size() == *size);
+        check(rt, "fee", tx.tx().fee() == *fee);
     }
 }
 
@@ -91,7 +91,9 @@ fn are_both(rt: &impl Abort, transactions: &[Tx]) {
 fn transactions_of_a_block(rt: HostRuntime) {
     let block = block_of(&rt, &hex(&rt, BOTH));
     check(&rt, "some", !block.is_empty());
-    are_both(&rt, block.transactions());
+    let checked = CheckedBlock::from_block(rt.alloc(), &block).expect(&rt, "memory");
+    let checked = boxed(&rt, checked);
+    are_both(&rt, checked.transactions());
 }
 
 /// The text with this bit flipped is malformed, or has another body hash. It is as it was then.

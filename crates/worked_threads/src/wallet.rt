@@ -1,6 +1,8 @@
 use anyhow::bail;
 use chaindb::wallet::{Address, Draft, Input, KeyWitness};
-use chaindb::{Core, Ed25519, FollowerId, Instruction, SigScheme, SubmitReply, Tip, TxId, Watch};
+use chaindb::{
+    Core, Ed25519, FollowerId, Instruction, SigScheme, SubmitReply, Tip, TxId, Watch, Which,
+};
 
 /// A payment that is signed elsewhere: what the input holds is spent on it and its fee.
 pub fn payment(
@@ -49,7 +51,7 @@ pub struct Wallet {
 impl Wallet {
     /// A wallet at a core that has no block yet and never rolls back more than k.
     pub fn new(rt: &impl AllocGlobal, core: &mut Core<Ed25519>, k: u64) -> anyhow::Result<Wallet> {
-        let watch = Watch::new(rt.alloc(), Tip::genesis(), core.utxo(), k)?;
+        let watch = Watch::new(rt.alloc(), Tip::genesis(), core.utxo(), k, Which::all())?;
         let follower = core.open()?;
         Ok(Wallet { follower, watch, k })
     }

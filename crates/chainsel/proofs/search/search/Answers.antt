@@ -54,7 +54,7 @@ returns-in-Ok g c =
     let blocks = c.in-Some.way.blocks in
     let back = length chain - keep in
     switched g.S.SigScheme.verifies chain c.args.store.now c.args.db.now c.args.new.now c.loop-side.found.hashes.items c.loop-side.invariant.dead c.in_ok-best.best.end.now c.args.immutable keep blocks.items (led g (goal.at.returns-in-Ok g c).In-Some)
-    c.into_hashes.result (record { back = back; blocks = blocks; prepared = c.in-Ok.prepared }) c.new-in-Ok.result c.into_hashes.ensures refl refl c.in-Ok.ensures.back (c.in-Ok.ensures.count ∙ ap length c.deref.ensures.value)
+    c.into_hashes.result (record { back = back; blocks = blocks; prepared = c.in-Ok.prepared }) c.loop-side.read c.into_hashes.ensures refl refl c.in-Ok.ensures.back (c.in-Ok.ensures.count ∙ ap length c.deref.ensures.value)
     (λ genesis opened database. subst (λ (bs : List Block). IsPreparedOf (network_on genesis g.S.SigScheme.verifies opened) (without_last back chain) bs c.in-Ok.prepared) c.deref.ensures.value (c.in-Ok.ensures.chain genesis opened chain database))
 
 -- ---- a block of the way isn't applied
@@ -124,9 +124,9 @@ returns-then-eq g c =
     ]
 
 -- what was named is fit, and named once
-found_now : (g : given.Over) (c : goal.After-drop-way-in-loop-side g) → IsLed c.args.chain.now c.args.store.now c.args.db.now c.args.new.now c.loop-side.found.hashes.items c.in_ok-best.best.end.now c.args.immutable c.in-Some.way.keep c.in-Some.way.blocks.items
-    → AreFound c.args.store.now c.push.new.self.hashes.items
-found_now g c is_led =
+found_now : (g : given.Over) (c : In_ok-push-in-Err-Refused g) → IsLed c.args.chain.now c.args.store.now c.args.db.now c.args.new.now c.loop-side.found.hashes.items c.in_ok-best.best.end.now c.args.immutable c.in-Some.way.keep c.in-Some.way.blocks.items
+    → block_hash_of c.index.result.now ≢ block_hash_of c.args.new.now → AreFound c.args.store.now c.push.new.self.hashes.items
+found_now g c is_led other =
     let store = c.args.store.now in
     let new = c.args.new.now in
     let end = c.in_ok-best.best.end.now in
@@ -136,7 +136,6 @@ found_now g c is_led =
     let b = c.index.result.now in
     let stops = subst (IsForkFault g.S.SigScheme.verifies (state_back c.args.db.now (length c.args.chain.now - keep)) blocks) c.in-Err-Refused.field-0-is
     (subst (λ (bs : List Block). IsForkFault g.S.SigScheme.verifies (state_back c.args.db.now (length c.args.chain.now - keep)) bs c.in-Err-Refused.field-0) c.deref.ensures.value c.in-Err-Refused.ensures.refused) in
-    let other : block_hash_of b ≢ block_hash_of new = λ same. let e : false ≡ true = c.if-eq.ensures ∙ (bytes_eq-Decides c.hash-dead.result.bytes c.hash-hash.result.bytes).1 (c.hash-dead.ensures ∙ (same ∙ sym (c.hash-hash.ensures ∙ ap block_hash_of c.block.ensures))) in cc in
     let fit = way_fit store old c.args.chain.now c.args.immutable new end keep blocks is_led.way c.in_ok-best.ensures.descends b (c.in-Err-Refused.index, stops.within, sym c.index.ensures) other in
     subst (AreFound store) (sym c.in_ok-push-in-Err-Refused.ensures) (one_found store old b c.hash-dead.result c.loop-side.invariant.found fit c.hash-dead.ensures)
 
@@ -147,6 +146,7 @@ loop-side-preserved g c =
     let store = c.args.store.now in
     let db = c.args.db.now in
     let new = c.args.new.now in
+    let other : block_hash_of c.index.result.now ≢ block_hash_of c.args.new.now = λ same. let e : false ≡ true = c.if-eq.ensures ∙ (bytes_eq-Decides c.hash-dead.result.bytes c.hash-hash.result.bytes).1 (c.hash-dead.ensures ∙ (same ∙ sym (c.hash-hash.ensures ∙ ap block_hash_of c.block.ensures))) in cc in
     let is_led = led g (goal.at.loop-side-preserved g c).In-Some in
     let dead = dead_now g (goal.at.loop-side-preserved g c).In_ok-push-in-Err-Refused is_led in
     let beside = beside_now g (goal.at.loop-side-preserved g c).In_ok-side-in-Err-Refused is_led in
@@ -154,17 +154,18 @@ loop-side-preserved g c =
     let more = c.sift.new.found.hashes.items in
     let gains = subst (λ (stays : Bool). FindsDead store new stays old more) c.if-not-branch.false c.in_ok-sift-in-Err-Refused.ensures.found in
     record {
-      found = gains.stays (found_now g c is_led);
+      found = gains.stays (found_now g (goal.at.loop-side-preserved g c).In_ok-push-in-Err-Refused is_led other);
       dead = sifted_dead verifies chain store db new c.in_ok-side-in-Err-Refused.side c.as_ref.result old more c.as_ref.ensures.value beside c.in_ok-sift-in-Err-Refused.ensures.dead dead;
       beside = beside;
     }
 
 pub loop-side-smaller : goal.loop-side-smaller
 loop-side-smaller g c =
+    let other : block_hash_of c.index.result.now ≢ block_hash_of c.args.new.now = λ same. let e : false ≡ true = c.if-eq.ensures ∙ (bytes_eq-Decides c.hash-dead.result.bytes c.hash-hash.result.bytes).1 (c.hash-dead.ensures ∙ (same ∙ sym (c.hash-hash.ensures ∙ ap block_hash_of c.block.ensures))) in cc in
     let old = c.push.new.self.hashes.items in
     let more = c.sift.new.found.hashes.items in
     let gains = subst (λ (stays : Bool). FindsDead c.args.store.now c.args.new.now stays old more) c.if-not-branch.false c.in_ok-sift-in-Err-Refused.ensures.found in
-    let most = found_fewer c.args.store.now more (gains.stays (found_now g c (led g (goal.at.loop-side-smaller g c).In-Some))) in
+    let most = found_fewer c.args.store.now more (gains.stays (found_now g (goal.at.loop-side-smaller g c).In_ok-push-in-Err-Refused (led g (goal.at.loop-side-smaller g c).In-Some) other)) in
     let longer = gains.longer in
     let long : length old ≡ length c.loop-side.found.hashes.items + 1 = ap length c.in_ok-push-in-Err-Refused.ensures ∙ length-append c.loop-side.found.hashes.items (c.hash-dead.result ∷ []) in
     omega (arith, most, long, longer)
