@@ -21,7 +21,7 @@ use witness_pool::TestScheme;
 const BLOCKS: u64 = 100_000;
 
 /// How many blocks wait with 80,000 of the smallest transactions each, in 0.8 MB.
-const WAITING: u64 = 20;
+const WAITING: u64 = 200;
 
 const SMALL: u64 = 80_000;
 

@@ -29,7 +29,7 @@ pub mod peers;
 pub mod threads;
 pub mod wallet;
 
-pub use block::{BadBytes, CheckedBlock, MAX_BLOCK_SIZE, NotRead, Seen, Tip};
+pub use block::{BadBytes, Block, CheckedBlock, MAX_BLOCK_SIZE, NotRead, Seen, Tip};
 pub use chain_core::{
     ArriveReply, Core, FollowerId, ForgeFault, Forged, Instruction, NextFault, NotBeside,
     OpenFollowerFault, Place, RawEvent, Refusal, ReopenFault, Reopening, Reply, TxPlace,
