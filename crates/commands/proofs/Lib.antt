@@ -1,2 +1,4 @@
+pub mod Boxed
 pub mod Found
 pub mod NotBegun
+pub mod TextsRead

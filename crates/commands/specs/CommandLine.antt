@@ -42,6 +42,46 @@ abbrev pub replay_app : App
 replay_app =
     with_rule (with_rule (new_app (codes "replay")) (required_rule (codes "genesis"))) (required_rule (codes "log"))
 
+-- ---- texts
+
+-- a value that has a place and no name
+abbrev pub placed_rule : Text → Rule
+placed_rule id = record (new_rule id) { action = Some Set; value_names = 1 }
+
+-- what a text is of, which has to be given
+abbrev pub kind_rule : Rule
+kind_rule = record (placed_rule (codes "kind")) { required = true }
+
+-- the flag that the bytes of a text themselves are read
+abbrev pub binary_rule : Rule
+binary_rule = record (new_rule (codes "binary")) { long = Some (codes "binary"); action = Some SetTrue }
+
+-- a command with a text, which has a file, and that flag
+abbrev pub with_text : App → App
+with_text app = with_rule (with_rule app (placed_rule (codes "file"))) binary_rule
+
+-- the command `id` with its three
+abbrev pub id_app : App
+id_app = with_text (with_rule (new_app (codes "id")) kind_rule)
+
+-- the option with the scheme by which signatures are judged, that for tests where it isn't given
+abbrev pub scheme_rule : Rule
+scheme_rule = record (option_rule (codes "scheme")) { defaults = codes "test" ∷ [] }
+
+-- the command `show` with its four
+abbrev pub show_app : App
+show_app = with_text (with_rule (with_rule (new_app (codes "show")) kind_rule) scheme_rule)
+
+-- the command `check` with its three options that are files, and with its text
+abbrev pub base_app : App
+base_app = with_rule (with_rule (with_rule (new_app (codes "check")) (required_rule (codes "genesis")))
+    (option_rule (codes "log"))) (option_rule (codes "script"))
+
+abbrev pub check_app : App
+check_app = with_text base_app
+
+-- ---- all of them
+
 -- the command `node`, which has a version, with its subcommands
 abbrev pub node_shape : Shape
 node_shape = record (new_app (codes "node")).top { has_version = true; subcommand_required = true }
@@ -53,5 +93,12 @@ bare_app = record { top = node_shape; subs = [] }
 abbrev pub script_app : App
 script_app = with_subcommand (with_subcommand bare_app run_app.top) sim_app.top
 
+-- then the one that opens a log, and those that tell of a text
+abbrev pub log_app : App
+log_app = with_subcommand script_app replay_app.top
+
+abbrev pub text_app : App
+text_app = with_subcommand (with_subcommand log_app id_app.top) check_app.top
+
 abbrev pub node_app : App
-node_app = with_subcommand script_app replay_app.top
+node_app = with_subcommand text_app show_app.top

@@ -1,14 +1,26 @@
 -- Which job a command line names.
 use Rattle.std.specs.Prelude.{◌≡◌, ◌⊎◌, ℕ, Bool, false, List, Option, Some, None, option_map, codes, bytes_eq}
+use Rattle.std.specs.Prelude.{if◌then◌else◌}
 use Rattle.std.specs.Str.Parse.{IsNumeral, digits_value, without_leading_plus}
 use Rattle.clap.specs.Words.{Text, Row, first_of, one_of}
+use Rattle.genesis.specs.declared.scheme.Scheme.{Scheme}
+use Rattle.genesis.specs.Document.{scheme_of}
+use Rattle.telling.specs.declared.kind.Kind.{Kind}
+use Rattle.telling.specs.Kinds.{kind_named}
 use Rattle.commands.specs.declared.jobs.Job.{Job}
-use Rattle.commands.specs.declared.jobs.Job.TheVariants.{Run, Sim, Replay}
+use Rattle.commands.specs.declared.jobs.Job.TheVariants.{Id, Show, Under}
+use Rattle.commands.specs.declared.jobs.Source.{Source}
+use Rattle.commands.specs.declared.jobs.Source.TheVariants.{File, Input}
+use Rattle.commands.specs.declared.jobs.Task.{Task}
+use Rattle.commands.specs.declared.jobs.Task.TheVariants.{Run, Sim, Replay, ShowGenesis, Check}
+use Rattle.commands.specs.declared.jobs.TextAt.{TextAt}
 
 -- a flag is given
 abbrev pub is_given : Option Text → Bool
 is_given None = false
 is_given (Some text) = bytes_eq text (codes "true")
+
+-- ---- under a genesis
 
 -- the values of the options of `run`
 pub record IsRun (rows : List Row) (genesis script : Text) (log : Option Text) (explain : Bool) : Type 0 where
@@ -32,25 +44,80 @@ pub record IsReplay (rows : List Row) (genesis log : Text) : Type 0 where
   pub genesis_is : first_of (codes "genesis") rows ≡ Some genesis
   pub log_is : first_of (codes "log") rows ≡ Some log
 
+-- ---- texts
+
+-- the path of a file, or None for standard input, where no path is given or it is a dash
+abbrev pub file_in : Option Text → Option Text
+file_in None = None
+file_in (Some path) = if bytes_eq path (codes "-") then None else Some path
+
+abbrev pub file_of : Source → Option Text
+file_of (File path) = Some path.now
+file_of Input = None
+
+-- where a text stands, and whether its bytes themselves are there
+pub record IsTextAt (rows : List Row) (text : TextAt) : Type 0 where
+  pub file_is : file_of text.source ≡ file_in (first_of (codes "file") rows)
+  pub binary_is : is_given (first_of (codes "binary") rows) ≡ text.is_binary
+
+-- the values of the options of `id`
+pub record IsId (rows : List Row) (kind : Kind) (text : TextAt) : Type 0 where
+  pub kind_is : (name : Text) × (first_of (codes "kind") rows ≡ Some name) × (kind_named name ≡ Some kind)
+  pub text_is : IsTextAt rows text
+
+-- those of `show`
+pub record IsShow (rows : List Row) (kind : Kind) (scheme : Scheme) (text : TextAt) : Type 0 where
+  pub kind_is : (name : Text) × (first_of (codes "kind") rows ≡ Some name) × (kind_named name ≡ Some kind)
+  pub scheme_is : (name : Text) × (first_of (codes "scheme") rows ≡ Some name) × (scheme_of name ≡ Some scheme)
+  pub text_is : IsTextAt rows text
+
+-- the same of a genesis, which has a file
+pub record IsGenesisShown (rows : List Row) (genesis : Text) : Type 0 where
+  pub kind_is : first_of (codes "kind") rows ≡ Some (codes "genesis")
+  pub file_is : first_of (codes "file") rows ≡ Some genesis
+
+-- those of `check`
+pub record IsCheck (rows : List Row) (genesis : Text) (log script : Option Text) (text : TextAt) : Type 0 where
+  pub genesis_is : first_of (codes "genesis") rows ≡ Some genesis
+  pub log_is : first_of (codes "log") rows ≡ log
+  pub script_is : first_of (codes "script") rows ≡ script
+  pub text_is : IsTextAt rows text
+
+-- ---- jobs
+
 abbrev pub IsRunJob : List Row → Job → Type 0
-IsRunJob rows (Run genesis script log explain) =
+IsRunJob rows (Under genesis (Run script log explain)) =
     IsRun rows genesis.now script.now (option_map (λ path. path.now) log) explain
-IsRunJob rows (Sim genesis script clients) = ⊥
-IsRunJob rows (Replay genesis log) = ⊥
+IsRunJob rows job = ⊥
 
 abbrev pub IsSimJob : List Row → Job → Type 0
-IsSimJob rows (Run genesis script log explain) = ⊥
-IsSimJob rows (Sim genesis script clients) = IsSim rows genesis.now script.now clients.many
-IsSimJob rows (Replay genesis log) = ⊥
+IsSimJob rows (Under genesis (Sim script clients)) = IsSim rows genesis.now script.now clients.many
+IsSimJob rows job = ⊥
 
 abbrev pub IsReplayJob : List Row → Job → Type 0
-IsReplayJob rows (Run genesis script log explain) = ⊥
-IsReplayJob rows (Sim genesis script clients) = ⊥
-IsReplayJob rows (Replay genesis log) = IsReplay rows genesis.now log.now
+IsReplayJob rows (Under genesis (Replay log)) = IsReplay rows genesis.now log.now
+IsReplayJob rows job = ⊥
+
+abbrev pub IsIdJob : List Row → Job → Type 0
+IsIdJob rows (Id kind text) = IsId rows kind text
+IsIdJob rows job = ⊥
+
+abbrev pub IsShowJob : List Row → Job → Type 0
+IsShowJob rows (Show kind scheme text) = IsShow rows kind scheme text
+IsShowJob rows (Under genesis ShowGenesis) = IsGenesisShown rows genesis.now
+IsShowJob rows job = ⊥
+
+abbrev pub IsCheckJob : List Row → Job → Type 0
+IsCheckJob rows (Under genesis (Check base text)) =
+    IsCheck rows genesis.now (option_map (λ path. path.now) base.log) (option_map (λ path. path.now) base.script) text
+IsCheckJob rows job = ⊥
 
 -- the job is the subcommand that was found, with its paths
 abbrev pub IsJobOf : Option (Text × List Row) → Job → Type 0
 IsJobOf found job =
     ((rows : List Row) × (found ≡ Some (codes "run", rows)) × IsRunJob rows job)
     ⊎ (((rows : List Row) × (found ≡ Some (codes "sim", rows)) × IsSimJob rows job)
-    ⊎ ((rows : List Row) × (found ≡ Some (codes "replay", rows)) × IsReplayJob rows job))
+    ⊎ (((rows : List Row) × (found ≡ Some (codes "replay", rows)) × IsReplayJob rows job)
+    ⊎ (((rows : List Row) × (found ≡ Some (codes "id", rows)) × IsIdJob rows job)
+    ⊎ (((rows : List Row) × (found ≡ Some (codes "check", rows)) × IsCheckJob rows job)
+    ⊎ ((rows : List Row) × (found ≡ Some (codes "show", rows)) × IsShowJob rows job)))))

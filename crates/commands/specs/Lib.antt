@@ -3,3 +3,5 @@ pub mod JobView
 pub mod Ending
 pub mod GenesisFile
 pub mod Schemes
+pub mod Statuses
+pub mod TextFile

@@ -1,18 +1,23 @@
 //! The command line.
 
-ghost use Rattle.std.specs.Prelude.{◌≡◌, map, IfOk, IfSome, false, string_bytes};
+ghost use Rattle.std.specs.Prelude.{◌≡◌, map, option_map, IfOk, IfSome, false, string_bytes};
 ghost use Rattle.clap.specs.Words.{app_of, rule_of, rows_of, found_of, first_of, subcommand_of, subcommand_rows_of};
 ghost use Rattle.clap.specs.declared.builder.command.Command.TheViews.{out-Command};
 ghost use Rattle.commands.specs.CommandLine.{option_rule, required_rule, clients_rule, explain_rule, on_script};
 ghost use Rattle.commands.specs.CommandLine.{files_app, run_app, sim_app, replay_app, bare_app, script_app, node_app};
-ghost use Rattle.commands.specs.JobView.{is_given, IsJobOf, IsRunJob, IsSimJob, IsReplayJob};
+ghost use Rattle.commands.specs.CommandLine.{placed_rule, kind_rule, binary_rule, with_text};
+ghost use Rattle.commands.specs.CommandLine.{id_app, base_app, check_app, log_app, scheme_rule, show_app, text_app};
+ghost use Rattle.commands.specs.JobView.{is_given, file_in, file_of, IsTextAt, IsJobOf};
+ghost use Rattle.commands.specs.JobView.{IsRunJob, IsSimJob, IsReplayJob, IsIdJob, IsCheckJob, IsShowJob};
 
-use crate::jobs::Job;
+use crate::jobs::{Base, Job, Source, Task, TextAt};
 use clap::builder::ValueParser;
 use clap::error::ErrorKind;
 use clap::{Arg, ArgAction, ArgMatches, Command, Error};
+use genesis::Scheme;
 use simulation::{Clients, MAX_CLIENTS};
 use std::alloc::{AllocError, Global};
+use telling::Kind;
 
 /// An option with the path of a file.
 fn path_option<'a>(alloc: Global, id: &'a str, help: &'a str) -> Arg<'a>
@@ -118,6 +123,116 @@ fn replay_command<'a>(alloc: Global) -> Result<Command<'a>, AllocError>
         .arg(required_path(alloc, "log", "The blocks that were kept"))
 }
 
+/// A value that has a place and no name, and may be left out.
+fn placed<'a>(alloc: Global, id: &'a str, name: &'a str, help: &'a str) -> Arg<'a>
+    ensures rule { rule_of result ≡ placed_rule id.entry.now }
+    ensures local { result.global ≡ false }
+{
+    Arg::new(alloc, id)
+        .action(ArgAction::Set)
+        .value_name(name)
+        .help(help)
+}
+
+/// What the text is of, one of these kinds.
+fn kind_argument<'a>(alloc: Global, kinds: &'a str) -> Arg<'a>
+    ensures rule { rule_of result ≡ kind_rule }
+    ensures local { result.global ≡ false }
+{
+    placed(alloc, "kind", "KIND", kinds).required(true)
+}
+
+/// The flag that the bytes of a text themselves are read.
+fn binary_flag<'a>(alloc: Global) -> Arg<'a>
+    ensures rule { rule_of result ≡ binary_rule }
+    ensures local { result.global ≡ false }
+{
+    Arg::new(alloc, "binary")
+        .long("binary")
+        .action(ArgAction::SetTrue)
+        .help("Read the bytes themselves, and not their hexadecimal digits")
+}
+
+/// The command with a text.
+fn with_text<'a>(alloc: Global, command: Command<'a>) -> Result<Command<'a>, AllocError>
+    requires { (out-Command command).has_globals ≡ false }
+    ensures app { IfOk result (λ c. app_of c ≡ with_text (app_of command.entry)) }
+    ensures local { IfOk result (λ c. (out-Command c).has_globals ≡ false) }
+{
+    let file = "The file with its text; - or none for standard input";
+    command
+        .arg(placed(alloc, "file", "FILE", file))?
+        .arg(binary_flag(alloc))
+}
+
+/// The command `id`.
+fn id_command<'a>(alloc: Global) -> Result<Command<'a>, AllocError>
+    ensures app { IfOk result (λ c. app_of c ≡ id_app) }
+    ensures local { IfOk result (λ c. (out-Command c).has_globals ≡ false) }
+{
+    let command = Command::new(alloc, "id")
+        .about(
+            "Print the identifier of a transaction, or the hash of a block or of a native script",
+        )
+        .after_help("Example: node id transaction payment.hex")
+        .arg(kind_argument(alloc, "transaction, block or script"))?;
+    with_text(alloc, command)
+}
+
+/// The option with the scheme by which signatures are judged.
+fn scheme_option<'a>(alloc: Global) -> Arg<'a>
+    ensures rule { rule_of result ≡ scheme_rule }
+    ensures local { result.global ≡ false }
+{
+    Arg::new(alloc, "scheme")
+        .long("scheme")
+        .action(ArgAction::Set)
+        .value_name("SCHEME")
+        .help("By which signatures are judged, test or ed25519")
+        .default_value("test")
+}
+
+/// The command `show`.
+fn show_command<'a>(alloc: Global) -> Result<Command<'a>, AllocError>
+    ensures app { IfOk result (λ c. app_of c ≡ show_app) }
+    ensures local { IfOk result (λ c. (out-Command c).has_globals ≡ false) }
+{
+    let command = Command::new(alloc, "show")
+        .about(
+            "Print what a transaction, a block, a native script or a genesis is, one fact a line",
+        )
+        .after_help("Example: node show --scheme ed25519 transaction payment.hex")
+        .arg(kind_argument(alloc, "transaction, block, script or genesis"))?
+        .arg(scheme_option(alloc))?;
+    with_text(alloc, command)
+}
+
+/// The command `check` with the options that are files.
+fn base_command<'a>(alloc: Global) -> Result<Command<'a>, AllocError>
+    ensures app { IfOk result (λ c. app_of c ≡ base_app) }
+    ensures local { IfOk result (λ c. (out-Command c).has_globals ≡ false) }
+{
+    Command::new(alloc, "check")
+        .about("Say whether a transaction is valid, or why not")
+        .after_help("Example: node check --genesis genesis.toml --log blocks.log payment.hex")
+        .arg(required_path(alloc, "genesis", "What the network agrees on"))?
+        .arg(path_option(alloc, "log", "The blocks that it comes after"))?
+        .arg(path_option(
+            alloc,
+            "script",
+            "What happens before it, behind these blocks",
+        ))
+}
+
+/// The command `check`.
+fn check_command<'a>(alloc: Global) -> Result<Command<'a>, AllocError>
+    ensures app { IfOk result (λ c. app_of c ≡ check_app) }
+    ensures local { IfOk result (λ c. (out-Command c).has_globals ≡ false) }
+{
+    let command = base_command(alloc)?;
+    with_text(alloc, command)
+}
+
 /// The command that the program is, with no subcommand yet.
 fn bare_command<'a>(alloc: Global) -> Command<'a>
     ensures { app_of result ≡ bare_app }
@@ -137,12 +252,29 @@ fn script_command<'a>(alloc: Global) -> Result<Command<'a>, AllocError>
     bare_command(alloc).subcommand(run)?.subcommand(sim)
 }
 
+/// The same with the one that opens a log.
+fn log_command<'a>(alloc: Global) -> Result<Command<'a>, AllocError>
+    ensures { IfOk result (λ c. app_of c ≡ log_app) }
+{
+    let replay = replay_command(alloc)?;
+    script_command(alloc)?.subcommand(replay)
+}
+
+/// The same with those that tell of a text.
+fn text_command<'a>(alloc: Global) -> Result<Command<'a>, AllocError>
+    ensures { IfOk result (λ c. app_of c ≡ text_app) }
+{
+    let id = id_command(alloc)?;
+    let check = check_command(alloc)?;
+    log_command(alloc)?.subcommand(id)?.subcommand(check)
+}
+
 /// The command that the program is.
 fn node_command<'a>(alloc: Global) -> Result<Command<'a>, AllocError>
     ensures { IfOk result (λ c. app_of c ≡ node_app) }
 {
-    let replay = replay_command(alloc)?;
-    script_command(alloc)?.subcommand(replay)
+    let show = show_command(alloc)?;
+    text_command(alloc)?.subcommand(show)
 }
 
 /// Whether a flag is given.
@@ -163,11 +295,13 @@ fn run_job<'a>(found: &ArgMatches<'a>) -> Option<Job<'a>>
     let script = found.get_str("script")?;
     let log = found.get_str("log");
     let explain = is_given(found, "explain");
-    Some(Job::Run {
+    Some(Job::Under {
         genesis,
-        script,
-        log,
-        explain,
+        task: Task::Run {
+            script,
+            log,
+            explain,
+        },
     })
 }
 
@@ -179,10 +313,9 @@ fn sim_job<'a>(found: &ArgMatches<'a>) -> Option<Job<'a>>
     let script = found.get_str("script")?;
     let many = found.get_one::<usize>("clients")?;
     let clients = Clients::new(many)?;
-    Some(Job::Sim {
+    Some(Job::Under {
         genesis,
-        script,
-        clients,
+        task: Task::Sim { script, clients },
     })
 }
 
@@ -192,7 +325,80 @@ fn replay_job<'a>(found: &ArgMatches<'a>) -> Option<Job<'a>>
 {
     let genesis = found.get_str("genesis")?;
     let log = found.get_str("log")?;
-    Some(Job::Replay { genesis, log })
+    Some(Job::Under {
+        genesis,
+        task: Task::Replay { log },
+    })
+}
+
+/// Where a text with this path is read from.
+fn source_at<'a>(path: Option<&'a str>) -> Source<'a>
+    ensures { file_of result ≡ file_in (option_map (λ given. given.now) path.entry) }
+{
+    let Some(path) = path else {
+        return Source::Input;
+    };
+    if path == "-" {
+        return Source::Input;
+    }
+    Source::File(path)
+}
+
+/// The text that these arguments name.
+fn text_at<'a>(found: &ArgMatches<'a>) -> TextAt<'a>
+    ensures { IsTextAt (rows_of (found_of found.now)) result }
+{
+    let path = found.get_str("file");
+    let source = source_at(path);
+    let is_binary = is_given(found, "binary");
+    TextAt { source, is_binary }
+}
+
+/// The question for an identifier that these arguments name, if they name one.
+fn id_job<'a>(found: &ArgMatches<'a>) -> Option<Job<'a>>
+    ensures { IfSome result (IsIdJob (rows_of (found_of found.now))) }
+{
+    let name = found.get_str("kind")?;
+    let kind = Kind::of_name(name)?;
+    let text = text_at(found);
+    Some(Job::Id { kind, text })
+}
+
+/// The question what a text is that these arguments name, if they name one.
+fn show_job<'a>(found: &ArgMatches<'a>) -> Option<Job<'a>>
+    ensures { IfSome result (IsShowJob (rows_of (found_of found.now))) }
+{
+    let name = found.get_str("kind")?;
+    if name == "genesis" {
+        let genesis = found.get_str("file")?;
+        return Some(Job::Under {
+            genesis,
+            task: Task::ShowGenesis,
+        });
+    }
+    let kind = Kind::of_name(name)?;
+    let by = found.get_str("scheme")?;
+    let scheme = Scheme::of_name(by)?;
+    let text = text_at(found);
+    Some(Job::Show { kind, scheme, text })
+}
+
+/// The question whether a transaction is valid that these arguments name, if they name one.
+fn check_job<'a>(found: &ArgMatches<'a>) -> Option<Job<'a>>
+    ensures { IfSome result (IsCheckJob (rows_of (found_of found.now))) }
+{
+    let genesis = found.get_str("genesis")?;
+    let after_log = found.get_str("log");
+    let after_script = found.get_str("script");
+    let text = text_at(found);
+    let base = Base {
+        log: after_log,
+        script: after_script,
+    };
+    Some(Job::Under {
+        genesis,
+        task: Task::Check { base, text },
+    })
 }
 
 /// The job that matches name, if there is one.
@@ -209,12 +415,42 @@ fn job_of<'a>(matches: &ArgMatches<'a>) -> Option<Job<'a>>
     if name == "replay" {
         return replay_job(found);
     }
+    if name == "id" {
+        return id_job(found);
+    }
+    if name == "check" {
+        return check_job(found);
+    }
+    if name == "show" {
+        return show_job(found);
+    }
     None
 }
 
+/// Why words that clap took name no job: of its values these alone may be none.
+fn refusal(matches: &ArgMatches<'_>) -> &'static str {
+    let Some((name, found)) = matches.subcommand() else {
+        return "there is no command";
+    };
+    if name != "show" {
+        return "KIND is none of transaction, block and script";
+    }
+    let Some(kind) = found.get_str("kind") else {
+        return "there is no KIND";
+    };
+    if kind == "genesis" {
+        return "there is no FILE, which a genesis has to have";
+    }
+    match Kind::of_name(kind) {
+        Some(_) => "SCHEME is none of test and ed25519",
+        None => "KIND is none of transaction, block, script and genesis",
+    }
+}
+
 /// What the words of a command line, the first of which names the program, ask for: the job that the subcommand names,
-/// with the paths and the number of its options, as clap matches them. Err where clap refuses the words, where they ask
-/// for help or the version, or where memory runs out. Takes time and memory in proportion to the words.
+/// with the paths and the number of its options, as clap matches them. Err where clap refuses the words, where a kind
+/// of text or a scheme is none of its names, where a genesis that is to be shown has no file, where they ask for help
+/// or the version, or where memory runs out. Takes time and memory in proportion to the words.
 pub fn job<'a>(alloc: Global, words: &'a [String]) -> Result<Job<'a>, Error>
     ensures { IfOk result (IsJobOf (subcommand_of node_app (map string_bytes words.entry.now))) }
 {
@@ -222,10 +458,7 @@ pub fn job<'a>(alloc: Global, words: &'a [String]) -> Result<Job<'a>, Error>
     match job_of(&matches) {
         Some(job) => Ok(job),
         None => {
-            let error = node_command(alloc)?.error(
-                ErrorKind::MissingSubcommand,
-                "no job is named",
-            )?;
+            let error = node_command(alloc)?.error(ErrorKind::InvalidValue, refusal(&matches))?;
             Err(error)
         }
     }

@@ -1,5 +1,6 @@
 //! Why a job is not done.
 
+use crate::jobs::Source;
 use chain_core::ReopenFault;
 use genesis::GenesisFault;
 use hints::{GenesisHint, ScriptHint};
@@ -7,6 +8,7 @@ use immlog::{AppendFault, OpenLogFault};
 use scenario::ScenarioFault;
 use std::alloc::Global;
 use std::io::{Result, Write};
+use telling::{HexFault, TellFault};
 use thiserror::Error as Fault;
 
 /// Why a job is not done, in the words that are told of it.
@@ -15,6 +17,15 @@ pub enum Failure<'a> {
     /// The file of this path can't be read.
     #[error("cannot read {0}")]
     CannotRead(&'a str),
+    /// The text can't be read from there, or is too long.
+    #[error("cannot read {0}")]
+    Unread(Source<'a>),
+    /// What was read from there is no hexadecimal text.
+    #[error("{0}: {1}")]
+    NoHex(Source<'a>, HexFault),
+    /// The bytes from there aren't what was asked about.
+    #[error("{0} is {1}")]
+    NoText(Source<'a>, TellFault),
     /// What the genesis file says is no genesis: the fault, with its number, and what it is about.
     #[error("genesis: {number} {fault}")]
     Genesis {

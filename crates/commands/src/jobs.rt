@@ -1,46 +1,99 @@
 //! What the program can do.
 
+use genesis::Scheme;
 use simulation::Clients;
+use std::fmt;
+use telling::Kind;
+
+/// Where a text is read from.
+#[derive(Clone, Copy, Debug)]
+pub enum Source<'a> {
+    /// The file of this path.
+    File(&'a str),
+    /// Standard input.
+    Input,
+}
+
+impl<'a> fmt::Display for Source<'a> {
+    fn fmt<W: fmt::Write>(&self, f: &mut fmt::Formatter<W>) -> fmt::Result {
+        match self {
+            Source::File(path) => f.write_str(*path),
+            Source::Input => f.write_str("standard input"),
+        }
+    }
+}
+
+/// A text that is asked about.
+#[derive(Clone, Copy, Debug)]
+pub struct TextAt<'a> {
+    pub source: Source<'a>,
+    /// Whether its bytes themselves are read, and not their hexadecimal digits.
+    pub is_binary: bool,
+}
+
+/// After what a transaction is judged: after the blocks of the log of this file, and then the run of the script of this
+/// one, where they are named.
+#[derive(Clone, Copy, Debug)]
+pub struct Base<'a> {
+    pub log: Option<&'a str>,
+    pub script: Option<&'a str>,
+}
 
 /// What the program is to do.
 #[derive(Debug, Drop)]
 pub enum Job<'a> {
-    /// Run the script of this file under the genesis of this one, on the log of a file if one is named. If it is to be
-    /// explained, more is told of what is refused or not selected, and a second line of a fault of either file.
-    Run {
+    /// Print the identifier of the text of this kind that stands there.
+    Id {
+        kind: Kind,
+        text: TextAt<'a>,
+    },
+    /// Print what the text of this kind is that stands there, with its signatures judged by this scheme.
+    Show {
+        kind: Kind,
+        scheme: Scheme,
+        text: TextAt<'a>,
+    },
+    /// Do this under the genesis of this file.
+    Under {
         genesis: &'a str,
+        task: Task<'a>,
+    },
+}
+
+/// What is done under a genesis.
+#[derive(Debug, Drop)]
+pub enum Task<'a> {
+    /// Run the script of this file, on the log of a file if one is named. If it is to be explained, more is told of
+    /// what is refused or not selected, and a second line of a fault of the script or of the genesis.
+    Run {
         script: &'a str,
         log: Option<&'a str>,
         explain: bool,
     },
-    /// Have the peers of this file's script send blocks under the genesis of this one, each in a thread of its own, and
-    /// this many clients follow the chain.
+    /// Have the peers of this file's script send blocks, each in a thread of its own, and this many clients follow the
+    /// chain.
     Sim {
-        genesis: &'a str,
         script: &'a str,
         clients: Clients,
     },
-    /// Open the log of this file under the genesis of this one, and tell how many blocks it has.
+    /// Open the log of this file, and tell how many blocks it has.
     Replay {
-        genesis: &'a str,
         log: &'a str,
+    },
+    /// Print what the genesis is.
+    ShowGenesis,
+    /// Tell whether the transaction that stands there is valid, after this.
+    Check {
+        base: Base<'a>,
+        text: TextAt<'a>,
     },
 }
 
-impl<'a> Job<'a> {
-    /// The path of its genesis file.
-    pub(crate) fn genesis(&self) -> &'a str {
-        match self {
-            Job::Run { genesis, .. } => *genesis,
-            Job::Sim { genesis, .. } => *genesis,
-            Job::Replay { genesis, .. } => *genesis,
-        }
-    }
-
+impl<'a> Task<'a> {
     /// Whether more is to be told of a fault.
     pub(crate) fn explains(&self) -> bool {
         match self {
-            Job::Run { explain, .. } => *explain,
+            Task::Run { explain, .. } => *explain,
             _ => false,
         }
     }

@@ -25,7 +25,10 @@ use std::thread::Threads;
 use witness_pool::SigScheme;
 
 /// What a core of this genesis is made with, while a log is opened.
-fn restart_of<'a, S: SigScheme>(alloc: Global, genesis: &Genesis) -> Result<Restart<S>, Failure<'a>>
+pub fn restart_of<'a, S: SigScheme>(
+    alloc: Global,
+    genesis: &Genesis,
+) -> Result<Restart<S>, Failure<'a>>
     ensures genesis { IfOk result (λ restart. restart.genesis ≡ genesis.now) }
     ensures blocks { IfOk result (λ restart. restart.blocks ≡ []) }
 {
@@ -40,7 +43,7 @@ fn restart_of<'a, S: SigScheme>(alloc: Global, genesis: &Genesis) -> Result<Rest
 
 /// The core on the blocks of a log that was opened. In a box it is dropped by a call, which keeps the proofs of what
 /// owns it short.
-fn core_of<'a, S: SigScheme>(
+pub fn core_of<'a, S: SigScheme>(
     alloc: Global,
     restart: Restart<S>,
 ) -> Result<Box<Core<S>>, Failure<'a>>

@@ -25,8 +25,16 @@ fn words_of(rt: &(impl Abort + AllocGlobal), words: &[&str]) -> Vec<String> {
     all
 }
 
-/// The program ends with this status. On standard output it has printed this text, or one that begins so where two
-/// points stand at its end; on standard error it has told this, or where it is `?` something.
+/// What was written is this text, or begins with it where two points stand at its end.
+fn is_said(rt: &impl Abort, said: &[u8], text: &str) {
+    match text.strip_suffix("..") {
+        Some(beginning) => assert!(rt; said.starts_with(beginning.as_bytes())),
+        None => assert!(rt; said == text.as_bytes()),
+    }
+}
+
+/// The program ends with this status. It has printed the one text on standard output and told the other on standard
+/// error, or something where that is `?`. Standard input is empty.
 pub fn ends(
     rt: &(impl Abort + Files<File = File> + AllocGlobal + Threads + Wait + Sync),
     words: &[&str],
@@ -34,19 +42,27 @@ pub fn ends(
     printed: &str,
     told: &str,
 ) {
+    ends_on(rt, words, b"".as_slice(), (status, printed, told));
+}
+
+/// The same with this standard input.
+pub fn ends_on(
+    rt: &(impl Abort + Files<File = File> + AllocGlobal + Threads + Wait + Sync),
+    words: &[&str],
+    input: &[u8],
+    (status, printed, told): (u8, &str, &str),
+) {
     let words = words_of(rt, words);
+    let mut input = input;
     let mut out = Vec::new(rt.alloc());
     let mut err = Vec::new(rt.alloc());
-    let answer = start(rt, words.as_slice(), &mut out, &mut err);
+    let answer = start(rt, words.as_slice(), &mut input, &mut out, &mut err);
     let (out, err) = (out.as_slice(), err.as_slice());
     assert!(rt; answer == status);
-    match printed.strip_suffix("..") {
-        Some(beginning) => assert!(rt; out.starts_with(beginning.as_bytes())),
-        None => assert!(rt; out == printed.as_bytes()),
-    }
+    is_said(rt, out, printed);
     match told {
         "?" => assert!(rt; !err.is_empty()),
-        _ => assert!(rt; err == told.as_bytes()),
+        _ => is_said(rt, err, told),
     }
 }
 
@@ -107,6 +123,17 @@ const REFUSED: &[&[&str]] = &[
         "--explain",
     ],
     &["node", "replay", "--log", "l"],
+    &["node", "id"],
+    &["node", "id", "text", "f"],
+    &["node", "id", "block", "f", "g"],
+    &["node", "id", "block", "f", "--genesis", "g"],
+    &["node", "show"],
+    &["node", "show", "text", "f"],
+    &["node", "show", "genesis"],
+    &["node", "show", "--scheme", "rsa", "block", "f"],
+    &["node", "check", "f"],
+    &["node", "check", "--genesis", "g", "f", "g"],
+    &["node", "check", "--genesis", "g", "--slot", "5", "f"],
     &["node", "replay", "--genesis", "g", "--script", "s"],
     &["node", "run", "--genesis", "g"],
     &["node", "run", "--genesis", "g", "--script"],
@@ -136,6 +163,9 @@ const ANSWERED: &[(&[&str], &str)] = &[
     (&["node", "run", "--help"], "Run a script.."),
     (&["node", "sim", "--help"], "Have peers send blocks.."),
     (&["node", "replay", "--help"], "Open a log.."),
+    (&["node", "id", "--help"], "Print the identifier.."),
+    (&["node", "check", "--help"], "Say whether.."),
+    (&["node", "show", "--help"], "Print what a transaction.."),
     (&["node", "--version"], "node 0.1.0\n"),
 ];
 
@@ -337,7 +367,8 @@ fn fails_to_write(
 ) {
     let words = words_of(rt, words);
     let mut err = Vec::new(rt.alloc());
-    let status = start(rt, words.as_slice(), &mut Closed {}, &mut err);
+    let mut input = b"".as_slice();
+    let status = start(rt, words.as_slice(), &mut input, &mut Closed {}, &mut err);
     assert!(rt; status == 1);
     assert!(rt; err.as_slice() == b"write failed\n".as_slice());
 }

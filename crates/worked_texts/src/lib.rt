@@ -27,6 +27,8 @@ mod scripts;
 #[cfg(test)]
 mod seen_blocks;
 #[cfg(test)]
+mod shown;
+#[cfg(test)]
 mod sums;
 #[cfg(test)]
 mod transaction_making;

@@ -1,0 +1,6 @@
+pub mod Lines
+pub mod Values
+pub mod Scripts
+pub mod Transactions
+pub mod Blocks
+pub mod Geneses

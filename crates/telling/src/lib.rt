@@ -1,0 +1,20 @@
+//! What is told of one text: its identifier, what it is, line by line, and of a transaction what a submission of it
+//! would be answered. The bytes may be written as hexadecimal text.
+#![tactic(auto)]
+
+mod fault;
+mod hex_text;
+mod identifier;
+mod judgement;
+mod kind;
+mod line;
+mod shown;
+mod verdict;
+
+pub use fault::TellFault;
+pub use hex_text::{HexFault, bytes_of_hex};
+pub use identifier::print_identifier;
+pub use judgement::{Judgement, judge};
+pub use kind::Kind;
+pub use shown::print_shown;
+pub use verdict::{Verdict, print_verdict};
