@@ -1,10 +1,10 @@
 //! What a core is asked about blocks and transactions.
 
-ghost use Rattle.std.specs.Prelude.{◌≡◌, ◌⊎◌, ◌-◌, ℕ, drop, Contains, MatchOption, IfOk, OnErr};
+ghost use Rattle.std.specs.Prelude.{◌≡◌, ◌↔◌, ◌⊎◌, ◌-◌, ℕ, length, drop, Contains, IsTrue, MatchOption, IfOk, OnErr};
 ghost use Rattle.std.specs.Option.{option_map};
 ghost use Rattle.std.specs.Slice.Iter.{iter_rest};
 ghost use Rattle.model.specs.Block.{block_hash_of};
-ghost use Rattle.model.specs.History.{State, live_of};
+ghost use Rattle.model.specs.History.{State, live_of, IsFullFor};
 ghost use Rattle.model.specs.Chain.{NoneHas};
 ghost use Rattle.model.specs.Asked.{IsPlaceOf, IsTxPlaceOf, IsWhyOf, Beside, AreUnconnected, ExplainsSubmission};
 ghost use Rattle.tx.specs.Bare.{BeginsLikeTransaction};
@@ -13,7 +13,7 @@ ghost use Rattle.chain_core.specs.Asking.{place_of, tx_place_of};
 ghost use Rattle.chain_core.specs.Ways.{why_of};
 ghost use Rattle.chain_core.specs.Held.{network_held, Stands};
 
-use crate::finding::{Place, block_with, place_in, unconnected_in};
+use crate::finding::{Place, block_with, is_full_for, live_count, place_in, unconnected_in};
 use crate::node_core::Core;
 use crate::place::blocks_from;
 use crate::standing::{TxPlace, tx_place_in};
@@ -116,6 +116,24 @@ impl<S: SigScheme> Core<S> {
             AreUnconnected (network_held self.now S.verifies) s result }
     {
         unconnected_in(&self.chain_db)
+    }
+
+    /// How many live blocks there are: those of the selected chain that may still be rolled back, and those beside it
+    /// that may still come into a selected chain. At most `max_volatile`. In constant time; takes no memory.
+    pub fn live_blocks(&self) -> u64
+        ensures { (s : State) → Stands self.now s → result ≡ length (live_of (network_held self.now S.verifies) s) }
+    {
+        live_count(&self.chain_db)
+    }
+
+    /// Whether there is no place for a live block of `size` bytes more: `max_volatile` blocks are live, or with these
+    /// bytes they would have more than `max_volatile_bytes`. So a block of this size that is refused for no other
+    /// reason is refused as [`Refusal::VolatileFull`](crate::Refusal). In constant time; takes no memory.
+    pub fn is_full_for(&self, size: usize) -> bool
+        ensures { (s : State) → Stands self.now s →
+            IsTrue result ↔ IsFullFor (network_held self.now S.verifies) s size }
+    {
+        is_full_for(&self.chain_db, size)
     }
 
     /// Why these bytes would be refused if they were submitted: the reason against the transaction, with what it is

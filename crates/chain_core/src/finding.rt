@@ -1,9 +1,9 @@
-//! Where a block is, by its hash, and the blocks that no way leads to.
+//! Where a block is, by its hash, the blocks that no way leads to, and how many are live.
 
-ghost use Rattle.std.specs.Prelude.{◌≡◌, ◌↔◌, ◌⊎◌, Contains, IsTrue, MatchOption};
+ghost use Rattle.std.specs.Prelude.{◌≡◌, ◌↔◌, ◌⊎◌, length, Contains, IsTrue, MatchOption};
 ghost use Rattle.model.specs.Block.{block_hash_of};
 ghost use Rattle.model.specs.Ledger.{Network};
-ghost use Rattle.model.specs.History.{State, live_of};
+ghost use Rattle.model.specs.History.{State, live_of, IsFullFor};
 ghost use Rattle.model.specs.Chain.{NoneHas};
 ghost use Rattle.model.specs.Asked.{IsPlaceOf, AreUnconnected};
 ghost use Rattle.chain_core.specs.Asking.{place_of};
@@ -94,4 +94,19 @@ pub fn unconnected_in<S: SigScheme>(chain_db: &ChainDb<S>) -> Unconnected<'_, S>
         → AreUnconnected network s result }
 {
     chain_db.store.unconnected()
+}
+
+/// How many live blocks there are. In constant time.
+pub fn live_count<S: SigScheme>(chain_db: &ChainDb<S>) -> u64
+    ensures { (network : Network) (s : State) → HasState network chain_db.now s → result ≡ length (live_of network s) }
+{
+    chain_db.store.len() as u64
+}
+
+/// Whether there is no place for a live block of `size` bytes more. In constant time.
+pub fn is_full_for<S: SigScheme>(chain_db: &ChainDb<S>, size: usize) -> bool
+    ensures { (network : Network) (s : State) → IsWhole network chain_db.now → HasState network chain_db.now s
+        → IsTrue result ↔ IsFullFor network s size }
+{
+    chain_db.store.is_full_for(size)
 }

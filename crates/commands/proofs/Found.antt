@@ -1,8 +1,11 @@
 -- The subcommand that was found, from its name and its rows.
-use Rattle.std.proofs.Common.{◌≡◌, true, List, Option, Some, None, option_map, refl, rules}
+use Rattle.std.proofs.Common.{◌≡◌, true, codes, List, Option, Some, None, option_map, refl, rules}
 use Rattle.std.specs.Prelude.{bytes_eq, IfSome}
 use Rattle.std.proofs.lemmas.Slice.Eq.{bytes_eq-Decides}
-use Rattle.clap.specs.Words.{Text, Row}
+use Rattle.clap.specs.Words.{Text, Row, first_of}
+use Rattle.commands.specs.declared.jobs.Job.{Job}
+use Rattle.commands.specs.declared.jobs.Job.TheVariants.{Id, Show, ShowLog, Under}
+use Rattle.commands.specs.JobView.{IsLogJob, IsShowJob}
 
 pub name_and_rows : {B : Type 0} (name : B → Text) (rows : B → List Row) (found : Option B) (n m : Text) (r : List Row) → n ≡ m → Some n ≡ option_map name found
     → Some r ≡ option_map (λ (p : Text × List Row). p.1) (option_map {U = Text × List Row} (λ b. (name b, rows b)) found) → option_map {U = Text × List Row} (λ b. (name b, rows b)) found ≡ Some (m, r)
@@ -22,3 +25,10 @@ some_weaker P Q (Some x) weaker holds = weaker x holds
 pub there : {P : Text → Type 0} {N : Type 0} (text : Option Text) (n : N) → (text ≡ None → Some n ≡ None) → ((t : Text) → text ≡ Some t → P t) → (t : Text) × (text ≡ Some t) × P t
 there None n some known = let bad : Some n ≡ None = some refl in cc
 there (Some t) n some known = (t, refl, known t refl)
+
+-- a log that is asked about is one that is shown
+pub log_shown : (rows : List Row) → first_of (codes "kind") rows ≡ Some (codes "log") → (job : Job) → IsLogJob rows job → IsShowJob rows job
+log_shown rows kind (ShowLog source) is = record { kind_is = kind; form_is = is.0; file_is = is.1 }
+log_shown rows kind (Id k text) is = absurd is
+log_shown rows kind (Show k form scheme text) is = absurd is
+log_shown rows kind (Under genesis task) is = absurd is

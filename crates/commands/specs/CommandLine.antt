@@ -22,6 +22,10 @@ clients_rule =
 abbrev pub explain_rule : Rule
 explain_rule = record (new_rule (codes "explain")) { long = Some (codes "explain"); action = Some SetTrue }
 
+-- the flag that has blocks discarded where others have no place
+abbrev pub discard_rule : Rule
+discard_rule = record (new_rule (codes "discard")) { long = Some (codes "discard"); action = Some SetTrue }
+
 -- a command of this name with the files of a genesis and of a script
 abbrev pub on_script : Text → App
 on_script name = with_rule (with_rule (new_app name) (required_rule (codes "genesis"))) (required_rule (codes "script"))
@@ -33,9 +37,12 @@ files_app = with_rule (on_script (codes "run")) (option_rule (codes "log"))
 abbrev pub run_app : App
 run_app = with_rule files_app explain_rule
 
--- the command `sim` with its three
+-- the command `sim` with its three options, and with the flag
+abbrev pub clients_app : App
+clients_app = with_rule (on_script (codes "sim")) clients_rule
+
 abbrev pub sim_app : App
-sim_app = with_rule (on_script (codes "sim")) clients_rule
+sim_app = with_rule clients_app discard_rule
 
 -- the command `replay` with its two
 abbrev pub replay_app : App
@@ -68,9 +75,16 @@ id_app = with_text (with_rule (new_app (codes "id")) kind_rule)
 abbrev pub scheme_rule : Rule
 scheme_rule = record (option_rule (codes "scheme")) { defaults = codes "test" ∷ [] }
 
--- the command `show` with its four
+-- the flag that has a text shown as a JSON document
+abbrev pub json_rule : Rule
+json_rule = record (new_rule (codes "json")) { long = Some (codes "json"); action = Some SetTrue }
+
+-- the command `show` with its five
+abbrev pub form_app : App
+form_app = with_rule (with_rule (with_rule (new_app (codes "show")) kind_rule) scheme_rule) json_rule
+
 abbrev pub show_app : App
-show_app = with_text (with_rule (with_rule (new_app (codes "show")) kind_rule) scheme_rule)
+show_app = with_text form_app
 
 -- the command `check` with its three options that are files, and with its text
 abbrev pub base_app : App

@@ -1,14 +1,16 @@
 -- Which job a command line names.
-use Rattle.std.specs.Prelude.{◌≡◌, ◌⊎◌, ℕ, Bool, false, List, Option, Some, None, option_map, codes, bytes_eq}
+use Rattle.std.specs.Prelude.{◌≡◌, ◌⊎◌, ℕ, Bool, true, false, List, Option, Some, None, option_map, codes, bytes_eq}
 use Rattle.std.specs.Prelude.{if◌then◌else◌}
 use Rattle.std.specs.Str.Parse.{IsNumeral, digits_value, without_leading_plus}
 use Rattle.clap.specs.Words.{Text, Row, first_of, one_of}
 use Rattle.genesis.specs.declared.scheme.Scheme.{Scheme}
 use Rattle.genesis.specs.Document.{scheme_of}
 use Rattle.telling.specs.declared.kind.Kind.{Kind}
-use Rattle.telling.specs.Kinds.{kind_named}
+use Rattle.telling.specs.declared.form.Form.{Form}
+use Rattle.telling.specs.declared.form.Form.TheVariants.{Lines, Json}
+use Rattle.telling.specs.Kinds.{kind_named, has_identifier}
 use Rattle.commands.specs.declared.jobs.Job.{Job}
-use Rattle.commands.specs.declared.jobs.Job.TheVariants.{Id, Show, Under}
+use Rattle.commands.specs.declared.jobs.Job.TheVariants.{Id, Show, ShowLog, Under}
 use Rattle.commands.specs.declared.jobs.Source.{Source}
 use Rattle.commands.specs.declared.jobs.Source.TheVariants.{File, Input}
 use Rattle.commands.specs.declared.jobs.Task.{Task}
@@ -34,10 +36,11 @@ abbrev pub IsNumberOf : Text → ℕ → Type 0
 IsNumberOf text n = IsNumeral 10 (without_leading_plus text) × (n ≡ digits_value 10 (without_leading_plus text))
 
 -- those of `sim`
-pub record IsSim (rows : List Row) (genesis script : Text) (clients : ℕ) : Type 0 where
+pub record IsSim (rows : List Row) (genesis script : Text) (clients : ℕ) (discard : Bool) : Type 0 where
   pub genesis_is : first_of (codes "genesis") rows ≡ Some genesis
   pub script_is : first_of (codes "script") rows ≡ Some script
   pub clients_are : (text : Text) × (one_of (codes "clients") rows ≡ Some text) × IsNumberOf text clients
+  pub discard_is : is_given (first_of (codes "discard") rows) ≡ discard
 
 -- those of `replay`
 pub record IsReplay (rows : List Row) (genesis log : Text) : Type 0 where
@@ -63,18 +66,34 @@ pub record IsTextAt (rows : List Row) (text : TextAt) : Type 0 where
 -- the values of the options of `id`
 pub record IsId (rows : List Row) (kind : Kind) (text : TextAt) : Type 0 where
   pub kind_is : (name : Text) × (first_of (codes "kind") rows ≡ Some name) × (kind_named name ≡ Some kind)
+  pub identified : has_identifier kind ≡ true
   pub text_is : IsTextAt rows text
 
+-- a JSON document where that flag is given, and else lines
+abbrev pub form_given : Bool → Form
+form_given json = if json then Json else Lines
+
+abbrev pub form_in : List Row → Form
+form_in rows = form_given (is_given (first_of (codes "json") rows))
+
 -- those of `show`
-pub record IsShow (rows : List Row) (kind : Kind) (scheme : Scheme) (text : TextAt) : Type 0 where
+pub record IsShow (rows : List Row) (kind : Kind) (form : Form) (scheme : Scheme) (text : TextAt) : Type 0 where
   pub kind_is : (name : Text) × (first_of (codes "kind") rows ≡ Some name) × (kind_named name ≡ Some kind)
+  pub form_is : form_in rows ≡ form
   pub scheme_is : (name : Text) × (first_of (codes "scheme") rows ≡ Some name) × (scheme_of name ≡ Some scheme)
   pub text_is : IsTextAt rows text
 
 -- the same of a genesis, which has a file
-pub record IsGenesisShown (rows : List Row) (genesis : Text) : Type 0 where
+pub record IsGenesisShown (rows : List Row) (genesis : Text) (form : Form) : Type 0 where
   pub kind_is : first_of (codes "kind") rows ≡ Some (codes "genesis")
   pub file_is : first_of (codes "file") rows ≡ Some genesis
+  pub form_is : form_in rows ≡ form
+
+-- the same of a log, of which there is no document
+pub record IsLogShown (rows : List Row) (source : Source) : Type 0 where
+  pub kind_is : first_of (codes "kind") rows ≡ Some (codes "log")
+  pub form_is : form_in rows ≡ Lines
+  pub file_is : file_of source ≡ file_in (first_of (codes "file") rows)
 
 -- those of `check`
 pub record IsCheck (rows : List Row) (genesis : Text) (log script : Option Text) (text : TextAt) : Type 0 where
@@ -91,7 +110,8 @@ IsRunJob rows (Under genesis (Run script log explain)) =
 IsRunJob rows job = ⊥
 
 abbrev pub IsSimJob : List Row → Job → Type 0
-IsSimJob rows (Under genesis (Sim script clients)) = IsSim rows genesis.now script.now clients.many
+IsSimJob rows (Under genesis (Sim script clients discard)) =
+    IsSim rows genesis.now script.now clients.many discard
 IsSimJob rows job = ⊥
 
 abbrev pub IsReplayJob : List Row → Job → Type 0
@@ -103,9 +123,15 @@ IsIdJob rows (Id kind text) = IsId rows kind text
 IsIdJob rows job = ⊥
 
 abbrev pub IsShowJob : List Row → Job → Type 0
-IsShowJob rows (Show kind scheme text) = IsShow rows kind scheme text
-IsShowJob rows (Under genesis ShowGenesis) = IsGenesisShown rows genesis.now
+IsShowJob rows (Show kind form scheme text) = IsShow rows kind form scheme text
+IsShowJob rows (ShowLog source) = IsLogShown rows source
+IsShowJob rows (Under genesis (ShowGenesis form)) = IsGenesisShown rows genesis.now form
 IsShowJob rows job = ⊥
+
+-- lines of a log, whatever the kind that is asked about
+abbrev pub IsLogJob : List Row → Job → Type 0
+IsLogJob rows (ShowLog source) = (form_in rows ≡ Lines) × (file_of source ≡ file_in (first_of (codes "file") rows))
+IsLogJob rows job = ⊥
 
 abbrev pub IsCheckJob : List Row → Job → Type 0
 IsCheckJob rows (Under genesis (Check base text)) =

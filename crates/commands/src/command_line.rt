@@ -3,11 +3,12 @@
 ghost use Rattle.std.specs.Prelude.{◌≡◌, map, option_map, IfOk, IfSome, false, string_bytes};
 ghost use Rattle.clap.specs.Words.{app_of, rule_of, rows_of, found_of, first_of, subcommand_of, subcommand_rows_of};
 ghost use Rattle.clap.specs.declared.builder.command.Command.TheViews.{out-Command};
-ghost use Rattle.commands.specs.CommandLine.{option_rule, required_rule, clients_rule, explain_rule, on_script};
-ghost use Rattle.commands.specs.CommandLine.{files_app, run_app, sim_app, replay_app, bare_app, script_app, node_app};
-ghost use Rattle.commands.specs.CommandLine.{placed_rule, kind_rule, binary_rule, with_text};
-ghost use Rattle.commands.specs.CommandLine.{id_app, base_app, check_app, log_app, scheme_rule, show_app, text_app};
-ghost use Rattle.commands.specs.JobView.{is_given, file_in, file_of, IsTextAt, IsJobOf};
+ghost use Rattle.commands.specs.CommandLine.{option_rule, required_rule, clients_rule, explain_rule, discard_rule};
+ghost use Rattle.commands.specs.CommandLine.{on_script, files_app, run_app, clients_app, sim_app, replay_app, bare_app};
+ghost use Rattle.commands.specs.CommandLine.{script_app, node_app, placed_rule, kind_rule, binary_rule, with_text};
+ghost use Rattle.commands.specs.CommandLine.{id_app, base_app, check_app, log_app, scheme_rule, json_rule, form_app};
+ghost use Rattle.commands.specs.CommandLine.{show_app, text_app};
+ghost use Rattle.commands.specs.JobView.{is_given, file_in, file_of, form_in, IsTextAt, IsLogJob, IsJobOf};
 ghost use Rattle.commands.specs.JobView.{IsRunJob, IsSimJob, IsReplayJob, IsIdJob, IsCheckJob, IsShowJob};
 
 use crate::jobs::{Base, Job, Source, Task, TextAt};
@@ -17,7 +18,7 @@ use clap::{Arg, ArgAction, ArgMatches, Command, Error};
 use genesis::Scheme;
 use simulation::{Clients, MAX_CLIENTS};
 use std::alloc::{AllocError, Global};
-use telling::Kind;
+use telling::{Form, Kind};
 
 /// An option with the path of a file.
 fn path_option<'a>(alloc: Global, id: &'a str, help: &'a str) -> Arg<'a>
@@ -66,6 +67,17 @@ fn explain_flag<'a>(alloc: Global) -> Arg<'a>
         )
 }
 
+/// The flag that has blocks discarded where others have no place.
+fn discard_flag<'a>(alloc: Global) -> Arg<'a>
+    ensures rule { rule_of result ≡ discard_rule }
+    ensures local { result.global ≡ false }
+{
+    Arg::new(alloc, "discard")
+        .long("discard")
+        .action(ArgAction::SetTrue)
+        .help("Where no more blocks may wait, discard those that nothing connects to the chain")
+}
+
 /// A command of this name with the files of a genesis and of a script.
 fn script_files<'a>(
     alloc: Global,
@@ -103,13 +115,21 @@ fn run_command<'a>(alloc: Global) -> Result<Command<'a>, AllocError>
     files_command(alloc)?.arg(explain_flag(alloc))
 }
 
+/// The command `sim` with the options that have a value.
+fn clients_command<'a>(alloc: Global) -> Result<Command<'a>, AllocError>
+    ensures app { IfOk result (λ c. app_of c ≡ clients_app) }
+    ensures local { IfOk result (λ c. (out-Command c).has_globals ≡ false) }
+{
+    let about = "Have peers send blocks at once, and print what came of it";
+    script_files(alloc, "sim", about, "What the peers send")?.arg(clients_option(alloc))
+}
+
 /// The command `sim`.
 fn sim_command<'a>(alloc: Global) -> Result<Command<'a>, AllocError>
     ensures app { IfOk result (λ c. app_of c ≡ sim_app) }
     ensures local { IfOk result (λ c. (out-Command c).has_globals ≡ false) }
 {
-    let about = "Have peers send blocks at once, and print what came of it";
-    script_files(alloc, "sim", about, "What the peers send")?.arg(clients_option(alloc))
+    clients_command(alloc)?.arg(discard_flag(alloc))
 }
 
 /// The command `replay`.
@@ -192,18 +212,36 @@ fn scheme_option<'a>(alloc: Global) -> Arg<'a>
         .default_value("test")
 }
 
+/// The flag that a text is shown as a JSON document.
+fn json_flag<'a>(alloc: Global) -> Arg<'a>
+    ensures rule { rule_of result ≡ json_rule }
+    ensures local { result.global ≡ false }
+{
+    Arg::new(alloc, "json")
+        .long("json")
+        .action(ArgAction::SetTrue)
+        .help("Print one JSON document in place of lines")
+}
+
+/// The command `show` without its text.
+fn form_command<'a>(alloc: Global) -> Result<Command<'a>, AllocError>
+    ensures app { IfOk result (λ c. app_of c ≡ form_app) }
+    ensures local { IfOk result (λ c. (out-Command c).has_globals ≡ false) }
+{
+    Command::new(alloc, "show")
+        .about("Print what a transaction, a block, a script, a value, a genesis or a log is")
+        .after_help("Example: node show --scheme ed25519 transaction payment.hex")
+        .arg(kind_argument(alloc, "transaction, block, script, value, genesis or log"))?
+        .arg(scheme_option(alloc))?
+        .arg(json_flag(alloc))
+}
+
 /// The command `show`.
 fn show_command<'a>(alloc: Global) -> Result<Command<'a>, AllocError>
     ensures app { IfOk result (λ c. app_of c ≡ show_app) }
     ensures local { IfOk result (λ c. (out-Command c).has_globals ≡ false) }
 {
-    let command = Command::new(alloc, "show")
-        .about(
-            "Print what a transaction, a block, a native script or a genesis is, one fact a line",
-        )
-        .after_help("Example: node show --scheme ed25519 transaction payment.hex")
-        .arg(kind_argument(alloc, "transaction, block, script or genesis"))?
-        .arg(scheme_option(alloc))?;
+    let command = form_command(alloc)?;
     with_text(alloc, command)
 }
 
@@ -313,9 +351,14 @@ fn sim_job<'a>(found: &ArgMatches<'a>) -> Option<Job<'a>>
     let script = found.get_str("script")?;
     let many = found.get_one::<usize>("clients")?;
     let clients = Clients::new(many)?;
+    let discard = is_given(found, "discard");
     Some(Job::Under {
         genesis,
-        task: Task::Sim { script, clients },
+        task: Task::Sim {
+            script,
+            clients,
+            discard,
+        },
     })
 }
 
@@ -360,8 +403,36 @@ fn id_job<'a>(found: &ArgMatches<'a>) -> Option<Job<'a>>
 {
     let name = found.get_str("kind")?;
     let kind = Kind::of_name(name)?;
+    if !kind.has_identifier() {
+        return None;
+    }
     let text = text_at(found);
     Some(Job::Id { kind, text })
+}
+
+/// How a text is to be shown.
+fn form_of(found: &ArgMatches<'_>) -> Form
+    ensures { result ≡ form_in (rows_of (found_of found.now)) }
+{
+    if is_given(found, "json") {
+        Form::Json
+    } else {
+        Form::Lines
+    }
+}
+
+/// The question what a log has, of which there is no document.
+fn log_job<'a>(found: &ArgMatches<'a>) -> Option<Job<'a>>
+    ensures { IfSome result (IsLogJob (rows_of (found_of found.now))) }
+{
+    match form_of(found) {
+        Form::Json => None,
+        Form::Lines => {
+            let path = found.get_str("file");
+            let source = source_at(path);
+            Some(Job::ShowLog { source })
+        }
+    }
 }
 
 /// The question what a text is that these arguments name, if they name one.
@@ -369,18 +440,27 @@ fn show_job<'a>(found: &ArgMatches<'a>) -> Option<Job<'a>>
     ensures { IfSome result (IsShowJob (rows_of (found_of found.now))) }
 {
     let name = found.get_str("kind")?;
+    let form = form_of(found);
+    if name == "log" {
+        return log_job(found);
+    }
     if name == "genesis" {
         let genesis = found.get_str("file")?;
         return Some(Job::Under {
             genesis,
-            task: Task::ShowGenesis,
+            task: Task::ShowGenesis { form },
         });
     }
     let kind = Kind::of_name(name)?;
     let by = found.get_str("scheme")?;
     let scheme = Scheme::of_name(by)?;
     let text = text_at(found);
-    Some(Job::Show { kind, scheme, text })
+    Some(Job::Show {
+        kind,
+        form,
+        scheme,
+        text,
+    })
 }
 
 /// The question whether a transaction is valid that these arguments name, if they name one.
@@ -438,12 +518,15 @@ fn refusal(matches: &ArgMatches<'_>) -> &'static str {
     let Some(kind) = found.get_str("kind") else {
         return "there is no KIND";
     };
+    if kind == "log" {
+        return "a log has no document";
+    }
     if kind == "genesis" {
         return "there is no FILE, which a genesis has to have";
     }
     match Kind::of_name(kind) {
         Some(_) => "SCHEME is none of test and ed25519",
-        None => "KIND is none of transaction, block, script and genesis",
+        None => "KIND is none of transaction, block, script, value, genesis and log",
     }
 }
 

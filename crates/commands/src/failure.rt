@@ -26,6 +26,9 @@ pub enum Failure<'a> {
     /// The bytes from there aren't what was asked about.
     #[error("{0} is {1}")]
     NoText(Source<'a>, TellFault),
+    /// What was read from there was left by no log.
+    #[error("{0} is no log")]
+    NoLog(Source<'a>),
     /// What the genesis file says is no genesis: the fault, with its number, and what it is about.
     #[error("genesis: {number} {fault}")]
     Genesis {
@@ -33,7 +36,7 @@ pub enum Failure<'a> {
         fault: GenesisFault,
         hint: Option<GenesisHint>,
     },
-    /// At this place of the log stands an open gate without its record.
+    /// At this place of the log stands an open gate without its record, or a closed one and what no log leaves.
     #[error("log: damaged at {0}")]
     Damaged(usize),
     /// The log's block of this number is none, or can't come after those before it.

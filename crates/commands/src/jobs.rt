@@ -3,7 +3,7 @@
 use genesis::Scheme;
 use simulation::Clients;
 use std::fmt;
-use telling::Kind;
+use telling::{Form, Kind};
 
 /// Where a text is read from.
 #[derive(Clone, Copy, Debug)]
@@ -47,11 +47,16 @@ pub enum Job<'a> {
         kind: Kind,
         text: TextAt<'a>,
     },
-    /// Print what the text of this kind is that stands there, with its signatures judged by this scheme.
+    /// Print in this form what the text of this kind is that stands there, with its signatures judged by this scheme.
     Show {
         kind: Kind,
+        form: Form,
         scheme: Scheme,
         text: TextAt<'a>,
+    },
+    /// Print the records of the log that stands there.
+    ShowLog {
+        source: Source<'a>,
     },
     /// Do this under the genesis of this file.
     Under {
@@ -71,17 +76,20 @@ pub enum Task<'a> {
         explain: bool,
     },
     /// Have the peers of this file's script send blocks, each in a thread of its own, and this many clients follow the
-    /// chain.
+    /// chain; and if so asked, discard blocks that no way leads to where others have no place.
     Sim {
         script: &'a str,
         clients: Clients,
+        discard: bool,
     },
     /// Open the log of this file, and tell how many blocks it has.
     Replay {
         log: &'a str,
     },
-    /// Print what the genesis is.
-    ShowGenesis,
+    /// Print in this form what the genesis is.
+    ShowGenesis {
+        form: Form,
+    },
     /// Tell whether the transaction that stands there is valid, after this.
     Check {
         base: Base<'a>,

@@ -7,6 +7,7 @@ mod failure;
 mod genesis_file;
 mod jobs;
 mod log_file;
+mod log_listing;
 mod log_runs;
 mod program;
 mod recorded;

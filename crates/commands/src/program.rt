@@ -9,8 +9,9 @@ use crate::command_line::job;
 use crate::failure::Failure;
 use crate::genesis_file::genesis_of_file;
 use crate::jobs::{Job, Task};
+use crate::log_listing::show_log;
 use crate::log_runs::{replay, run_logged};
-use crate::runs::{run_file, sim_file};
+use crate::runs::{run_file, setup_of, sim_file};
 use crate::texts::{check, identify, print_genesis, show};
 use clap::Error;
 use clap::error::ErrorKind;
@@ -76,11 +77,18 @@ fn do_by<
             log: Some(log),
             explain,
         } => unasked(run_logged::<S, _, _>(rt, &document, *script, *log, *explain, out)),
-        Task::Sim { script, clients } => {
-            unasked(sim_file::<S, _, _>(rt, document, *script, *clients, out))
+        Task::Sim {
+            script,
+            clients,
+            discard,
+        } => {
+            let setup = setup_of(*clients, *discard);
+            unasked(sim_file::<S, _, _>(rt, document, *script, setup, out))
         }
         Task::Replay { log } => unasked(replay::<S, _, _>(rt, &document, *log, out)),
-        Task::ShowGenesis => unasked(print_genesis(rt.alloc(), &document.genesis, out)),
+        Task::ShowGenesis { form } => {
+            unasked(print_genesis(rt.alloc(), *form, &document.genesis, out))
+        }
         Task::Check { base, text } => {
             asked(check::<S, _, _, _>(rt, &document, *base, *text, input, out))
         }
@@ -130,7 +138,13 @@ fn do_read<'a, R: Files<File = File> + AllocGlobal + Threads + Wait + Sync, I: R
 ) -> Result<Option<Verdict>, Failure<'a>> {
     match job {
         Job::Id { kind, text } => unasked(identify(rt, *kind, *text, input, out)),
-        Job::Show { kind, scheme, text } => unasked(show(rt, *kind, *scheme, *text, input, out)),
+        Job::Show {
+            kind,
+            form,
+            scheme,
+            text,
+        } => unasked(show(rt, *kind, *form, *scheme, *text, input, out)),
+        Job::ShowLog { source } => unasked(show_log(rt, *source, input, out)),
         Job::Under { genesis, task } => {
             let document = genesis_of_file(rt, *genesis, task.explains())?;
             do_named(rt, task, document, input, out)

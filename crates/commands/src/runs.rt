@@ -1,6 +1,6 @@
 //! Runs of a script, and simulations, without a log.
 
-ghost use Rattle.std.specs.Prelude.{◌≡◌, IfErr, IfSome, OnOk};
+ghost use Rattle.std.specs.Prelude.{◌≡◌, if◌then◌else◌, IfErr, IfSome, OnOk};
 ghost use Rattle.model.specs.Ledger.{network_of};
 ghost use Rattle.scenario.specs.Run.{EndsWell};
 ghost use Rattle.commands.specs.Ending.{EndsBySome, options_by};
@@ -11,7 +11,7 @@ use crate::recorded::Recorded;
 use crate::script_file::open_script;
 use genesis::GenesisDocument;
 use scenario::{Options, ScenarioFault};
-use simulation::{Clients, sim};
+use simulation::{Clients, Setup, WhenFull, sim};
 use std::alloc::Global;
 use std::fs::File;
 use std::io::{BufReader, Read, Write};
@@ -66,7 +66,20 @@ pub fn run_file<'a, S: SigScheme, R: Files<File = File> + AllocGlobal, W: Write>
     }
 }
 
-/// Runs the simulation that the script of a file says, with this many clients, on a network of this genesis.
+/// A simulation with this many clients, in which blocks are discarded where others have no place, or aren't.
+pub fn setup_of(clients: Clients, discard: bool) -> Setup
+    ensures clients { result.clients ≡ clients }
+    ensures discards { result.when_full ≡ (if discard then WhenFull.Discard else WhenFull.Refuse) }
+{
+    let when_full = if discard {
+        WhenFull::Discard
+    } else {
+        WhenFull::Refuse
+    };
+    Setup { clients, when_full }
+}
+
+/// Runs the simulation that the script of a file says, set up so, on a network of this genesis.
 pub fn sim_file<
     'a,
     S: SigScheme + Send + Sync,
@@ -76,7 +89,7 @@ pub fn sim_file<
     rt: &R,
     document: GenesisDocument,
     path: &'a str,
-    clients: Clients,
+    setup: Setup,
     out: &mut W,
 ) -> Result<(), Failure<'a>>
     requires { S.verifies ≡ verifies_by document.scheme }
@@ -86,7 +99,7 @@ pub fn sim_file<
     let Ok(mut reader) = BufReader::new(rt.alloc(), script) else {
         return Err(Failure::Scenario(ScenarioFault::OutOfMemory));
     };
-    match sim::<S, _, _, _, _>(rt, genesis, scheme, &mut reader, out, clients, &OpenGate) {
+    match sim::<S, _, _, _, _>(rt, genesis, scheme, &mut reader, out, setup, &OpenGate) {
         Ok(()) => Ok(()),
         Err(fault) => Err(Failure::Scenario(fault)),
     }

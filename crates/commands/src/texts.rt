@@ -5,9 +5,8 @@ ghost use Rattle.model.specs.History.{State};
 ghost use Rattle.chain_core.specs.Held.{Stands, network_held, opening_held};
 ghost use Rattle.scenario.specs.Handed.{RunsWell};
 ghost use Rattle.std.specs.Io.KnownBytes.{Appends};
-ghost use Rattle.showing.specs.Geneses.{lines_of_genesis};
 ghost use Rattle.telling.specs.Faults.{IsUntold};
-ghost use Rattle.telling.specs.Shown.{AreLinesOf, PrintsLines};
+ghost use Rattle.telling.specs.Shown.{IsShownAs, PrintsShown, genesis_in};
 ghost use Rattle.telling.specs.Verdicts.{PrintsVerdict};
 ghost use Rattle.commands.specs.Schemes.{verifies_by};
 
@@ -20,14 +19,13 @@ use crate::text_file::text_of;
 use chain_core::Core;
 use genesis::{Genesis, GenesisDocument, Scheme};
 use scenario::{Options, ScenarioFault};
-use showing::show_genesis;
 use std::alloc::Global;
 use std::fs::File;
 use std::io;
 use std::io::{BufRead, BufReader, Read, Write};
 use std::rt::Files;
 use std::thread::Threads;
-use telling::{Kind, TellFault, Verdict, print_identifier, print_shown, print_verdict};
+use telling::{Form, Kind, TellFault, Verdict, print_identifier, print_shown, print_verdict};
 use witness_pool::{Ed25519, SigScheme, TestScheme};
 
 /// Why nothing was told of the text from there.
@@ -54,54 +52,58 @@ pub fn identify<'a, R: Files<File = File> + AllocGlobal, I: Read, O: Write>(
     }
 }
 
-/// Prints what the text of this kind is that these bytes are, with its signatures judged by this scheme.
+/// Prints in this form what the text of this kind is that these bytes are, with its signatures judged by this scheme.
 fn print_by<O: Write>(
     alloc: Global,
     scheme: Scheme,
+    form: Form,
     kind: Kind,
     bytes: &[u8],
     out: &mut O,
 ) -> Result<(), TellFault>
-    ensures printed { OnOk result (PrintsLines (verifies_by scheme) kind bytes.now (O.contents out.old)
+    ensures printed { OnOk result (PrintsShown (verifies_by scheme) form kind bytes.now (O.contents out.old)
         (O.contents out.new)) }
     ensures fault { IfErr result (IsUntold kind bytes.now) }
-    ensures none { ((lines : List ℕ) → AreLinesOf (verifies_by scheme) kind bytes.now lines → ⊥) → out.new ≡ out.old }
+    ensures none { ((text : List ℕ) → IsShownAs (verifies_by scheme) form kind bytes.now text → ⊥) →
+        out.new ≡ out.old }
     ensures quiet { IfErr result (λ fault. fault ≢ TellFault.WriteFailed → out.new ≡ out.old) }
 {
     match scheme {
-        Scheme::Test => print_shown::<TestScheme, _>(alloc, kind, bytes, out),
-        Scheme::Ed25519 => print_shown::<Ed25519, _>(alloc, kind, bytes, out),
+        Scheme::Test => print_shown::<TestScheme, _>(alloc, form, kind, bytes, out),
+        Scheme::Ed25519 => print_shown::<Ed25519, _>(alloc, form, kind, bytes, out),
     }
 }
 
-/// Prints what a text of this kind is, with its signatures judged by this scheme.
+/// Prints in this form what a text of this kind is, with its signatures judged by this scheme.
 pub fn show<'a, R: Files<File = File> + AllocGlobal, I: Read, O: Write>(
     rt: &R,
     kind: Kind,
+    form: Form,
     scheme: Scheme,
     text: TextAt<'a>,
     input: &mut I,
     out: &mut O,
 ) -> Result<(), Failure<'a>> {
     let bytes = text_of(rt, text, input)?;
-    match print_by(rt.alloc(), scheme, kind, &bytes, out) {
+    match print_by(rt.alloc(), scheme, form, kind, &bytes, out) {
         Ok(()) => Ok(()),
         Err(fault) => Err(untold(text.source, fault)),
     }
 }
 
-/// Prints what a genesis is.
+/// Prints in this form what a genesis is.
 pub fn print_genesis<'a, O: Write>(
     alloc: Global,
+    form: Form,
     genesis: &Genesis,
     out: &mut O,
 ) -> Result<(), Failure<'a>>
-    ensures { OnOk result (Appends (O.contents out.old) (O.contents out.new) (lines_of_genesis genesis.now)) }
+    ensures { OnOk result (Appends (O.contents out.old) (O.contents out.new) (genesis_in form genesis.now)) }
 {
-    let Ok(lines) = show_genesis(alloc, genesis) else {
+    let Ok(text) = form.genesis(alloc, genesis) else {
         return Err(Failure::Scenario(ScenarioFault::OutOfMemory));
     };
-    match out.write_all(lines.as_bytes()) {
+    match out.write_all(text.as_bytes()) {
         Ok(()) => Ok(()),
         Err(_) => Err(Failure::Scenario(ScenarioFault::WriteFailed)),
     }

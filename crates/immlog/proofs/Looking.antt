@@ -1,6 +1,6 @@
 -- What bytes look like, read one record after the other.
-use Rattle.std.proofs.Common.{◌≡◌, ◌≢◌, ◌⊎◌, ◌↔◌, inl, inr, ℕ, zero, suc, ◌+◌, ◌-◌, ◌<◌, ◌≤◌, List, [], ◌∷◌, ◌++◌, length, take, drop, get_or, ◌^◌, Bool, true, false, Option, Some, None, refl, sym, ◌∙◌, ap, subst, arith, append_assoc, append-nil, length-append}
-use Rattle.std.specs.Prelude.{IsTrue, IfSome}
+use Rattle.std.proofs.Common.{◌≡◌, ◌≢◌, ◌⊎◌, ◌↔◌, inl, inr, ℕ, zero, suc, ◌+◌, ◌-◌, ◌<◌, ◌≤◌, List, [], ◌∷◌, ◌++◌, length, take, drop, get_or, ◌^◌, Option, Some, None, refl, sym, ◌∙◌, ap, subst, arith, append_assoc, append-nil, length-append}
+use Rattle.std.specs.Prelude.{IfSome}
 use Rattle.std.specs.Int.{w32, to_be_bytes, from_be_bytes}
 use borrow.Rule.Slice.PartMut.{mid_of, post_of, put_mid, same_len_mid, take_put}
 use Rattle.std.specs.Io.KnownBytes.{Consumes, Keeps}
@@ -13,11 +13,13 @@ use Rattle.model.specs.Log.{IsLogBlock, body_of, records, IsClosed, Opens}
 use Rattle.model.proofs.Lists.{all_push}
 use Rattle.model.proofs.LogTexts.{length-body_of, body_of_parts, same_front, same_body, records-push, same_records, none_closed, not_both}
 use Rattle.immlog.specs.Frames.{BeginsWithFrame, NoRecordBehind}
-use Rattle.immlog.specs.Left.{AreZeros, HasRecord, TellsLength, IsShort, IsLeftover, IsLogEnd, IsLeft, IsLook}
-use Rattle.immlog.specs.Walks.{IsFilled, IsTaken, IsBody, IsNextByte, IsStep, IsWalked}
+use Rattle.immlog.specs.Left.{AreZeros, HasRecord, TellsLength, IsShort, IsLeftover, IsLogEnd, IsEndOf, IsLeft, IsLook}
+use Rattle.immlog.specs.Walks.{IsFilled, IsTaken, IsNextByte, IsPart, IsWalked}
 use Rattle.immlog.specs.declared.look.Look.{Look}
+use Rattle.immlog.specs.declared.part.LogEnd.{LogEnd}
+use Rattle.immlog.specs.declared.part.LogEnd.TheVariants as ends
 use Rattle.immlog.specs.declared.look.Look.TheVariants as look
-use Rattle.immlog.specs.declared.look.Step.TheVariants as step
+use Rattle.immlog.specs.declared.part.LogPart.TheVariants as parts
 use Rattle.immlog.proofs.Reading.{bytes_below, tail_slice, none_short}
 
 -- ---- bytes that a reader gives
@@ -164,10 +166,11 @@ too_long gate behind long end = elim end.1.short [
   | inr told ↦ (let w = told.1.within in let t = told.2 in absurd (omega arith))
 ]
 
-pub end_of_all : (gate : ℕ) (o n : Option (List ℕ)) (room : List ℕ) (count : ℕ) (r : Bool) → block_size_limit + 37 < length room → IsFilled o n room count → IsTrue r ↔ IsLogEnd (gate ∷ take count room) → IfSome o (λ bytes. IsTrue r ↔ IsLogEnd (gate ∷ bytes))
-end_of_all gate None n room count r long filled same = tt
-end_of_all gate (Some xs) None room count r long filled same = let t = filled.taken in elim t [ ]
-end_of_all gate (Some xs) (Some ys) room count r long filled same = by_length (less_or count (length room))
+-- what is said of the end that was read is said of the end that is there
+pub end_of_all : (gate : ℕ) (o n : Option (List ℕ)) (room : List ℕ) (count : ℕ) (end : LogEnd) → block_size_limit + 37 < length room → IsFilled o n room count → IsEndOf (gate ∷ take count room) end → IfSome o (λ bytes. IsEndOf (gate ∷ bytes) end)
+end_of_all gate None n room count end long filled is = tt
+end_of_all gate (Some xs) None room count end long filled is = let t = filled.taken in elim t [ ]
+end_of_all gate (Some xs) (Some ys) room count end long filled is = by_length (less_or count (length room))
   where
     less_or : (a b : ℕ) → (a < b) ⊎ (b ≤ a)
     less_or zero zero = inr (omega arith)
@@ -175,20 +178,25 @@ end_of_all gate (Some xs) (Some ys) room count r long filled same = by_length (l
     less_or (suc a) zero = inr (omega arith)
     less_or (suc a) (suc b) = elim (less_or a b) [ inl l ↦ inl (omega arith) | inr g ↦ inr (omega arith) ]
 
-    by_length : (count < length room) ⊎ (length room ≤ count) → IsTrue r ↔ IsLogEnd (gate ∷ xs)
+    of_long : (e : LogEnd) → block_size_limit + 37 < length (take count room) → block_size_limit + 37 < length xs → IsEndOf (gate ∷ take count room) e → IsEndOf (gate ∷ xs) e
+    of_long ends.Clean part whole at = absurd (too_long gate (take count room) part at.0)
+    of_long ends.Torn part whole at = absurd (too_long gate (take count room) part at.0)
+    of_long ends.Foreign part whole at = λ left. too_long gate xs whole left
+
+    by_length : (count < length room) ⊎ (length room ≤ count) → IsEndOf (gate ∷ xs) end
     by_length (inl less) =
         let none : ys ≡ [] = filled.end less in
         let all : xs ≡ take count room = filled.taken ∙ (ap (λ (l : List ℕ). take count room ++ l) none ∙ append-nil (take count room)) in
-        subst (λ (l : List ℕ). IsTrue r ↔ IsLogEnd (gate ∷ l)) (sym all) same
+        subst (λ (l : List ℕ). IsEndOf (gate ∷ l) end) (sym all) is
     by_length (inr full) =
         let taken : length (take count room) ≡ count = length-take-le count room filled.within in
         let whole : length xs ≡ length (take count room) + length ys = ap length filled.taken ∙ length-append (take count room) ys in
-        (λ yes. absurd (too_long gate (take count room) (omega arith) (same.0 yes)), λ end. absurd (too_long gate xs (omega arith) end))
+        of_long end (omega arith) (omega arith) is
 
 -- ---- the body of a record
 
 -- too few bytes are left for one
-pub none_left : (o n : Option (List ℕ)) (room : List ℕ) (count : ℕ) → length room ≡ 36 → count < 36 → IsFilled o n room count → IfSome o (λ bytes. IsBody bytes n None)
+pub none_left : (o n : Option (List ℕ)) (room : List ℕ) (count : ℕ) → length room ≡ 36 → count < 36 → IsFilled o n room count → IfSome o NoRecordBehind
 none_left None n room count long short filled = tt
 none_left (Some xs) None room count long short filled = let t = filled.taken in elim t [ ]
 none_left (Some xs) (Some ys) room count long short filled =
@@ -207,7 +215,7 @@ told_block head behind more size long tells here =
     one_length (head ++ behind) size (length here.block) (tells_all head behind size long tells) (record_tells (head ++ behind) more here)
 
 -- the first bytes tell no length
-pub untold : (o m n : Option (List ℕ)) (head : List ℕ) → length head ≡ 36 → ((len : ℕ) → TellsLength head len → ⊥) → Consumes o m head → IfSome o (λ bytes. IsBody bytes n None)
+pub untold : (o m n : Option (List ℕ)) (head : List ℕ) → length head ≡ 36 → ((len : ℕ) → TellsLength head len → ⊥) → Consumes o m head → IfSome o NoRecordBehind
 untold None m n head long none one = tt
 untold (Some xs) None n head long none one = elim one [ ]
 untold (Some xs) (Some ys) n head long none one = λ block more is_block text.
@@ -246,11 +254,11 @@ here_of head room part size count long within part_is small =
       part_is = omega arith;
     }
 
-pub body_some : (o m n : Option (List ℕ)) (head room more : List ℕ) (size count : ℕ) → length head ≡ 36 → length room ≡ size → TellsLength head size → Consumes o m head → IsFilled m n room count → HasRecord (head ++ take count room) more → IfSome o (λ bytes. IsTaken bytes n (36 + count))
-body_some None m n head room more size count long room_is tells one filled here = tt
-body_some (Some xs) None n head room more size count long room_is tells one filled here = elim one [ ]
-body_some (Some xs) (Some ys) None head room more size count long room_is tells one filled here = let t = filled.taken in elim t [ ]
-body_some (Some xs) (Some ys) (Some zs) head room more size count long room_is tells one filled here =
+pub body_some : (o m n : Option (List ℕ)) (head room whole more : List ℕ) (size count : ℕ) → take (36 + count) whole ≡ head ++ take count room → length head ≡ 36 → length room ≡ size → TellsLength head size → Consumes o m head → IsFilled m n room count → HasRecord (head ++ take count room) more → IfSome o (λ bytes. IsTaken bytes n whole (36 + count))
+body_some None m n head room whole more size count front long room_is tells one filled here = tt
+body_some (Some xs) None n head room whole more size count front long room_is tells one filled here = elim one [ ]
+body_some (Some xs) (Some ys) None head room whole more size count front long room_is tells one filled here = let t = filled.taken in elim t [ ]
+body_some (Some xs) (Some ys) (Some zs) head room whole more size count front long room_is tells one filled here =
     let told : size ≡ length here.block = told_block head (take count room) more size (omega arith) tells here in
     let taken : length (take count room) ≡ count = length-take-le count room filled.within in
     let sum : length head + length (take count room) ≡ length (body_of here.block) + length more = sym (length-append head (take count room)) ∙ (ap length here.text ∙ length-append (body_of here.block) more) in
@@ -264,6 +272,7 @@ body_some (Some xs) (Some ys) (Some zs) head room more size count long room_is t
       text = one ∙ (ap (λ (l : List ℕ). head ++ l) filled.taken ∙ (sym (append_assoc head (take count room) zs) ∙ (ap (λ (l : List ℕ). l ++ zs) here.text ∙ (ap (λ (l : List ℕ). body_of here.block ++ l ++ zs) (empty more none) ∙ ap (λ (l : List ℕ). l ++ zs) (append-nil (body_of here.block))))));
       left = refl;
       long = omega arith;
+      held = front ∙ (here.text ∙ (ap (λ (l : List ℕ). body_of here.block ++ l) (empty more none) ∙ append-nil (body_of here.block)));
     }
   where
     empty : (l : List ℕ) → length l ≡ 0 → l ≡ []
@@ -300,11 +309,19 @@ body_none (Some xs) (Some ys) (Some zs) head room size count long room_is tells 
         let fronts = same_front (head ++ take count room) (body_of block) zs more (omega arith) (sym split ∙ text) in
         none block [] is_block (fronts.0 ∙ sym (append-nil (body_of block)))
 
--- ---- one step after the other
+-- the block stands behind the first bytes of its record
+pub behind_head : (block : List ℕ) → drop 36 (body_of block) ≡ block
+unfolding body_of
+behind_head block =
+    let front : List ℕ = to_be_bytes w32 (length block) ++ sha256 block in
+    let long : length front ≡ 36 = omega (arith, length-body_of block, length-append front block) in
+    drop_at front block 36 long
 
-pub walked_more : (bytes : List ℕ) (m n : Option (List ℕ)) (place len next : ℕ) → IsWalked bytes m place → IfSome m (λ rest. IsStep rest n (step.Record len)) → next ≡ place + (1 + len) → IsWalked bytes n next
-walked_more bytes None n place len next walked here next_is = let l = walked.left in absurd cc
-walked_more bytes (Some rest) n place len next walked here next_is =
+-- ---- one part after the other
+
+pub walked_more : (room : List ℕ) (bytes : List ℕ) (m n : Option (List ℕ)) (place len next : ℕ) → IsWalked bytes m place → IfSome m (λ rest. IsPart rest n room (parts.Record len)) → next ≡ place + (1 + len) → IsWalked bytes n next
+walked_more room bytes None n place len next walked here next_is = let l = walked.left in absurd cc
+walked_more room bytes (Some rest) n place len next walked here next_is =
     let same : rest ≡ walked.rest = let l = walked.left in cc in
     let record_is = here.2 in
     let row = walked.blocks ++ record_is.block ∷ [] in
@@ -323,27 +340,32 @@ walked_more bytes (Some rest) n place len next walked here next_is =
     }
 
 -- a gate that isn't open, and what stands behind it
-pub step_end : (o m n : Option (List ℕ)) (gate : ℕ) (r : Bool) → gate ≢ 1 → IfSome o (IsNextByte (Some gate) m) → IfSome m (λ bytes. IsTrue r ↔ IsLogEnd (gate ∷ bytes)) → IfSome o (λ bytes. IsStep bytes n (step.End r))
-step_end None m n gate r shut next end = tt
-step_end (Some xs) None n gate r shut next end = let e = next.2 in absurd cc
-step_end (Some xs) (Some ys) n gate r shut next end =
+pub step_end : (room : List ℕ) (o m n : Option (List ℕ)) (gate : ℕ) (end : LogEnd) → gate ≢ 1 → IfSome o (IsNextByte (Some gate) m) → IfSome m (λ bytes. IsEndOf (gate ∷ bytes) end) → IfSome o (λ bytes. IsPart bytes n room (parts.End end))
+step_end room None m n gate end shut next is = tt
+step_end room (Some xs) None n gate end shut next is = let e = next.2 in absurd cc
+step_end room (Some xs) (Some ys) n gate end shut next is =
     let same : ys ≡ next.0 = let e = next.2 in cc in
     let all : xs ≡ gate ∷ ys = next.1 ∙ ap (λ (l : List ℕ). gate ∷ l) (sym same) in
-    subst (λ (l : List ℕ). IsStep l n (step.End r)) (sym all) (shut, end)
+    subst (λ (l : List ℕ). IsPart l n room (parts.End end)) (sym all) (shut, is)
+
+-- nothing
+pub step_none : (room : List ℕ) (o m n : Option (List ℕ)) → IfSome o (IsNextByte None m) → IfSome o (λ bytes. IsPart bytes n room (parts.End ends.Clean))
+step_none room None m n next = tt
+step_none room (Some xs) m n next = subst (λ (l : List ℕ). IsPart l n room (parts.End ends.Clean)) (sym next) (tt, (tt, inl refl))
 
 -- an open gate, and the record behind it
-pub step_record : (o m n : Option (List ℕ)) (len : ℕ) → IfSome o (IsNextByte (Some 1) m) → IfSome m (λ bytes. IsTaken bytes n len) → IfSome o (λ bytes. IsStep bytes n (step.Record len))
-step_record None m n len next taken = tt
-step_record (Some xs) None n len next taken = let e = next.2 in absurd cc
-step_record (Some xs) (Some ys) n len next taken =
+pub step_record : (room : List ℕ) (o m n : Option (List ℕ)) (len : ℕ) → IfSome o (IsNextByte (Some 1) m) → IfSome m (λ bytes. IsTaken bytes n room len) → IfSome o (λ bytes. IsPart bytes n room (parts.Record len))
+step_record room None m n len next taken = tt
+step_record room (Some xs) None n len next taken = let e = next.2 in absurd cc
+step_record room (Some xs) (Some ys) n len next taken =
     let same : ys ≡ next.0 = let e = next.2 in cc in
     (ys, next.1 ∙ ap (λ (l : List ℕ). 1 ∷ l) (sym same), taken)
 
 -- an open gate alone
-pub step_vain : (o m n : Option (List ℕ)) → IfSome o (IsNextByte (Some 1) m) → IfSome m NoRecordBehind → IfSome o (λ bytes. IsStep bytes n step.Vain)
-step_vain None m n next none = tt
-step_vain (Some xs) None n next none = let e = next.2 in absurd cc
-step_vain (Some xs) (Some ys) n next none =
+pub step_vain : (room : List ℕ) (o m n : Option (List ℕ)) → IfSome o (IsNextByte (Some 1) m) → IfSome m NoRecordBehind → IfSome o (λ bytes. IsPart bytes n room parts.Vain)
+step_vain room None m n next none = tt
+step_vain room (Some xs) None n next none = let e = next.2 in absurd cc
+step_vain room (Some xs) (Some ys) n next none =
     let same : ys ≡ next.0 = let e = next.2 in cc in
     record { rest = ys; text = next.1 ∙ ap (λ (l : List ℕ). 1 ∷ l) (sym same); none = none }
 
@@ -356,14 +378,20 @@ rest_of : (bytes : List ℕ) (m : Option (List ℕ)) (place : ℕ) (P : List ℕ
 rest_of bytes None place P walked holds = let l = walked.left in absurd cc
 rest_of bytes (Some rest) place P walked holds = let same : rest ≡ walked.rest = let l = walked.left in cc in subst P same holds
 
-pub look_log : (bytes : List ℕ) (m n : Option (List ℕ)) (place : ℕ) → IsWalked bytes m place → IfSome m (λ rest. IsStep rest n (step.End true)) → IsLook bytes look.Log
-look_log bytes m n place walked here =
-    let end = rest_of bytes m place (λ rest. IsStep rest n (step.End true)) walked here in
-    record { blocks = walked.blocks; rest = walked.rest; text = walked.text; sizes = walked.sizes; end = end.1.0 refl }
+-- an end that a log left
+left_end : (bytes : List ℕ) (end : LogEnd) → end ≢ ends.Foreign → IsEndOf bytes end → IsLogEnd bytes
+left_end bytes ends.Clean other is = is.0
+left_end bytes ends.Torn other is = is.0
+left_end bytes ends.Foreign other is = absurd (other refl)
 
-pub look_vain : (bytes : List ℕ) (m n : Option (List ℕ)) (place : ℕ) → IsWalked bytes m place → IfSome m (λ rest. IsStep rest n step.Vain) → IsLook bytes (look.Damaged place)
-look_vain bytes m n place walked here =
-    let vain = rest_of bytes m place (λ rest. IsStep rest n step.Vain) walked here in
+pub look_log : (room : List ℕ) (bytes : List ℕ) (m n : Option (List ℕ)) (place : ℕ) (end : LogEnd) → end ≢ ends.Foreign → IsWalked bytes m place → IfSome m (λ rest. IsPart rest n room (parts.End end)) → IsLook bytes look.Log
+look_log room bytes m n place end other walked here =
+    let is = rest_of bytes m place (λ rest. IsPart rest n room (parts.End end)) walked here in
+    record { blocks = walked.blocks; rest = walked.rest; text = walked.text; sizes = walked.sizes; end = left_end walked.rest end other is.1 }
+
+pub look_vain : (room : List ℕ) (bytes : List ℕ) (m n : Option (List ℕ)) (place : ℕ) → IsWalked bytes m place → IfSome m (λ rest. IsPart rest n room parts.Vain) → IsLook bytes (look.Damaged place)
+look_vain room bytes m n place walked here =
+    let vain = rest_of bytes m place (λ rest. IsPart rest n room parts.Vain) walked here in
     inl (record {
       blocks = walked.blocks;
       rest = vain.rest;
@@ -373,19 +401,19 @@ look_vain bytes m n place walked here =
       spoilt = vain.none;
     })
 
-pub look_none : (bytes : List ℕ) (m n : Option (List ℕ)) (place : ℕ) → IsWalked bytes m place → IfSome m (λ rest. IsStep rest n (step.End false)) → place ≡ 0 → IsLook bytes look.NoLog
-look_none bytes m n place walked here first =
-    let end = rest_of bytes m place (λ rest. IsStep rest n (step.End false)) walked here in
+pub look_none : (room : List ℕ) (bytes : List ℕ) (m n : Option (List ℕ)) (place : ℕ) → IsWalked bytes m place → IfSome m (λ rest. IsPart rest n room (parts.End ends.Foreign)) → place ≡ 0 → IsLook bytes look.NoLog
+look_none room bytes m n place walked here first =
+    let end = rest_of bytes m place (λ rest. IsPart rest n room (parts.End ends.Foreign)) walked here in
     let all : bytes ≡ walked.rest = walked.text ∙ ap (λ (l : List ℕ). l ++ walked.rest) (no_records walked.blocks (sym walked.place_is ∙ first)) in
-    subst (λ (l : List ℕ). IsClosed l × (IsLogEnd l → ⊥)) (sym all) (end.0, λ is_end. let e : false ≡ true = end.1.1 is_end in absurd cc)
+    subst (λ (l : List ℕ). IsClosed l × (IsLogEnd l → ⊥)) (sym all) end
   where
     no_records : (blocks : List (List ℕ)) → length (records blocks) ≡ 0 → records blocks ≡ []
     no_records [] none = refl
     no_records (block ∷ blocks) none = absurd (omega arith)
 
-pub look_bad : (bytes : List ℕ) (m n : Option (List ℕ)) (place : ℕ) → IsWalked bytes m place → IfSome m (λ rest. IsStep rest n (step.End false)) → place ≢ 0 → IsLook bytes (look.Damaged place)
-look_bad bytes m n place walked here later =
-    let end = rest_of bytes m place (λ rest. IsStep rest n (step.End false)) walked here in
+pub look_bad : (room : List ℕ) (bytes : List ℕ) (m n : Option (List ℕ)) (place : ℕ) → IsWalked bytes m place → IfSome m (λ rest. IsPart rest n room (parts.End ends.Foreign)) → place ≢ 0 → IsLook bytes (look.Damaged place)
+look_bad room bytes m n place walked here later =
+    let end = rest_of bytes m place (λ rest. IsPart rest n room (parts.End ends.Foreign)) walked here in
     inr (record {
       blocks = walked.blocks;
       rest = walked.rest;
@@ -394,26 +422,30 @@ look_bad bytes m n place walked here later =
       some = λ none. later (walked.place_is ∙ ap (λ (l : List (List ℕ)). length (records l)) none);
       place_is = walked.place_is;
       closed = end.0;
-      bad = λ is_end. let e : false ≡ true = end.1.1 is_end in absurd cc;
+      bad = end.1;
     })
 
 -- an end, whichever it is
-pub seen_end : (o m n : Option (List ℕ)) (place : ℕ) (r : Bool) (seen : Look) → IfSome o (λ bytes. IsWalked bytes m place) → IfSome m (λ rest. IsStep rest n (step.End r)) → (r ≡ true → seen ≡ look.Log) → (r ≡ false → place ≡ 0 → seen ≡ look.NoLog) → (r ≡ false → place ≢ 0 → seen ≡ look.Damaged place) → IfSome o (λ bytes. IsLook bytes seen)
-seen_end o m n place true seen walked here log none bad =
-    some_weaker (λ bytes. IsWalked bytes m place) (λ bytes. IsLook bytes seen) o (λ bytes w. rw (log refl) (look_log bytes m n place w here)) walked
-seen_end o m n zero false seen walked here log none bad =
-    some_weaker (λ bytes. IsWalked bytes m zero) (λ bytes. IsLook bytes seen) o (λ bytes w. rw (none refl refl) (look_none bytes m n zero w here refl)) walked
-seen_end o m n (suc place) false seen walked here log none bad =
+seen_log : (room : List ℕ) (o m n : Option (List ℕ)) (place : ℕ) (end : LogEnd) (seen : Look) → end ≢ ends.Foreign → IfSome o (λ bytes. IsWalked bytes m place) → IfSome m (λ rest. IsPart rest n room (parts.End end)) → (end ≢ ends.Foreign → seen ≡ look.Log) → IfSome o (λ bytes. IsLook bytes seen)
+seen_log room o m n place end seen other walked here log =
+    some_weaker (λ bytes. IsWalked bytes m place) (λ bytes. IsLook bytes seen) o (λ bytes w. rw (log other) (look_log room bytes m n place end other w here)) walked
+
+pub seen_end : (room : List ℕ) (o m n : Option (List ℕ)) (place : ℕ) (end : LogEnd) (seen : Look) → IfSome o (λ bytes. IsWalked bytes m place) → IfSome m (λ rest. IsPart rest n room (parts.End end)) → (end ≢ ends.Foreign → seen ≡ look.Log) → (end ≡ ends.Foreign → place ≡ 0 → seen ≡ look.NoLog) → (end ≡ ends.Foreign → place ≢ 0 → seen ≡ look.Damaged place) → IfSome o (λ bytes. IsLook bytes seen)
+seen_end room o m n place ends.Clean seen walked here log none bad = seen_log room o m n place ends.Clean seen (λ is. absurd (cc is)) walked here log
+seen_end room o m n place ends.Torn seen walked here log none bad = seen_log room o m n place ends.Torn seen (λ is. absurd (cc is)) walked here log
+seen_end room o m n zero ends.Foreign seen walked here log none bad =
+    some_weaker (λ bytes. IsWalked bytes m zero) (λ bytes. IsLook bytes seen) o (λ bytes w. rw (none refl refl) (look_none room bytes m n zero w here refl)) walked
+seen_end room o m n (suc place) ends.Foreign seen walked here log none bad =
     let later : suc place ≢ 0 = λ is. absurd (omega arith) in
-    some_weaker (λ bytes. IsWalked bytes m (suc place)) (λ bytes. IsLook bytes seen) o (λ bytes w. rw (bad refl later) (look_bad bytes m n (suc place) w here later)) walked
+    some_weaker (λ bytes. IsWalked bytes m (suc place)) (λ bytes. IsLook bytes seen) o (λ bytes w. rw (bad refl later) (look_bad room bytes m n (suc place) w here later)) walked
 
-pub seen_vain : (o m n : Option (List ℕ)) (place : ℕ) → IfSome o (λ bytes. IsWalked bytes m place) → IfSome m (λ rest. IsStep rest n step.Vain) → IfSome o (λ bytes. IsLook bytes (look.Damaged place))
-seen_vain o m n place walked here =
-    some_weaker (λ bytes. IsWalked bytes m place) (λ bytes. IsLook bytes (look.Damaged place)) o (λ bytes w. look_vain bytes m n place w here) walked
+pub seen_vain : (room : List ℕ) (o m n : Option (List ℕ)) (place : ℕ) → IfSome o (λ bytes. IsWalked bytes m place) → IfSome m (λ rest. IsPart rest n room parts.Vain) → IfSome o (λ bytes. IsLook bytes (look.Damaged place))
+seen_vain room o m n place walked here =
+    some_weaker (λ bytes. IsWalked bytes m place) (λ bytes. IsLook bytes (look.Damaged place)) o (λ bytes w. look_vain room bytes m n place w here) walked
 
-pub seen_more : (o m n : Option (List ℕ)) (place len next : ℕ) → IfSome o (λ bytes. IsWalked bytes m place) → IfSome m (λ rest. IsStep rest n (step.Record len)) → next ≡ place + (1 + len) → IfSome o (λ bytes. IsWalked bytes n next)
-seen_more o m n place len next walked here next_is =
-    some_weaker (λ bytes. IsWalked bytes m place) (λ bytes. IsWalked bytes n next) o (λ bytes w. walked_more bytes m n place len next w here next_is) walked
+pub seen_more : (room : List ℕ) (o m n : Option (List ℕ)) (place len next : ℕ) → IfSome o (λ bytes. IsWalked bytes m place) → IfSome m (λ rest. IsPart rest n room (parts.Record len)) → next ≡ place + (1 + len) → IfSome o (λ bytes. IsWalked bytes n next)
+seen_more room o m n place len next walked here next_is =
+    some_weaker (λ bytes. IsWalked bytes m place) (λ bytes. IsWalked bytes n next) o (λ bytes w. walked_more room bytes m n place len next w here next_is) walked
 
 -- ---- there is one look
 

@@ -6,6 +6,8 @@ use Rattle.std.specs.Int.{w32, to_be_bytes}
 use Rattle.model.specs.Limits.{block_size_limit}
 use Rattle.model.specs.Log.{IsLogBlock, body_of, records, IsClosed, IsDamaged, at_rest}
 use Rattle.immlog.specs.declared.look.Look.{Look}
+use Rattle.immlog.specs.declared.part.LogEnd.{LogEnd}
+use Rattle.immlog.specs.declared.part.LogEnd.TheVariants.{Clean, Torn, Foreign}
 use Rattle.immlog.specs.declared.look.Look.TheVariants as look
 
 -- only zeros
@@ -43,6 +45,16 @@ abbrev pub IsLogEnd : List ℕ → Type 0
 IsLogEnd [] = Unit {0}
 IsLogEnd (gate ∷ behind) =
     (gate ≢ 1) × IsLeftover behind × ((gate ≡ 0) ⊎ ((behind ≡ []) ⊎ ((more : List ℕ) × HasRecord behind more)))
+
+-- the end of a log at rest: a closed gate alone, or nothing
+abbrev pub IsCleanEnd : List ℕ → Type 0
+IsCleanEnd bytes = (bytes ≡ []) ⊎ (bytes ≡ 0 ∷ [])
+
+-- how bytes end behind records
+abbrev pub IsEndOf : List ℕ → LogEnd → Type 0
+IsEndOf bytes Clean = IsLogEnd bytes × IsCleanEnd bytes
+IsEndOf bytes Torn = IsLogEnd bytes × (IsCleanEnd bytes → ⊥)
+IsEndOf bytes Foreign = IsLogEnd bytes → ⊥
 
 -- a log left these bytes
 pub record IsLeft (bytes : List ℕ) : Type 0 where

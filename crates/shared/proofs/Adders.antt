@@ -155,6 +155,11 @@ last_taken a peers none test is all = found a.held (test ∙ ap not is) all
     found None is all = (refl, all)
     found (Some arrival) is all = absurd (true≢false is)
 
+-- nothing is held, as it is seen
+pub none_held : (held : Option Arrival) (none : Bool) → is_some held ≡ not none → none ≡ true → held ≡ None
+none_held None none test is = refl
+none_held (Some arrival) none test is = absurd (true≢false (test ∙ ap not is))
+
 -- ---- on the way
 
 -- at most one is held

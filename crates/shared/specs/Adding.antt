@@ -1,6 +1,6 @@
 -- WHAT AN ADDER DOES (this project's own): it takes what peers sent, and brings it to the core, one arrival after the
 -- other, by locked calls of its own.
-use Rattle.std.specs.Prelude.{◌≡◌, ℕ, suc, ◌+◌, ◌<◌, ◌^◌, List, [], ◌∷◌, ◌++◌, Option, Some, None, length}
+use Rattle.std.specs.Prelude.{◌≡◌, ℕ, suc, ◌+◌, ◌<◌, ◌^◌, List, [], ◌∷◌, ◌++◌, Option, Some, None, Ok, length}
 use Rattle.std.specs.List.{AllByRecursion}
 use mathlib.Core.Path.{refl}
 use Rattle.std.specs.Coded.{Coded, coded×, coded_option, code_by}
@@ -10,6 +10,8 @@ use Rattle.model.specs.Journal.{JournalEntry, Journal, Knowledge, IsCalled}
 use Rattle.model.specs.JournalCodes.{coded_knowledge}
 use Rattle.inbox.specs.Arrivals.{Arrival, SentBy, Intake, IsPeer, came_of, BeginsWith, IsCountOf}
 use Rattle.inbox.specs.Codes.{coded_arrival, coded_intake}
+use Rattle.chain_core.specs.declared.arrival.ArriveReply.{ArriveReply}
+use Rattle.chain_core.specs.Views.{arrive_reply_of}
 use Rattle.shared.specs.Arrivals.{arrival_in, arrivals_in}
 use Rattle.shared.specs.Entries.{arrival_by}
 use Rattle.shared.specs.Later.{IsLater}
@@ -72,3 +74,9 @@ IsBroughtCount a place count =
 pub record HasTaken (before after : Adding) : Type 0 where
   pub knows : after.knows ≡ before.knows
   pub taken : after.intake.taken ≡ before.intake.taken ++ held_in after.held
+
+-- one call came behind the first ones, and this was answered to it
+pub record IsLastAnswer (before after : Journal) (reply : ArriveReply) : Type 0 where
+  pub call : JournalEntry
+  pub calls : after ≡ before ++ call ∷ []
+  pub reply_is : call.entry.reply ≡ arrive_reply_of (Ok reply)

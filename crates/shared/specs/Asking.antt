@@ -1,7 +1,9 @@
 -- Questions to a shared core: the journal has nothing of them.
-use Rattle.std.specs.Prelude.{ℕ}
+use Rattle.std.specs.Prelude.{◌≡◌, ℕ, List, map, take}
+use Rattle.model.specs.Block.{Block, block_hash_of}
 use Rattle.model.specs.Ledger.{Network}
 use Rattle.model.specs.History.{State}
+use Rattle.model.specs.Asked.{AreUnconnected}
 use Rattle.model.specs.Journal.{Journal, Knowledge, IsLegalJournal, IsLook}
 
 -- the journal is legal, and this is so of the state that it leaves
@@ -15,3 +17,9 @@ pub record IsAsked (network : Network) (before after : Knowledge) (says : State 
   pub height : ℕ
   pub look : IsLook network before height after
   pub told : IsSoAfter network after.seen says
+
+-- these are the hashes of the unconnected blocks, those with the greatest numbers first, and at most so many
+pub record AreFurthest (network : Network) (s : State) (most : ℕ) (hashes : List (List ℕ)) : Type 0 where
+  pub blocks : List Block
+  pub unconnected : AreUnconnected network s blocks
+  pub hashes_are : hashes ≡ map block_hash_of (take most blocks)

@@ -1,14 +1,14 @@
 //! One who adds the blocks that peers sent.
 
 ghost use Rattle.std.specs.Prelude.{◌≡◌, ℕ, ◌+◌, ◌-◌, ◌<◌, ◌≤◌, [], length, slice_index, slice_set, None, Some, IfOk};
-ghost use Rattle.std.specs.Prelude.{IfNone, OnOk, OnErr, IfErr, IsSome};
+ghost use Rattle.std.specs.Prelude.{IfNone, OnOk, OnErr, IfErr, IsSome, MatchOption, option_map};
 ghost use Rattle.std.specs.List.{AllByRecursion};
 ghost use Rattle.shared.specs.Starts.{network_from};
 ghost use Rattle.model.specs.Journal.{IsMeeting};
 ghost use Rattle.inbox.specs.Arrivals.{IsPeer, peers};
 ghost use Rattle.inbox.specs.Telling.{IsAllThatWasSent};
 ghost use Rattle.witness_pool.specs.Workers.{AreWorkers};
-ghost use Rattle.shared.specs.Adding.{HasAdded, HasTaken, IsGrownBy, IsAllBrought, IsBroughtCount};
+ghost use Rattle.shared.specs.Adding.{HasAdded, HasTaken, IsGrownBy, IsAllBrought, IsBroughtCount, IsLastAnswer};
 
 use crate::caller::Caller;
 use crate::caller_seat::CallerSeat;
@@ -16,6 +16,7 @@ use crate::held::Held;
 use crate::reader::Reader;
 use crate::room::Room;
 use crate::shared::Shared;
+use chain_core::ArriveReply;
 use inbox::{AdderEnd, Mailroom, PEERS, PeerEnd};
 use std::alloc::{AllocError, AllocFailed, Global};
 use std::marker::Model;
@@ -139,8 +140,71 @@ impl<S: SigScheme + Send, G: Gate, B: Room, M: Mailroom> Adder<S, G, B, M> {
         self.held = Held::taken(self.end.take_last(rt, peers));
     }
 
-    /// Brings the arrival that is held, if one is. Where memory runs out it is still held.
-    fn bring<R: Threads + Wait + Sync>(
+    /// Takes the oldest arrival, unless it holds one.
+    fn hold_one<R: Wait>(&mut self, rt: &R)
+        ensures added { HasAdded (network_from B.start S.verifies) self.old self.new }
+        ensures knows { self.new.knows ≡ self.old.knows }
+        ensures turns { length self.new.intake.taken ≤ length self.old.intake.taken + 1 }
+    {
+        if self.held.is_none() {
+            self.take(rt);
+        }
+    }
+
+    /// Takes the oldest arrival, unless it holds one, and answers how many bytes the one has that it then holds, which
+    /// the next call of [`Adder::run`] begins with; None where it holds none and the inbox is empty. So it can be
+    /// looked whether the arrival has a place among the live blocks before it is brought. Waits for a thread that is in
+    /// the middle of a step. Takes no memory.
+    pub fn fetch<R: Wait>(&mut self, rt: &R) -> Option<usize>
+        ensures added { HasAdded (network_from B.start S.verifies) self.old self.new }
+        // It brings none.
+        ensures knows { self.new.knows ≡ self.old.knows }
+        ensures turns { length self.new.intake.taken ≤ length self.old.intake.taken + 1 }
+        ensures size { result ≡ option_map (λ arrival. length arrival.bytes) self.new.held }
+    {
+        self.hold_one(rt);
+        match &self.held {
+            Some(held) => Some(held.len()),
+            None => None,
+        }
+    }
+
+    /// Brings the arrival that it holds, and answers what the core did; None where it holds none. Where memory runs out
+    /// the arrival is still held. Waits for the lock. Costs what an arrival costs in [`Adder::run`].
+    pub fn bring<R: Threads + Wait + Sync>(
+        &mut self,
+        rt: &R,
+        shared: &Shared<S, B>,
+    ) -> Result<Option<ArriveReply>, AllocError>
+        ensures added { HasAdded (network_from B.start S.verifies) self.old self.new }
+        // Its last call is the arrival, with this reply; or it made none.
+        ensures told { IfOk result (λ reply. MatchOption reply (self.new.knows ≡ self.old.knows)
+            (IsLastAnswer self.old.knows.calls self.new.knows.calls)) }
+        ensures intake { self.new.intake ≡ self.old.intake }
+        ensures ok { OnOk result (self.new.held ≡ None) }
+        ensures err { OnErr result (self.new ≡ self.old) }
+        ensures waits { OnErr result (IsSome self.old.held) }
+    {
+        let Some(held) = self.held.take() else {
+            return Ok(None);
+        };
+        match self.reader.read(rt, held) {
+            Ok(arrival) => match shared.arrive(rt, &mut self.caller, &arrival) {
+                Ok(reply) => Ok(Some(reply)),
+                Err(AllocError) => {
+                    self.held = Some(Held::Seen(arrival));
+                    Err(AllocError)
+                }
+            },
+            Err(AllocFailed { value }) => {
+                self.held = Some(Held::Unread(value));
+                Err(AllocError)
+            }
+        }
+    }
+
+    /// Brings the arrival that is held, if one is, and answers how many that are.
+    fn bring_held<R: Threads + Wait + Sync>(
         &mut self,
         rt: &R,
         shared: &Shared<S, B>,
@@ -153,21 +217,9 @@ impl<S: SigScheme + Send, G: Gate, B: Room, M: Mailroom> Adder<S, G, B, M> {
         ensures err { OnErr result (self.new ≡ self.old) }
         ensures waits { OnErr result (IsSome self.old.held) }
     {
-        let Some(held) = self.held.take() else {
-            return Ok(0);
-        };
-        match self.reader.read(rt, held) {
-            Ok(arrival) => match shared.arrive(rt, &mut self.caller, &arrival) {
-                Ok(_reply) => Ok(1),
-                Err(AllocError) => {
-                    self.held = Some(Held::Seen(arrival));
-                    Err(AllocError)
-                }
-            },
-            Err(AllocFailed { value }) => {
-                self.held = Some(Held::Unread(value));
-                Err(AllocError)
-            }
+        match self.bring(rt, shared)? {
+            Some(_reply) => Ok(1),
+            None => Ok(0),
         }
     }
 
@@ -194,10 +246,10 @@ impl<S: SigScheme + Send, G: Gate, B: Room, M: Mailroom> Adder<S, G, B, M> {
         ensures ok { OnOk result (self.new.held ≡ None) }
         ensures err { OnErr result (IsSome self.new.held) }
     {
-        let mut count = self.bring(rt, shared)?;
+        let mut count = self.bring_held(rt, shared)?;
         'turns: for _turn in 0..turns {
             self.take(rt);
-            count = count.saturating_add(self.bring(rt, shared)?);
+            count = count.saturating_add(self.bring_held(rt, shared)?);
         }
         Ok(count)
     }
@@ -219,13 +271,13 @@ impl<S: SigScheme + Send, G: Gate, B: Room, M: Mailroom> Adder<S, G, B, M> {
         ensures ok { OnOk result (self.new.held ≡ None) }
         ensures err { OnErr result (IsSome self.new.held) }
     {
-        self.bring(rt, shared)?;
+        self.bring_held(rt, shared)?;
         'takes: for _ in rt.forever() {
             self.take_last(rt, peers);
             if self.held.is_none() {
                 return Ok(());
             }
-            self.bring(rt, shared)?;
+            self.bring_held(rt, shared)?;
         }
         unreachable!()
     }

@@ -1,6 +1,6 @@
 //! What was taken of an inbox and isn't in the journal yet.
 
-ghost use Rattle.std.specs.Prelude.{◌≡◌, option_map};
+ghost use Rattle.std.specs.Prelude.{◌≡◌, length, option_map};
 ghost use Rattle.shared.specs.HeldArrivals.{held_arrival};
 
 use block::Seen;
@@ -47,6 +47,16 @@ impl<S: SigScheme> Held<S> {
         match self {
             Held::Unread(arrival) => arrival.peer,
             Held::Seen(arrival) => arrival.peer,
+        }
+    }
+
+    /// How many bytes it has.
+    pub fn len(&self) -> usize
+        ensures { result ≡ length (held_arrival self.now).bytes }
+    {
+        match self {
+            Held::Unread(arrival) => arrival.bytes.len(),
+            Held::Seen(arrival) => arrival.seen.bytes().len(),
         }
     }
 }

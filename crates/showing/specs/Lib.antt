@@ -4,3 +4,4 @@ pub mod Scripts
 pub mod Transactions
 pub mod Blocks
 pub mod Geneses
+pub mod Records

@@ -6,6 +6,8 @@ use Rattle.script.specs.Names.{AllNames}
 use Rattle.scenario.specs.declared.fault.ScenarioFault.{ScenarioFault}
 use Rattle.scenario.specs.declared.fault.ScenarioFault.TheVariants.{OutOfMemory, WriteFailed}
 use Rattle.scenario.specs.SendRun.{Sent, SendsAll, SendsBy}
+use Rattle.simulation.specs.declared.keeper.WhenFull.{WhenFull}
+use Rattle.simulation.specs.declared.keeper.WhenFull.TheVariants.{Refuse, Discard}
 use Rattle.simulation.specs.declared.summary.Summary.{Summary}
 
 -- ---- what it prints
@@ -36,13 +38,19 @@ abbrev pub follower_lines : List ℕ → List ℕ
 follower_lines [] = []
 follower_lines (told ∷ rest) = number_line (codes "follower") told ++ follower_lines rest
 
--- the height that the first client read last, the arrivals together and of each peer, whether heights fell, and what
--- each client's follower was told
-abbrev pub summary_text : Summary → List ℕ
-summary_text s =
+-- how many blocks were discarded, where such are discarded
+abbrev pub discarded_line : WhenFull → ℕ → List ℕ
+discarded_line Refuse many = []
+discarded_line Discard many = number_line (codes "discarded") many
+
+-- the height that the first client read last, the arrivals together and of each peer, how many blocks were discarded,
+-- whether heights fell, and what each client's follower was told
+abbrev pub summary_text : WhenFull → Summary → List ℕ
+summary_text when_full s =
     number_line (codes "height") s.height
     ++ (number_line (codes "arrivals") (total_of s.arrivals)
-    ++ (peer_lines 1 s.arrivals ++ (heights_line s.fell ++ follower_lines s.told.items)))
+    ++ (peer_lines 1 s.arrivals
+    ++ (discarded_line when_full s.discarded ++ (heights_line s.fell ++ follower_lines s.told.items))))
 
 -- ---- how it ends, where these names are bound at first
 

@@ -9,6 +9,8 @@ ghost use Rattle.simulation.specs.Simulation.{IsFaultless, IsSimFault, summary_t
 
 use crate::clients::Clients;
 use crate::course::Course;
+use crate::keeper::{Keeper, Places, WhenFull};
+use crate::reception::Reception;
 use crate::summary::{Summary, put_summary};
 use crate::threads::{Client, Peer, run_adder, run_client, run_peer};
 use genesis::{Genesis, Scheme};
@@ -55,10 +57,27 @@ fn deal<M: Mailroom>(peers: &mut Vec<Peer<M>>, sends: Vec<Sending>) -> Result<()
     Ok(())
 }
 
+/// How a simulation is set up.
+#[derive(Clone, Copy, Debug)]
+pub struct Setup {
+    /// How many clients follow the chain.
+    pub clients: Clients,
+    /// What is done where a block has no place among the live ones.
+    pub when_full: WhenFull,
+}
+
+/// What those who act are given.
+#[derive(Drop)]
+struct Plan {
+    sends: Vec<Sending>,
+    places: Places,
+    when_full: WhenFull,
+}
+
 /// Those who act in a simulation.
 #[derive(Drop)]
 struct Cast<S: SigScheme, B: Room, M: Mailroom> {
-    adder: Adder<S, OpenGate, B, M>,
+    reception: Reception<S, B, M>,
     peers: Vec<Peer<M>>,
     clients: Vec<Caller<B>>,
 }
@@ -66,7 +85,7 @@ struct Cast<S: SigScheme, B: Room, M: Mailroom> {
 /// Those who have done their part.
 #[derive(Drop)]
 struct Ended<S: SigScheme, B: Room, M: Mailroom> {
-    adder: Adder<S, OpenGate, B, M>,
+    reception: Reception<S, B, M>,
     peers: Vec<PeerEnd<M>>,
     clients: Vec<Client<B>>,
 }
@@ -124,7 +143,7 @@ fn all_ended<S: SigScheme, B: Room, M: Mailroom, R: Threads>(
     rt: &R,
     alloc: Global,
     course: &Course,
-    adder: Adder<S, OpenGate, B, M>,
+    reception: Reception<S, B, M>,
     sending: Vec<JoinHandle<PeerEnd<M>>>,
     watching: Vec<JoinHandle<Option<Client<B>>>>,
 ) -> Result<Ended<S, B, M>, AllocError> {
@@ -132,7 +151,7 @@ fn all_ended<S: SigScheme, B: Room, M: Mailroom, R: Threads>(
     let found = join_all(rt, alloc, course, watching);
     match clients_of(alloc, found) {
         Ok(clients) if !course.is_stopped() => Ok(Ended {
-            adder,
+            reception,
             peers,
             clients,
         }),
@@ -158,7 +177,7 @@ fn run_threads<
     let course = Course::new();
     let course = &course;
     let Cast {
-        adder,
+        reception,
         peers,
         clients,
     } = cast;
@@ -178,8 +197,8 @@ fn run_threads<
                 ));
                 keep(course, &mut watching, watcher.ok());
             }
-            let adder = run_adder(rt, shared, course, gate, adder);
-            all_ended(rt, alloc, course, adder, sending, watching)
+            let reception = run_adder(rt, alloc, shared, course, gate, reception);
+            all_ended(rt, alloc, course, reception, sending, watching)
         },
     )
 }
@@ -226,21 +245,22 @@ fn summed_up<S: SigScheme + Send, B: Room, M: Mailroom, R: Threads + Wait + Sync
     rt: &R,
     alloc: Global,
     shared: &Shared<S, B>,
-    adder: &mut Adder<S, OpenGate, B, M>,
+    reception: &mut Reception<S, B, M>,
     peers: &mut [PeerEnd<M>; PEERS],
     first: &mut Client<B>,
     others: &mut [Client<B>],
 ) -> Result<Summary, AllocError>
     ensures { IfOk result (λ summary. length summary.told.items ≡ length others.old + 1) }
 {
-    adder.drain(rt, shared, peers)?;
-    meet_all(rt, shared, adder, first, others);
+    reception.drain(rt, alloc, shared, peers)?;
+    meet_all(rt, shared, &mut reception.adder, first, others);
     let told = ask_all(rt, alloc, shared, first, others)?;
     let height = first.read_height(shared);
     let fell = first.fell() || others.iter().any(|client| client.fell());
     Ok(Summary {
         height,
-        arrivals: adder.counts(),
+        arrivals: reception.adder.counts(),
+        discarded: reception.keeper.discarded(),
         fell,
         told,
     })
@@ -256,7 +276,7 @@ fn summary_of<S: SigScheme + Send, B: Room, M: Mailroom, R: Threads + Wait + Syn
     ensures { IfOk result (λ summary. length summary.told.items ≡ length ended.clients.items) }
 {
     let Ended {
-        mut adder,
+        mut reception,
         peers,
         mut clients,
     } = ended;
@@ -265,31 +285,44 @@ fn summary_of<S: SigScheme + Send, B: Room, M: Mailroom, R: Threads + Wait + Syn
     };
     match clients.split_first_mut() {
         Some((first, others)) => {
-            summed_up(rt, alloc, shared, &mut adder, &mut peers, first, others)
+            summed_up(rt, alloc, shared, &mut reception, &mut peers, first, others)
         }
         None => Err(AllocError),
     }
 }
 
-/// Those who act: the callers of the core, of whom the last one is the adder, and the ends of the inbox, with what is
-/// sent.
+/// Those who act: the callers of the core, of whom the last one is the adder and the one before it keeps places free,
+/// and the ends of the inbox, with what is sent.
 fn cast_of<S: SigScheme + Send, B: Room, M: Mailroom>(
     alloc: Global,
     mut callers: Vec<Caller<B>>,
     ends: ([PeerEnd<M>; PEERS], AdderEnd<M>),
-    sends: Vec<Sending>,
+    plan: Plan,
 ) -> Result<Cast<S, B, M>, AllocError>
     requires { ends.1 ≡ no_intake }
-    ensures { IfOk result (λ cast. length cast.clients.items + 1 ≡ length callers.items) }
+    ensures { IfOk result (λ cast. length cast.clients.items + 2 ≡ length callers.items) }
 {
     let (ends, end) = ends;
+    let Plan {
+        sends,
+        places,
+        when_full,
+    } = plan;
     let mut peers = peers_of(alloc, ends)?;
     deal(&mut peers, sends)?;
     let Some(adding) = callers.pop() else {
         return Err(AllocError);
     };
-    Ok(Cast {
+    let Some(keeping) = callers.pop() else {
+        return Err(AllocError);
+    };
+    let reception = Reception {
         adder: Adder::new(alloc, end, adding, Pool::new(OpenGate), WORKERS),
+        keeper: Keeper::new(keeping, places),
+        when_full,
+    };
+    Ok(Cast {
+        reception,
         peers,
         clients: callers,
     })
@@ -307,15 +340,15 @@ fn simulate_on<
     shared: &Shared<S, B>,
     callers: Vec<Caller<B>>,
     inbox: inbox::Opened,
-    sends: Vec<Sending>,
+    plan: Plan,
     gate: &G,
 ) -> Result<Summary, AllocError>
     requires table { inbox.table ≡ M.table }
     requires capacity { inbox.capacity ≡ M.capacity }
-    ensures { IfOk result (λ summary. length summary.told.items + 1 ≡ length callers.items) }
+    ensures { IfOk result (λ summary. length summary.told.items + 2 ≡ length callers.items) }
 {
     let ends = inbox.named::<M>()?;
-    let cast = cast_of(rt.alloc(), callers, ends, sends)?;
+    let cast = cast_of(rt.alloc(), callers, ends, plan)?;
     let many = cast.clients.len();
     let ended = run_threads(rt, rt.alloc(), shared, cast, gate)?;
     if ended.clients.len() != many {
@@ -335,42 +368,53 @@ fn simulate<
     rt: &R,
     core: shared::Opened<S>,
     inbox: inbox::Opened,
-    sends: Vec<Sending>,
+    plan: Plan,
     gate: &G,
 ) -> Result<Summary, AllocError>
     requires table { core.table ≡ B.table }
     requires start { core.start ≡ B.start }
-    ensures { IfOk result (λ summary. length summary.told.items + 1 ≡ core.callers) }
+    ensures { IfOk result (λ summary. length summary.told.items + 2 ≡ core.callers) }
 {
     let (shared, callers) = core.named::<B>()?;
-    simulate_on::<S, B, Brand, R, G>(rt, &shared, callers, inbox, sends, gate)
+    simulate_on::<S, B, Brand, R, G>(rt, &shared, callers, inbox, plan, gate)
 }
 
-/// Opens a core, for the clients and the adder, and an inbox, and runs a simulation on them.
+/// Opens a core, for the clients, the adder and who keeps places free, and an inbox, and runs a simulation on them.
 fn simulate_sends<S: SigScheme + Send + Sync, R: Threads + Wait + Sync + AllocGlobal, G: Gate>(
     rt: &R,
     genesis: Genesis,
     sends: Vec<Sending>,
-    clients: Clients,
+    setup: Setup,
     gate: &G,
 ) -> Result<Summary, AllocError>
-    ensures { IfOk result (λ summary. length summary.told.items ≡ clients.many) }
+    ensures { IfOk result (λ summary. length summary.told.items ≡ setup.clients.many) }
 {
-    let callers = clients.many + 1;
+    let callers = setup.clients.many + 2;
+    let plan = Plan {
+        sends,
+        places: Places::of(&genesis),
+        when_full: setup.when_full,
+    };
     let inbox = inbox::Opened::new(rt.alloc(), PLACES).map_err(|_| AllocError)?;
     // The core is made last: what has much to drop is then not dropped at another end.
     let core = shared::Opened::new(rt.alloc(), genesis, callers).map_err(|_| AllocError)?;
-    simulate::<S, Brand, R, G>(rt, core, inbox, sends, gate)
+    simulate::<S, Brand, R, G>(rt, core, inbox, plan, gate)
 }
 
 /// Writes what came of a simulation. Where memory runs out nothing is written.
-fn print<W: Write>(alloc: Global, writer: &mut W, summary: &Summary) -> Result<(), ScenarioFault>
-    ensures ok { OnOk result (Appends (W.contents writer.old) (W.contents writer.new) (summary_text summary.now)) }
+fn print<W: Write>(
+    alloc: Global,
+    writer: &mut W,
+    summary: &Summary,
+    when_full: WhenFull,
+) -> Result<(), ScenarioFault>
+    ensures ok { OnOk result (Appends (W.contents writer.old) (W.contents writer.new)
+        (summary_text when_full summary.now)) }
     ensures silent { IfErr result (λ why. (why ≡ ScenarioFault.WriteFailed) ⊎ (writer.new ≡ writer.old)) }
     ensures fault { IfErr result (λ why. (why ≡ ScenarioFault.OutOfMemory) ⊎ (why ≡ ScenarioFault.WriteFailed)) }
 {
     let mut lines = Vec::new(alloc);
-    if put_summary(&mut lines, summary).is_err() {
+    if put_summary(&mut lines, summary, when_full).is_err() {
         return Err(ScenarioFault::OutOfMemory);
     }
     match writer.write_all(&lines) {
@@ -382,9 +426,11 @@ fn print<W: Write>(alloc: Global, writer: &mut W, summary: &Summary) -> Result<(
 /// Runs the simulation that a script says, on a new core of this genesis. Whether a signature is good the core judges
 /// by `S`, and what the script signs it signs by `scheme`: give both the same. Each peer sends what the script has it
 /// send through an inbox of 8 places, from a thread of its own; the thread that calls adds what they send to the core,
-/// with 4 workers; and each of the clients follows the chain and reads its height, from a thread of its own. When
-/// the peers have ended, what is left in the inbox is added, and the clients learn of all. Then it is written how high
-/// the chain is, how many arrivals there were, and what each client was told. The gate is told of each thread, on that
+/// with 4 workers; and each of the clients follows the chain and reads its height, from a thread of its own. Where a
+/// block is to be added that has no place among the live ones, `setup` says whether blocks that no way leads to are
+/// discarded first. When the peers have ended, what is left in the inbox is added, and the clients learn of all. Then
+/// it is written how high the chain is, how many arrivals there were, how many blocks were discarded, if that was to
+/// be, and what each client was told. The gate is told of each thread, on that
 /// thread, before its first act and after its last: of the adder by the number 1, of the peers by those from 2 on, and
 /// of the clients by those that come next.
 ///
@@ -403,12 +449,12 @@ pub fn sim<
     scheme: Scheme,
     reader: &mut I,
     writer: &mut W,
-    clients: Clients,
+    setup: Setup,
     gate: &G,
 ) -> Result<(), ScenarioFault>
     // Lines are written of some summary, with a follower for each client, and nothing else.
-    ensures ok { OnOk result ((summary : Summary) × (length summary.told.items ≡ clients.many)
-        × Appends (W.contents writer.old) (W.contents writer.new) (summary_text summary)) }
+    ensures ok { OnOk result ((summary : Summary) × (length summary.told.items ≡ setup.clients.many)
+        × Appends (W.contents writer.old) (W.contents writer.new) (summary_text setup.when_full summary)) }
     // The script has no fault then, and was read whole.
     ensures script { OnOk result (IfSome (I.remaining reader.old) (λ text.
         IsFaultless (no_names scheme genesis.params.network) text × (I.remaining reader.new ≡ Some []))) }
@@ -420,8 +466,8 @@ pub fn sim<
     ensures silent { IfErr result (λ why. (why ≡ ScenarioFault.WriteFailed) ⊎ (writer.new ≡ writer.old)) }
 {
     let sends = scenario::sends(rt.alloc(), &genesis, scheme, reader, PEERS as u64)?;
-    let Ok(summary) = simulate_sends::<S, R, G>(rt, genesis, sends, clients, gate) else {
+    let Ok(summary) = simulate_sends::<S, R, G>(rt, genesis, sends, setup, gate) else {
         return Err(ScenarioFault::OutOfMemory);
     };
-    print(rt.alloc(), writer, &summary)
+    print(rt.alloc(), writer, &summary, setup.when_full)
 }

@@ -1,9 +1,10 @@
 //! What a simulation prints.
 
 ghost use Rattle.std.specs.Prelude.{◌≡◌, ◌-◌, ◌^◌, ◌++◌, OnOk, min, sum};
-ghost use Rattle.simulation.specs.Simulation.{follower_lines, heights_line, number_line, peer_line, peer_lines};
-ghost use Rattle.simulation.specs.Simulation.{summary_text, total_of};
+ghost use Rattle.simulation.specs.Simulation.{discarded_line, follower_lines, heights_line, number_line, peer_line};
+ghost use Rattle.simulation.specs.Simulation.{peer_lines, summary_text, total_of};
 
+use crate::keeper::WhenFull;
 use inbox::PEERS;
 use std::alloc::AllocError;
 use std::io::Write;
@@ -15,6 +16,8 @@ pub struct Summary {
     pub height: u64,
     /// How many arrivals of each peer stand in the journal.
     pub arrivals: [u64; PEERS],
+    /// How many blocks were discarded to keep places free.
+    pub discarded: u64,
     /// Whether a height that a client read was less than one that it had read before.
     pub fell: bool,
     /// How long the chain is that each client's follower was told.
@@ -63,6 +66,16 @@ fn put_peers(lines: &mut Vec<u8>, arrivals: &[u64]) -> Result<(), AllocError>
     Ok(())
 }
 
+/// Appends how many blocks were discarded, where such are.
+fn put_discarded(lines: &mut Vec<u8>, discarded: u64, when_full: WhenFull) -> Result<(), AllocError>
+    ensures { OnOk result (lines.new.items ≡ lines.old.items ++ discarded_line when_full discarded) }
+{
+    match when_full {
+        WhenFull::Refuse => Ok(()),
+        WhenFull::Discard => put_number(lines, b"discarded", discarded),
+    }
+}
+
 /// Appends the line that says whether heights fell.
 fn put_heights(lines: &mut Vec<u8>, fell: bool) -> Result<(), AllocError>
     ensures { OnOk result (lines.new.items ≡ lines.old.items ++ heights_line fell) }
@@ -85,12 +98,17 @@ fn put_followers(lines: &mut Vec<u8>, told: &[u64]) -> Result<(), AllocError>
 }
 
 /// Appends the lines of a summary.
-pub fn put_summary(lines: &mut Vec<u8>, summary: &Summary) -> Result<(), AllocError>
-    ensures { OnOk result (lines.new.items ≡ lines.old.items ++ summary_text summary.now) }
+pub fn put_summary(
+    lines: &mut Vec<u8>,
+    summary: &Summary,
+    when_full: WhenFull,
+) -> Result<(), AllocError>
+    ensures { OnOk result (lines.new.items ≡ lines.old.items ++ summary_text when_full summary.now) }
 {
     put_number(lines, b"height", summary.height)?;
     put_number(lines, b"arrivals", total(&summary.arrivals))?;
     put_peers(lines, &summary.arrivals)?;
+    put_discarded(lines, summary.discarded, when_full)?;
     put_heights(lines, summary.fell)?;
     put_followers(lines, &summary.told)
 }

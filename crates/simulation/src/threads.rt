@@ -3,14 +3,15 @@
 ghost use Rattle.std.specs.Prelude.{◌<◌, ◌≤◌, ◌↔◌, ◌⊎◌, IsTrue};
 
 use crate::course::Course;
+use crate::reception::Reception;
 use chain_core::{FollowerId, Instruction};
 use inbox::{Mailroom, PEERS, PeerEnd};
-use shared::{Adder, Caller, Room, Shared};
-use std::alloc::AllocError;
+use shared::{Caller, Room, Shared};
+use std::alloc::{AllocError, Global};
 use std::sync::Wait;
 use std::thread;
 use std::thread::Threads;
-use witness_pool::{Gate, OpenGate, SigScheme};
+use witness_pool::{Gate, SigScheme};
 
 /// The numbers under which a gate is told of the threads: the adder's, the first peer's, and the first client's.
 const ADDER: usize = 1;
@@ -19,9 +20,6 @@ const FIRST_PEER: usize = ADDER + 1;
 
 const FIRST_CLIENT: usize = FIRST_PEER + PEERS;
 
-/// How often the adder tries to take an arrival before it looks whether more comes.
-const TURNS: u64 = 64;
-
 /// How often a client asks what is next and how high the chain is while others send.
 const ROUNDS: u64 = 1_000;
 
@@ -29,15 +27,16 @@ const ROUNDS: u64 = 1_000;
 /// adder, all threads are told to end.
 fn add<S: SigScheme + Send, B: Room, M: Mailroom, R: Threads + Wait + Sync>(
     rt: &R,
+    alloc: Global,
     shared: &Shared<S, B>,
-    adder: &mut Adder<S, OpenGate, B, M>,
+    reception: &mut Reception<S, B, M>,
     course: &Course,
 ) {
     for _ in rt.forever() {
         if course.is_over() {
             break;
         }
-        match adder.run(rt, shared, TURNS) {
+        match reception.run(rt, alloc, shared) {
             Ok(0) => thread::yield_now(),
             Ok(_) => {}
             Err(AllocError) => course.stop(),
@@ -48,15 +47,16 @@ fn add<S: SigScheme + Send, B: Room, M: Mailroom, R: Threads + Wait + Sync>(
 /// What the adder's thread does.
 pub fn run_adder<S: SigScheme + Send, B: Room, M: Mailroom, R: Threads + Wait + Sync, G: Gate>(
     rt: &R,
+    alloc: Global,
     shared: &Shared<S, B>,
     course: &Course,
     gate: &G,
-    mut adder: Adder<S, OpenGate, B, M>,
-) -> Adder<S, OpenGate, B, M> {
+    mut reception: Reception<S, B, M>,
+) -> Reception<S, B, M> {
     gate.start(ADDER);
-    add(rt, shared, &mut adder, course);
+    add(rt, alloc, shared, &mut reception, course);
     gate.done(ADDER);
-    adder
+    reception
 }
 
 /// A peer with the texts that it is to send.

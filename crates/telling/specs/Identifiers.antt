@@ -10,15 +10,16 @@ use Rattle.model.specs.Transaction.{transaction_id_of}
 use Rattle.model.specs.Mempool.{IsTransactionWith}
 use Rattle.block.specs.Read.{IsRead}
 use Rattle.telling.specs.declared.kind.Kind.{Kind}
-use Rattle.telling.specs.declared.kind.Kind.TheVariants.{Transaction, Block, Script}
+use Rattle.telling.specs.declared.kind.Kind.TheVariants.{Transaction, Block, Script, Value}
 
 -- IDENTIFIER OF A TEXT
 -- The bytes are the text of a transaction that has it; or they are read as a block of this hash; or they are the text
--- of a native script of this hash.
+-- of a native script of this hash. A value has none.
 abbrev pub IsIdOf : Kind → (bytes id : List ℕ) → Type 0
 IsIdOf Transaction bytes id = IsTransactionWith bytes (λ t. transaction_id_of t ≡ id)
 IsIdOf Block bytes id = (b : model.Block) × IsRead b bytes × (block_hash_of b ≡ id)
 IsIdOf Script bytes id = (s : script.Script) × SpellsScript s bytes × (script_hash_of s ≡ id)
+IsIdOf Value bytes id = ⊥
 
 -- its hexadecimal digits, alone on a line
 abbrev pub id_text : List ℕ → List ℕ

@@ -15,6 +15,12 @@ pub enum TellFault {
     /// They are the text of no native script.
     #[error("no script: malformed CBOR")]
     NoScript,
+    /// They are the text of no value.
+    #[error("no value: malformed CBOR")]
+    NoValue,
+    /// What they are has no identifier.
+    #[error("no text that has an identifier")]
+    NoIdentifier,
     /// The writer failed.
     #[error("write failed")]
     WriteFailed,

@@ -60,6 +60,7 @@ fn identifier(alloc: Global, kind: Kind, bytes: &[u8]) -> Result<[u8; 32], TellF
         Kind::Transaction => transaction_id(alloc, bytes),
         Kind::Block => block_hash(alloc, bytes),
         Kind::Script => script_hash(alloc, bytes),
+        Kind::Value => Err(TellFault::NoIdentifier),
     }
 }
 
@@ -88,8 +89,8 @@ fn identifier_line(alloc: Global, kind: Kind, bytes: &[u8]) -> Result<Vec<u8>, T
 }
 
 /// Prints the identifier of the text of this kind that these bytes are, in 64 lower case hexadecimal digits, alone on a
-/// line: of a transaction its identifier, of a block or a native script its hash. Err where they are no such text, the
-/// writer fails, or memory runs out. Linear in the bytes.
+/// line: of a transaction its identifier, of a block or a native script its hash. Err where they are no such text, or
+/// one that has none, the writer fails, or memory runs out. Linear in the bytes.
 ///
 /// ```text
 /// let mut out = Vec::new(alloc);

@@ -1,7 +1,7 @@
 //! What a text may be of.
 
 ghost use Rattle.std.specs.Prelude.{◌≡◌};
-ghost use Rattle.telling.specs.Kinds.{kind_named};
+ghost use Rattle.telling.specs.Kinds.{kind_named, has_identifier};
 
 /// What a text may be of.
 #[derive(Clone, Copy, Debug, PartialEq, Eq)]
@@ -12,10 +12,12 @@ pub enum Kind {
     Block,
     /// A native script, whose hash is that of a byte 0 and its text.
     Script,
+    /// A value, as an output of a transaction holds it. It has no identifier.
+    Value,
 }
 
 impl Kind {
-    /// The kind of this name: `transaction`, `block` or `script`.
+    /// The kind of this name: `transaction`, `block`, `script` or `value`.
     pub fn of_name(name: &str) -> Option<Kind>
         ensures { result ≡ kind_named name.now }
     {
@@ -28,6 +30,16 @@ impl Kind {
         if name == "script" {
             return Some(Kind::Script);
         }
+        if name == "value" {
+            return Some(Kind::Value);
+        }
         None
+    }
+
+    /// Whether a text of this kind has an identifier.
+    pub fn has_identifier(self) -> bool
+        ensures { result ≡ has_identifier self }
+    {
+        self != Kind::Value
     }
 }

@@ -1,8 +1,9 @@
-//! What is told of one text: its identifier, what it is, line by line, and of a transaction what a submission of it
-//! would be answered. The bytes may be written as hexadecimal text.
+//! What is told of one text: its identifier, what it is, line by line or as a JSON document, and of a transaction what
+//! a submission of it would be answered. The bytes may be written as hexadecimal text.
 #![tactic(auto)]
 
 mod fault;
+mod form;
 mod hex_text;
 mod identifier;
 mod judgement;
@@ -12,6 +13,7 @@ mod shown;
 mod verdict;
 
 pub use fault::TellFault;
+pub use form::Form;
 pub use hex_text::{HexFault, bytes_of_hex};
 pub use identifier::print_identifier;
 pub use judgement::{Judgement, judge};

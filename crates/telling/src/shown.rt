@@ -1,24 +1,33 @@
-//! What a text is, line by line.
+//! What a text is.
 
 ghost use Rattle.std.specs.Prelude.{◌≡◌, ◌≢◌, ℕ, List, IfOk, OnOk, IfErr, string_bytes};
+ghost use Rattle.model.specs.Value as model;
+ghost use Rattle.model.specs.Value.{SpellsValue};
+ghost use Rattle.cbor.specs.Gives.{IfMalformed};
 ghost use Rattle.telling.specs.Faults.{IsUntold};
-ghost use Rattle.telling.specs.Shown.{AreLinesOf, PrintsLines};
+ghost use Rattle.telling.specs.Shown.{IsShownAs, PrintsShown};
 
 use crate::fault::TellFault;
+use crate::form::Form;
 use crate::kind::Kind;
 use crate::line::write_line;
 use block::look;
 use cbor::CborFault;
-use showing::{show_block, show_script, show_transaction};
 use std::alloc::{AllocError, Global};
 use std::io::Write;
 use timelock::Script;
 use tx::Tx;
+use value::Value;
 use witness_pool::{SigScheme, plain};
 
-/// The lines of the transaction that these bytes are, whose signatures are judged by the scheme.
-fn transaction_lines<S: SigScheme>(alloc: Global, bytes: &[u8]) -> Result<String, TellFault>
-    ensures lines { IfOk result (λ lines. AreLinesOf S.verifies Kind.Transaction bytes.now (string_bytes lines)) }
+/// What shows the transaction that these bytes are, whose signatures are judged by the scheme.
+fn transaction_shown<S: SigScheme>(
+    alloc: Global,
+    form: Form,
+    bytes: &[u8],
+) -> Result<String, TellFault>
+    ensures shown { IfOk result (λ text.
+        IsShownAs S.verifies form Kind.Transaction bytes.now (string_bytes text)) }
     ensures fault { IfErr result (IsUntold Kind.Transaction bytes.now) }
 {
     let tx = match Tx::decode(alloc, bytes) {
@@ -29,15 +38,15 @@ fn transaction_lines<S: SigScheme>(alloc: Global, bytes: &[u8]) -> Result<String
     let Ok(checked) = plain::<S>(alloc, tx) else {
         return Err(TellFault::OutOfMemory);
     };
-    match show_transaction(alloc, &checked) {
-        Ok(lines) => Ok(lines),
+    match form.transaction(alloc, &checked) {
+        Ok(text) => Ok(text),
         Err(AllocError) => Err(TellFault::OutOfMemory),
     }
 }
 
-/// The lines of the block that these bytes are, the signatures of whose transactions are judged by the scheme.
-fn block_lines<S: SigScheme>(alloc: Global, bytes: &[u8]) -> Result<String, TellFault>
-    ensures lines { IfOk result (λ lines. AreLinesOf S.verifies Kind.Block bytes.now (string_bytes lines)) }
+/// What shows the block that these bytes are, the signatures of whose transactions are judged by the scheme.
+fn block_shown<S: SigScheme>(alloc: Global, form: Form, bytes: &[u8]) -> Result<String, TellFault>
+    ensures shown { IfOk result (λ text. IsShownAs S.verifies form Kind.Block bytes.now (string_bytes text)) }
     ensures fault { IfErr result (IsUntold Kind.Block bytes.now) }
 {
     let found = match look(alloc, bytes) {
@@ -48,15 +57,15 @@ fn block_lines<S: SigScheme>(alloc: Global, bytes: &[u8]) -> Result<String, Tell
     let Ok(block) = found.into_checked_block::<S>(alloc) else {
         return Err(TellFault::OutOfMemory);
     };
-    match show_block(alloc, &block) {
-        Ok(lines) => Ok(lines),
+    match form.block(alloc, &block) {
+        Ok(text) => Ok(text),
         Err(AllocError) => Err(TellFault::OutOfMemory),
     }
 }
 
-/// The lines of the native script that these bytes are.
-fn script_lines<S: SigScheme>(alloc: Global, bytes: &[u8]) -> Result<String, TellFault>
-    ensures lines { IfOk result (λ lines. AreLinesOf S.verifies Kind.Script bytes.now (string_bytes lines)) }
+/// What shows the native script that these bytes are.
+fn script_shown<S: SigScheme>(alloc: Global, form: Form, bytes: &[u8]) -> Result<String, TellFault>
+    ensures shown { IfOk result (λ text. IsShownAs S.verifies form Kind.Script bytes.now (string_bytes text)) }
     ensures fault { IfErr result (IsUntold Kind.Script bytes.now) }
 {
     let script = match Script::decode(alloc, bytes) {
@@ -64,47 +73,86 @@ fn script_lines<S: SigScheme>(alloc: Global, bytes: &[u8]) -> Result<String, Tel
         Err(CborFault::Malformed) => return Err(TellFault::NoScript),
         Err(CborFault::OutOfMemory) => return Err(TellFault::OutOfMemory),
     };
-    match show_script(alloc, &script) {
-        Ok(lines) => Ok(lines),
+    match form.script(alloc, &script) {
+        Ok(text) => Ok(text),
         Err(AllocError) => Err(TellFault::OutOfMemory),
     }
 }
 
-/// The lines of the text of this kind that these bytes are.
-fn lines<S: SigScheme>(alloc: Global, kind: Kind, bytes: &[u8]) -> Result<String, TellFault>
-    ensures lines { IfOk result (λ lines. AreLinesOf S.verifies kind bytes.now (string_bytes lines)) }
-    ensures fault { IfErr result (IsUntold kind bytes.now) }
+/// The value whose text these bytes are, all of them.
+fn value_of(alloc: Global, bytes: &[u8]) -> Result<Value, CborFault>
+    ensures found { IfOk result (λ value. SpellsValue value bytes.now) }
+    ensures malformed { IfErr result (λ fault. IfMalformed fault ((value : model.Value) →
+        SpellsValue value bytes.now → ⊥)) }
 {
-    match kind {
-        Kind::Transaction => transaction_lines::<S>(alloc, bytes),
-        Kind::Block => block_lines::<S>(alloc, bytes),
-        Kind::Script => script_lines::<S>(alloc, bytes),
+    let (value, rest) = Value::read(alloc, bytes)?;
+    if !rest.is_empty() {
+        return Err(CborFault::Malformed);
+    }
+    Ok(value)
+}
+
+/// What shows the value that these bytes are.
+fn value_shown<S: SigScheme>(alloc: Global, form: Form, bytes: &[u8]) -> Result<String, TellFault>
+    ensures shown { IfOk result (λ text. IsShownAs S.verifies form Kind.Value bytes.now (string_bytes text)) }
+    ensures fault { IfErr result (IsUntold Kind.Value bytes.now) }
+{
+    let value = match value_of(alloc, bytes) {
+        Ok(value) => value,
+        Err(CborFault::Malformed) => return Err(TellFault::NoValue),
+        Err(CborFault::OutOfMemory) => return Err(TellFault::OutOfMemory),
+    };
+    match form.value(alloc, &value) {
+        Ok(text) => Ok(text),
+        Err(AllocError) => Err(TellFault::OutOfMemory),
     }
 }
 
-/// Prints what the text of this kind is that these bytes are, one fact a line, in the order of the text. Signatures are
-/// judged by the scheme. Err where they are no such text, the writer fails, or memory runs out: then nothing is
-/// printed, but where the writer fails. Takes time and memory in proportion to the bytes and the lines.
+/// What shows the text of this kind that these bytes are.
+fn shown<S: SigScheme>(
+    alloc: Global,
+    form: Form,
+    kind: Kind,
+    bytes: &[u8],
+) -> Result<String, TellFault>
+    ensures shown { IfOk result (λ text. IsShownAs S.verifies form kind bytes.now (string_bytes text)) }
+    ensures fault { IfErr result (IsUntold kind bytes.now) }
+{
+    match kind {
+        Kind::Transaction => transaction_shown::<S>(alloc, form, bytes),
+        Kind::Block => block_shown::<S>(alloc, form, bytes),
+        Kind::Script => script_shown::<S>(alloc, form, bytes),
+        Kind::Value => value_shown::<S>(alloc, form, bytes),
+    }
+}
+
+/// Prints what the text of this kind is that these bytes are: one fact a line, in the order of the text, or as one JSON
+/// document. Signatures are judged by the scheme. Err where they are no such text, the writer fails, or memory runs
+/// out: then nothing is printed, but where the writer fails. Takes time and memory in proportion to the bytes and to
+/// what is printed.
 ///
 /// ```text
 /// let mut out = Vec::new(alloc);
-/// print_shown::<Ed25519, _>(alloc, Kind::Script, b"\x82\x01\x80", &mut out)?; // script 310e.., and indented: all
+/// let form = Form::Lines;
+/// print_shown::<Ed25519, _>(alloc, form, Kind::Script, b"\x82\x01\x80", &mut out)?; // script 310e.., and all
 /// ```
 pub fn print_shown<S: SigScheme, W: Write>(
     alloc: Global,
+    form: Form,
     kind: Kind,
     bytes: &[u8],
     out: &mut W,
 ) -> Result<(), TellFault>
-    // Just the lines of the text are printed.
-    ensures printed { OnOk result (PrintsLines S.verifies kind bytes.now (W.contents out.old) (W.contents out.new)) }
+    // Just that is printed.
+    ensures printed { OnOk result (PrintsShown S.verifies form kind bytes.now (W.contents out.old)
+        (W.contents out.new)) }
     ensures fault { IfErr result (IsUntold kind bytes.now) }
     // Of bytes that are no such text nothing is printed, not in part either.
-    ensures none { ((lines : List ℕ) → AreLinesOf S.verifies kind bytes.now lines → ⊥) → out.new ≡ out.old }
+    ensures none { ((text : List ℕ) → IsShownAs S.verifies form kind bytes.now text → ⊥) → out.new ≡ out.old }
     // Nor is it before the writer fails.
     ensures quiet { IfErr result (λ fault. fault ≢ TellFault.WriteFailed → out.new ≡ out.old) }
 {
-    let text = lines::<S>(alloc, kind, bytes)?;
+    let text = shown::<S>(alloc, form, kind, bytes)?;
     write_line(out, text.as_bytes())?;
     Ok(())
 }

@@ -282,3 +282,88 @@ fn files_that_are_no_log(rt: HostRuntime) {
     }
     remove(&rt, &folder);
 }
+
+/// Four blocks of a chain, of which the first two are then never rolled back.
+const TWO_LOGGED: &str = "block A1 genesis 1
+block A2 A1 5
+block A3 A2 6
+block A4 A3 8
+arrive A1
+arrive A2
+arrive A3
+arrive A4
+";
+
+/// The record of the first one, whose hash is that of `cases`, which another SHA-256 gave.
+const FIRST_LISTED: &str = "record 1
+  place 0
+  size 40
+  block 3b232b00fdf18aa5f2e408bd66e32ceb313459697b54313151494910541c08aa
+  number 1
+  slot 1
+";
+
+/// That of the second one.
+const SECOND_LISTED: &str = "record 2
+  place 77
+  size 73
+  block 96f42fc392da943a5ebb5c35bb3f5bb0667b1eaffafe4804452df4423d3e7504
+  number 2
+  slot 5
+";
+
+/// The log in the file is listed, with this status, and this is printed and told.
+fn lists(
+    rt: &(impl Abort + Files<File = File> + AllocGlobal + Threads + Wait + Sync),
+    paths: &Paths,
+    (status, printed, told): (u8, &str, &str),
+) {
+    let words = ["node", "show", "log", paths.log.as_str()];
+    ends(rt, words.as_slice(), status, printed, told);
+}
+
+// At rest, with a record that was being written, and with a digest of the second one that isn't its own.
+#[test]
+fn log_record_by_record(rt: HostRuntime) {
+    let folder = own_folder(&rt);
+    let paths = Paths::of(&rt, &folder, TWO_LOGGED);
+    runs_on_log(&rt, &paths, (0, FOUR_KEPT, ""));
+    let records = format!(in rt.alloc(); "{FIRST_LISTED}{SECOND_LISTED}").expect(&rt, MEMORY);
+    let clean = format!(in rt.alloc(); "{records}end clean\n").expect(&rt, MEMORY);
+    lists(&rt, &paths, (0, clean.as_str(), ""));
+    let mut bytes = log_bytes(&rt, &paths);
+    assert!(&rt; bytes.len() == 188);
+    bytes
+        .extend_from_slice(b"\x00\x00\x00\x28\x01".as_slice())
+        .expect(&rt, MEMORY);
+    write_log(&rt, &paths, &bytes);
+    let torn = format!(in rt.alloc(); "{records}end torn\n").expect(&rt, MEMORY);
+    lists(&rt, &paths, (0, torn.as_str(), ""));
+    bytes[90] ^= 1;
+    write_log(&rt, &paths, &bytes);
+    lists(&rt, &paths, (1, FIRST_LISTED, "log: damaged at 77\n"));
+    assert!(&rt; log_bytes(&rt, &paths) == bytes);
+    remove(&rt, &folder);
+}
+
+// A record that has no block, and a file that is no log.
+#[test]
+fn odd_logs_are_listed(rt: HostRuntime) {
+    let folder = own_folder(&rt);
+    let paths = Paths::of(&rt, &folder, THREE);
+    write_log(&rt, &paths, NO_BLOCK);
+    let listed = "record 1\n  place 0\n  size 1\n  no block\nend clean\n";
+    lists(&rt, &paths, (0, listed, ""));
+    write_log(&rt, &paths, b"network = 0\n");
+    let told = format!(in rt.alloc(); "{} is no log\n", paths.log).expect(&rt, MEMORY);
+    lists(&rt, &paths, (1, "", told.as_str()));
+    let words = ["node", "show", "--json", "log", paths.log.as_str()];
+    ends(
+        &rt,
+        words.as_slice(),
+        2,
+        "",
+        "error: a log has no document\n..",
+    );
+    remove(&rt, &folder);
+}

@@ -34,6 +34,22 @@ follower 1
 follower 1
 ";
 
+/// The same where blocks are discarded that leave others no place: there were none.
+const LAST_TOLD_OF_DISCARDS: &str = "height 1
+arrivals 1
+peer 1 0
+peer 2 0
+peer 3 0
+peer 4 0
+peer 5 0
+peer 6 0
+peer 7 0
+peer 8 1
+discarded 0
+heights ok
+follower 1
+";
+
 /// A script with one block, which the last peer sends.
 const LAST: &str = "block A1 genesis 1\nsend 8 A1\n";
 
@@ -69,6 +85,16 @@ fn simulations_of_files(rt: HostRuntime) {
         "3",
     ];
     ends(&rt, words.as_slice(), 0, LAST_TOLD_TO_THREE, "");
+    let words = [
+        "node",
+        "sim",
+        "--discard",
+        "--script",
+        &script,
+        "--genesis",
+        &genesis,
+    ];
+    ends(&rt, words.as_slice(), 0, LAST_TOLD_OF_DISCARDS, "");
     let words = ["node", "sim", "--script", "no/such", "--genesis", &genesis];
     ends(&rt, words.as_slice(), 1, "", "cannot read no/such\n");
     let words = ["node", "sim", "--script", "s", "--genesis", "no/such"];

@@ -5,8 +5,8 @@ ghost use Rattle.std.specs.Prelude.{◌≡◌};
 use super::fixture::{
     MEMORY, Parts, adds, bytes_of, names_of, next_of, open, parts_of, same, sends,
 };
-use chain_core::ForgeFault;
-use ident::Point;
+use chain_core::{ForgeFault, Place, TxPlace, Why};
+use ident::{BlockHash, Point};
 use inbox::Mailroom;
 use mempool::SubmitReply;
 use script::Names;
@@ -50,6 +50,40 @@ fn has_block<B: Room, R: Wait + Abort>(
     same(rt, "outputs", utxo.len() as u64, 1);
 }
 
+/// It is found by its hash, and no other block is.
+fn finds_block<B: Room, R: Wait + Abort>(
+    rt: &R,
+    shared: &Shared<TestScheme, B>,
+    caller: &mut Caller<B>,
+    bytes: &[u8],
+) {
+    let end = shared.chain_tip(rt, caller);
+    assert!(rt; end.point == shared.tip(rt, caller));
+    same(rt, "slot of the tip", end.slot, 1);
+    let hash = end.point.hash;
+    assert!(rt; shared.place(rt, caller, hash) == Place::Chain(1));
+    assert!(rt; shared.why(rt, caller, hash) == Ok(Why::Selected));
+    let found = shared.block_by_hash(rt, caller, hash).expect(rt, MEMORY);
+    assert!(rt; found.is_some_and(|block| block.bytes() == bytes));
+    let other = BlockHash::from_bytes([7; 32]);
+    assert!(rt; shared.place(rt, caller, other) == Place::Unknown);
+    assert!(rt; shared.why(rt, caller, other) == Ok(Why::Unknown));
+    let none = shared.block_by_hash(rt, caller, other).expect(rt, MEMORY);
+    assert!(rt; none.is_none());
+}
+
+/// The one block of the chain is live, and no other; there is a place for more, and none is unconnected.
+fn has_places<B: Room, R: Wait + Abort + AllocGlobal>(
+    rt: &R,
+    shared: &Shared<TestScheme, B>,
+    caller: &mut Caller<B>,
+) {
+    same(rt, "live blocks", shared.live_blocks(rt, caller), 1);
+    assert!(rt; !shared.is_full_for(rt, caller, 1_048_576));
+    let hashes = shared.unconnected(rt, caller, rt.alloc(), 10);
+    assert!(rt; hashes.is_ok_and(|hashes| hashes.is_empty()));
+}
+
 /// A follower is open until it is closed.
 fn is_open_until_closed<B: Room, R: Wait + Abort>(
     rt: &R,
@@ -69,9 +103,17 @@ fn forges<B: Room, R: Wait + Abort + AllocGlobal>(
     caller: &mut Caller<B>,
     names: &Names,
 ) -> Vec<u8> {
-    let payment = names.tx_of(b"First").expect(rt, "a payment").encode();
-    let reply = shared.submit(rt, caller, &payment.expect(rt, MEMORY));
+    let payment = names.tx_of(b"First").expect(rt, "a payment");
+    let id = payment.id();
+    let bytes = payment.encode().expect(rt, MEMORY);
+    assert!(rt; shared.transaction(rt, caller, id) == TxPlace::Unknown);
+    let told = shared
+        .explain_submission(rt, caller, &bytes)
+        .expect(rt, MEMORY);
+    assert!(rt; told.is_none());
+    let reply = shared.submit(rt, caller, &bytes);
     assert!(rt; reply.is_ok_and(|reply| reply == SubmitReply::Added));
+    assert!(rt; shared.transaction(rt, caller, id) == TxPlace::Waits(0));
     let waiting = shared.mempool(rt, caller, rt.alloc()).expect(rt, MEMORY);
     same(rt, "payments that wait", waiting.len() as u64, 1);
     let early = shared.forge(rt, caller, 1).err();
@@ -98,6 +140,8 @@ fn asks_beside_an_adder<B: Room, M: Mailroom, R: Threads + Wait + Abort + AllocG
     sends(rt, &mut peers[0], bytes_of(rt, names, "A1"));
     adds(rt, adder, shared, 1, 1);
     has_block(rt, shared, &mut caller, bytes_of(rt, names, "A1"));
+    finds_block(rt, shared, &mut caller, bytes_of(rt, names, "A1"));
+    has_places(rt, shared, &mut caller);
     is_open_until_closed(rt, shared, &mut caller);
     let forged = forges(rt, shared, &mut caller, names);
     sends(rt, &mut peers[1], &forged);

@@ -45,6 +45,13 @@ key = \"0101010101010101010101010101010101010101010101010101010101010101\"
 coin = 1200
 ";
 
+/// The same with another line in place of one.
+pub fn network_with(rt: &(impl Abort + AllocGlobal), line: &str, other: &str) -> String {
+    SMALL_NETWORK
+        .replace(rt.alloc(), line, other)
+        .expect(rt, MEMORY)
+}
+
 /// Two payments, the second of what the first leaves.
 const PAYMENTS: &str = "key K 0101010101010101010101010101010101010101010101010101010101010101
 tx First

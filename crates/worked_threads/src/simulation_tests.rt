@@ -1,10 +1,10 @@
 //! Simulations: peers that send from threads of their own.
 
-use crate::fixture::{MEMORY, SMALL_NETWORK};
+use crate::fixture::{MEMORY, network_with};
 use genesis::{Genesis, Scheme};
 use inbox::PEERS;
 use scenario::{LineFault, ScenarioFault};
-use simulation::{Clients, sim};
+use simulation::{Clients, Setup, WhenFull, sim};
 use std::process::Abort;
 use std::sync::Wait;
 use std::sync::atomic::{AtomicBool, AtomicU64, Ordering};
@@ -103,12 +103,68 @@ heights ok
 follower 40
 ";
 
-/// The genesis of the small network, with this line in place of that which says how many blocks may be rolled back.
-fn genesis_of(rt: &(impl Abort + AllocGlobal), back: &str) -> Genesis {
-    let text = SMALL_NETWORK
-        .replace(rt.alloc(), "k = 2\n", back)
-        .expect(rt, MEMORY);
+/// Three blocks that nothing connects to the chain, as many as may be live, and then two of a chain.
+const FLOOD: &str = "block X1 genesis 1
+block X2 X1 2
+block X3 X2 3
+block X4 X3 4
+block A1 genesis 5
+block A2 A1 6
+send 1 X2
+send 1 X3
+send 1 X4
+send 1 A1
+send 1 A2
+";
+
+/// What comes of it where such blocks stay: both are refused.
+const FLOODED: &str = "height 0
+arrivals 5
+peer 1 5
+peer 2 0
+peer 3 0
+peer 4 0
+peer 5 0
+peer 6 0
+peer 7 0
+peer 8 0
+heights ok
+follower 0
+";
+
+/// Where they are discarded: X4 for A1, and X3 for A2, since one of three is to be free.
+const FREED: &str = "height 2
+arrivals 5
+peer 1 5
+peer 2 0
+peer 3 0
+peer 4 0
+peer 5 0
+peer 6 0
+peer 7 0
+peer 8 0
+discarded 2
+heights ok
+follower 2
+";
+
+/// The genesis of the small network, with another line in place of one.
+fn changed(rt: &(impl Abort + AllocGlobal), line: &str, other: &str) -> Genesis {
+    let text = network_with(rt, line, other);
     Genesis::from_toml(rt.alloc(), text.as_str()).expect(rt, "a genesis")
+}
+
+/// The same, with this line in place of that which says how many blocks may be rolled back.
+fn genesis_of(rt: &(impl Abort + AllocGlobal), back: &str) -> Genesis {
+    changed(rt, "k = 2\n", back)
+}
+
+/// So many clients, and nothing is discarded.
+fn clients_of(rt: &impl Abort, clients: usize) -> Setup {
+    Setup {
+        clients: Clients::new(clients).expect(rt, "1 to 8 clients"),
+        when_full: WhenFull::Refuse,
+    }
 }
 
 /// A chain of 40 blocks, which `peers` peers send in turn: the first one the first block, and so on.
@@ -127,18 +183,15 @@ fn forty_blocks(rt: &(impl Abort + AllocGlobal), peers: u64) -> String {
     lines
 }
 
-/// A simulation of this script with `clients` clients, where the line says how many blocks may be rolled back, prints
-/// this.
-fn simulates<G: Gate>(
+/// A simulation of this script, on this genesis and set up so, prints this.
+fn simulates_on<G: Gate>(
     rt: &(impl Abort + Threads + Wait + Sync + AllocGlobal),
-    back: &str,
+    genesis: Genesis,
     script: &str,
-    clients: usize,
+    setup: Setup,
     gate: &G,
     told: &str,
 ) {
-    let genesis = genesis_of(rt, back);
-    let clients = Clients::new(clients).expect(rt, "1 to 8 clients");
     let mut reader = script.as_bytes();
     let mut out = Vec::new(rt.alloc());
     let ended = sim::<TestScheme, _, _, _, _>(
@@ -147,11 +200,24 @@ fn simulates<G: Gate>(
         Scheme::Test,
         &mut reader,
         &mut out,
-        clients,
+        setup,
         gate,
     );
     assert!(rt; ended == Ok(()));
     assert!(rt; out.as_slice() == told.as_bytes());
+}
+
+/// The same with `clients` clients, where the line says how many blocks may be rolled back.
+fn simulates<G: Gate>(
+    rt: &(impl Abort + Threads + Wait + Sync + AllocGlobal),
+    back: &str,
+    script: &str,
+    clients: usize,
+    gate: &G,
+    told: &str,
+) {
+    let setup = clients_of(rt, clients);
+    simulates_on(rt, genesis_of(rt, back), script, setup, gate, told);
 }
 
 // Whatever the schedule.
@@ -191,6 +257,22 @@ fn repeated_arrivals(rt: HostRuntime) {
     for _ in 0..50u64 {
         simulates(&rt, "k = 2\n", REPEATED, 1, &OpenGate, REPEATED_TOLD);
     }
+}
+
+// One peer sends all of it, so the order is that of the script.
+#[test]
+fn a_flood_is_ended(rt: HostRuntime) {
+    let line = "max_volatile = 100\n";
+    let few = "max_volatile = 3\n";
+    let stays = clients_of(&rt, 1);
+    let genesis = changed(&rt, line, few);
+    simulates_on(&rt, genesis, FLOOD, stays, &OpenGate, FLOODED);
+    let goes = Setup {
+        clients: stays.clients,
+        when_full: WhenFull::Discard,
+    };
+    let genesis = changed(&rt, line, few);
+    simulates_on(&rt, genesis, FLOOD, goes, &OpenGate, FREED);
 }
 
 /// A gate at which each thread waits for all the others to begin.
@@ -259,7 +341,7 @@ fn all_threads_start(rt: HostRuntime) {
 #[test]
 fn fault_before_any_thread(rt: HostRuntime) {
     let gate = Gathering::new(&rt, threads_of(1));
-    let clients = Clients::new(1).expect(&rt, "one client");
+    let setup = clients_of(&rt, 1);
     let genesis = genesis_of(&rt, "k = 2\n");
     let mut reader = b"block A1 genesis 1\nsend 1 A1\narrive A1\n".as_slice();
     let mut out = Vec::new(rt.alloc());
@@ -273,7 +355,7 @@ fn fault_before_any_thread(rt: HostRuntime) {
         Scheme::Test,
         &mut reader,
         &mut out,
-        clients,
+        setup,
         &gate,
     );
     assert!(&rt; ended == Err(fault));

@@ -8,5 +8,6 @@ returns c =
     let found = found_of c.args.found.now in
     record {
       kind_is = (c.in_ok-name.name.now, sym (first_value-rows found (codes "kind")) ∙ sym c.in_ok-name.ensures, sym c.in_ok-kind.ensures);
+      identified = sym c.has_identifier.ensures ∙ c.if-not-has_identifier.false;
       text_is = c.text_at-text.ensures;
     }

@@ -1,15 +1,24 @@
 use Rattle.std.proofs.Common.{Some, sym, ap, ◌∙◌, codes}
-use Rattle.clap.specs.Words.{found_of}
+use Rattle.clap.specs.Words.{found_of, rows_of}
 use Rattle.clap.proofs.WalkLemmas.{first_value-rows}
-use Rattle.commands.proofs.Found.{same_text}
+use Rattle.commands.specs.JobView.{IsLogJob, IsShowJob}
+use Rattle.commands.proofs.Found.{same_text, some_weaker, log_shown}
 use Rattle.commands.proofs.command_line.show_job.Goals as goal
 
 pub returns-then-eq : goal.returns-then-eq
 returns-then-eq c =
     let found = found_of c.args.found.now in
+    some_weaker (IsLogJob (rows_of found)) (IsShowJob (rows_of found)) c.log_job.result
+    (log_shown (rows_of found) (sym (first_value-rows found (codes "kind")) ∙ (sym c.in_ok-name.ensures ∙ ap Some (same_text c.in_ok-name.name.now (codes "log") c.if-eq.ensures))))
+    c.log_job.ensures
+
+pub returns-then-eq-2 : goal.returns-then-eq-2
+returns-then-eq-2 c =
+    let found = found_of c.args.found.now in
     record {
-      kind_is = sym (first_value-rows found (codes "kind")) ∙ (sym c.in_ok-name.ensures ∙ ap Some (same_text c.in_ok-name.name.now (codes "genesis") c.if-eq.ensures));
+      kind_is = sym (first_value-rows found (codes "kind")) ∙ (sym c.in_ok-name.ensures ∙ ap Some (same_text c.in_ok-name.name.now (codes "genesis") c.if-eq-2.ensures));
       file_is = sym (first_value-rows found (codes "file")) ∙ sym c.in_ok-genesis.ensures;
+      form_is = sym c.form_of-form.ensures;
     }
 
 pub returns : goal.returns
@@ -17,6 +26,7 @@ returns c =
     let found = found_of c.args.found.now in
     record {
       kind_is = (c.in_ok-name.name.now, sym (first_value-rows found (codes "kind")) ∙ sym c.in_ok-name.ensures, sym c.in_ok-kind.ensures);
+      form_is = sym c.form_of-form.ensures;
       scheme_is = (c.in_ok-by.by.now, sym (first_value-rows found (codes "scheme")) ∙ sym c.in_ok-by.ensures, sym c.in_ok-scheme.ensures);
       text_is = c.text_at-text.ensures;
     }

@@ -12,4 +12,5 @@ returns c =
       genesis_is = sym (first_value-rows found (codes "genesis")) ∙ sym c.in_ok-genesis.ensures;
       script_is = sym (first_value-rows found (codes "script")) ∙ sym c.in_ok-script.ensures;
       clients_are = (read.0, sym (one_text-rows found (codes "clients")) ∙ read.1, (read.2.0.0.0, c.in_ok-clients.ensures ∙ read.2.0.1));
+      discard_is = sym c.is_given-discard.ensures;
     }

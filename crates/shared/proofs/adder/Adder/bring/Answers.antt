@@ -1,11 +1,12 @@
-use Rattle.std.proofs.Common.{◌≡◌, Ok, Some, sym, ap, ◌∙◌, subst}
+use Rattle.std.proofs.Common.{◌≡◌, Ok, Some, refl, sym, ap, ◌∙◌, subst}
 use Rattle.std.specs.Prelude.{Option, option_map}
 use Rattle.model.specs.Journal.{Knowledge}
 use Rattle.chain_core.specs.Views.{arrive_reply_of}
 use Rattle.shared.specs.Starts.{network_from}
 use Rattle.inbox.specs.Arrivals.{Arrival, IsPeer}
 use Rattle.shared.specs.HeldArrivals.{held_arrival, seen_arrival}
-use Rattle.shared.specs.Adding.{Adding, HasAdded}
+use Rattle.shared.specs.Adding.{Adding, HasAdded, IsLastAnswer}
+use Rattle.shared.specs.Entries.{arrival_by}
 use Rattle.shared.proofs.Adders.{added_none, brought_of, held_peer}
 use Rattle.shared.proofs.adder.Adder.bring.Given as given
 use Rattle.shared.proofs.adder.Adder.bring.Goals as goal
@@ -45,7 +46,7 @@ returns-in-Ok-arrive-clause-added g c =
     let v : Adding = record { knows = c.self.inside.caller; intake = c.self.inside.end; held = option_map held_arrival c.self.inside.held } in
     subst (λ (a : Adding). HasAdded network a (record v { knows = c.arrive.new.caller; held = option_map held_arrival c.take.new.self })) c.self.view_is
     (subst (λ (o : Option Arrival). HasAdded network v (record v { knows = c.arrive.new.caller; held = o })) (ap (option_map held_arrival) (sym c.take.ensures.after))
-    (brought_of network v c.arrive.new.caller c.in-Ok.arrival.peer c.in-Ok.arrival.seen c.self.invariant.in_step (read_peer g at) (held_read g at) (arrive_reply_of (Ok c.in-Ok-arrive._reply), c.in-Ok-arrive.ensures.called)))
+    (brought_of network v c.arrive.new.caller c.in-Ok.arrival.peer c.in-Ok.arrival.seen c.self.invariant.in_step (read_peer g at) (held_read g at) (arrive_reply_of (Ok c.in-Ok-arrive.reply), c.in-Ok-arrive.ensures.called)))
 
 pub returns-in-Err-arrive-clause-added : goal.returns-in-Err-arrive-clause-added
 returns-in-Err-arrive-clause-added g c =
@@ -54,3 +55,9 @@ returns-in-Err-arrive-clause-added g c =
     let v : Adding = record { knows = c.self.inside.caller; intake = c.self.inside.end; held = option_map held_arrival c.self.inside.held } in
     subst (λ (x : Adding × (Knowledge × Option Arrival)). HasAdded network x.0 (record v { knows = x.1.0; held = x.1.1 })) (λ i. (c.self.view_is i, (sym c.in-Err-arrive.ensures.err i, held_read g at i)))
     (added_none network v c.self.invariant.in_step)
+
+pub returns-in-Ok-arrive-clause-told : goal.returns-in-Ok-arrive-clause-told
+returns-in-Ok-arrive-clause-told g c =
+    let v : Adding = record { knows = c.self.inside.caller; intake = c.self.inside.end; held = option_map held_arrival c.self.inside.held } in
+    subst (λ (a : Adding). IsLastAnswer a.knows.calls c.arrive.new.caller.calls c.in-Ok-arrive.reply) c.self.view_is
+    (record { call = arrival_by v.knows.caller c.in-Ok.arrival.peer c.in-Ok.arrival.seen (arrive_reply_of (Ok c.in-Ok-arrive.reply)); calls = c.in-Ok-arrive.ensures.called.calls; reply_is = refl })

@@ -19,9 +19,9 @@ takes-preserved g c =
     let network = network_from g.B.Room.start g.S.SigScheme.verifies in
     let i = c.takes.invariant in
     let t = c.take_last.ensures in
-    let b = c.in_ok-bring-2.ensures in
+    let b = c.in_ok-bring_held-2.ensures in
     record {
-      added = added_on network c.args.self.now c.take_last.new.self c.bring-in-takes.new.self (taken_on network c.args.self.now c.takes.self c.take_last.new.self i.added i.none t.taken) b.added;
+      added = added_on network c.args.self.now c.take_last.new.self c.bring_held-in-takes.new.self (taken_on network c.args.self.now c.takes.self c.take_last.new.self i.added i.none t.taken) b.added;
       none = b.ok;
       peers = t.peers ∙ i.peers;
     }

@@ -14,5 +14,5 @@ spawn-watcher-requires-send-F g c κs within =
     let caller = Caller-send (param 1 g.row.B) g.B.Room in
     search (crosses, sendable) depth 20
 
-pub run_adder-adder-requires-send-S : goal.run_adder-adder-requires-send-S
-run_adder-adder-requires-send-S g c κs within = let bounds = c.requires.1.1.1.1.1 in param_send 0 g.row.S bounds.0
+pub run_adder-reception-requires-send-S : goal.run_adder-reception-requires-send-S
+run_adder-reception-requires-send-S g c κs within = let bounds = c.requires.1.1.1.1.1 in param_send 0 g.row.S bounds.0

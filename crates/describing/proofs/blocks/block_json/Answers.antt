@@ -1,0 +1,17 @@
+use Rattle.std.proofs.Common.{arith}
+use Rattle.describing.specs.Blocks.{json_of_block}
+use Rattle.describing.proofs.PlainWholes.{block_plain}
+use Rattle.describing.proofs.Told.{text_told, read_back}
+use Rattle.describing.proofs.blocks.block_json.Goals as goal
+
+pub returns-clause-text : goal.returns-clause-text
+returns-clause-text g c =
+    let b = c.args.block.now in
+    let verifies = g.S.SigScheme.verifies in
+    text_told c.document.result _ (json_of_block verifies b) c.in_ok-json.ensures.is 66 (block_plain verifies b c.in_ok-json.ensures.nests) c.document.ensures.text
+
+pub returns-clause-reads_back : goal.returns-clause-reads_back
+returns-clause-reads_back g c =
+    let b = c.args.block.now in
+    let verifies = g.S.SigScheme.verifies in
+    read_back c.document.result _ (json_of_block verifies b) c.in_ok-json.ensures.is 66 (block_plain verifies b c.in_ok-json.ensures.nests) (omega arith) c.document.ensures.reads_back

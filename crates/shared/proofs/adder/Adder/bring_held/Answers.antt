@@ -1,0 +1,1 @@
+use Rattle.shared.proofs.adder.Adder.bring_held.Goals as goal

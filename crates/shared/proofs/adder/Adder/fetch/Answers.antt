@@ -1,0 +1,1 @@
+use Rattle.shared.proofs.adder.Adder.fetch.Goals as goal
