@@ -51,7 +51,7 @@ module _ {A : Type 0} (answers : A → List ℕ → A → List ℕ → Type 0) w
   begins start (Some text) old = ([], text, [], refl, (refl, refl, refl), Appends-nil old)
 
   -- a line that was read is answered as it is to be
-  line_answered : (read : LaneLine) (before : A) (text held : List ℕ) (after : A) (reply : List ℕ) → IsFirstLine (Some read) text held → AnswersHeld answers before read held after reply → (0 < length text) × AnswersLine answers before (first_line text) after reply
+  line_answered : (read : LaneLine) (before : A) (text held : List ℕ) (after : A) (reply : List ℕ) → IsFirstLine line_limit (Some read) text held → AnswersHeld answers before read held after reply → (0 < length text) × AnswersLine answers before (first_line text) after reply
   line_answered Whole before text held after reply is answered =
       let (some, same, few) = is in
       let fits : nat_le (length (first_line text)) line_limit ≡ true = let long : length held ≡ length (first_line text) = ap length same in grind (arith, nat_tests) in
@@ -61,11 +61,11 @@ module _ {A : Type 0} (answers : A → List ℕ → A → List ℕ → Type 0) w
       (take_through_nonempty 10 text (omega arith), subst (λ (b : Bool). MatchBool b (answers before (first_line text) after reply) ((after ≡ before) × (reply ≡ too_long_reply))) (sym long) answered)
 
   -- the same of the text that is left
-  at_left : (rest rest' : Option (List ℕ)) (left held : List ℕ) (read : Option LaneLine) → rest ≡ Some left → ReadsLine read rest rest' held → IsFirstLine read left held × (rest' ≡ Some (drop_through 10 left))
-  at_left rest rest' left held read is reads = subst (λ (r : Option (List ℕ)). ReadsLine read r rest' held) is reads
+  at_left : (rest rest' : Option (List ℕ)) (left held : List ℕ) (read : Option LaneLine) → rest ≡ Some left → ReadsLine line_limit read rest rest' held → IsFirstLine line_limit read left held × (rest' ≡ Some (drop_through 10 left))
+  at_left rest rest' left held read is reads = subst (λ (r : Option (List ℕ)). ReadsLine line_limit read r rest' held) is reads
 
   -- a line is read and answered
-  pub answered : (start now next : A) (unread rest rest' old : Option (List ℕ)) (mid : Option (List ℕ)) (read : LaneLine) (held reply : List ℕ) → IsUnderway start now unread rest old mid → ReadsLine (Some read) rest rest' held → AnswersHeld answers now read held next reply → (new : Option (List ℕ)) → Appends mid new reply → IsUnderway start next unread rest' old new
+  pub answered : (start now next : A) (unread rest rest' old : Option (List ℕ)) (mid : Option (List ℕ)) (read : LaneLine) (held reply : List ℕ) → IsUnderway start now unread rest old mid → ReadsLine line_limit (Some read) rest rest' held → AnswersHeld answers now read held next reply → (new : Option (List ℕ)) → Appends mid new reply → IsUnderway start next unread rest' old new
   answered start now next None rest rest' old mid read held reply so_far reads step new wrote = tt
   answered start now next (Some text) rest rest' old mid read held reply so_far reads step new wrote =
       let (lines, left, out, is, done, written) = so_far in
@@ -74,7 +74,7 @@ module _ {A : Type 0} (answers : A → List ℕ → A → List ℕ → Type 0) w
       (lines ++ first_line left ∷ [], drop_through 10 left, out ++ reply, after, one_more start text lines now left out next reply done some line, Appends-trans old mid new out reply written wrote)
 
   -- nothing is left to read
-  pub ended : (start now : A) (unread rest rest' old new : Option (List ℕ)) (held : List ℕ) → IsUnderway start now unread rest old new → ReadsLine None rest rest' held → IfSome unread (λ text. Talked answers start text now old new)
+  pub ended : (start now : A) (unread rest rest' old new : Option (List ℕ)) (held : List ℕ) → IsUnderway start now unread rest old new → ReadsLine line_limit None rest rest' held → IfSome unread (λ text. Talked answers start text now old new)
   ended start now None rest rest' old new held so_far reads = tt
   ended start now (Some text) rest rest' old new held so_far reads =
       let (lines, left, out, is, done, written) = so_far in
@@ -94,7 +94,7 @@ module _ {A : Type 0} (answers : A → List ℕ → A → List ℕ → Type 0) w
       (lines, left, out, done, by_end why old new out written)
 
   -- a reply could not be written: its line was answered
-  pub broke_off_at_write : (start now next : A) (unread rest rest' old mid new : Option (List ℕ)) (read : LaneLine) (held reply : List ℕ) → IsUnderway start now unread rest old mid → ReadsLine (Some read) rest rest' held → AnswersHeld answers now read held next reply → IfSome unread (λ text. BreaksOff answers WriteFailed start text next old new)
+  pub broke_off_at_write : (start now next : A) (unread rest rest' old mid new : Option (List ℕ)) (read : LaneLine) (held reply : List ℕ) → IsUnderway start now unread rest old mid → ReadsLine line_limit (Some read) rest rest' held → AnswersHeld answers now read held next reply → IfSome unread (λ text. BreaksOff answers WriteFailed start text next old new)
   broke_off_at_write start now next None rest rest' old mid new read held reply so_far reads step = tt
   broke_off_at_write start now next (Some text) rest rest' old mid new read held reply so_far reads step =
       let (lines, left, out, is, done, written) = so_far in

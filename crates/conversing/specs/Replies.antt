@@ -9,12 +9,18 @@ use Rattle.conversing.specs.declared.outcome.Outcome.{Outcome}
 use Rattle.conversing.specs.declared.outcome.Outcome.TheVariants.{Tip, Height, Forward, Backward, Intersection}
 use Rattle.conversing.specs.declared.outcome.Outcome.TheVariants.{NoIntersection, Accepted, NotAccepted, Forged}
 use Rattle.conversing.specs.declared.outcome.Outcome.TheVariants.{NotForged, Flushed, Stopping, Answered}
+use Rattle.conversing.specs.declared.outcome.Outcome.TheVariants.{NoFollower, NotFlushed, Ending}
 use Rattle.conversing.specs.declared.request_fault.RequestFault.{RequestFault}
 use Rattle.conversing.specs.declared.request_fault.RequestFault.TheVariants as faults
 use Rattle.conversing.specs.Numbers.{number_text}
 use Rattle.conversing.specs.Parts.{quoted, point_text, tip_text, block_text, hex_text}
 use Rattle.conversing.specs.Found.{found_text}
 use Rattle.conversing.specs.RequestView.{id_view}
+
+-- an error of section 5.1
+abbrev pub error_text : (number message : List ℕ) → List ℕ
+error_text number message =
+    codes "\"error\":{\"code\":" ++ number ++ codes ",\"message\":\"" ++ message ++ codes "\"}"
 
 -- ---- what calls come to
 
@@ -53,6 +59,9 @@ outcome_text (NotForged reason) = reason_text (codes "\"error\":{\"code\":4000,\
 outcome_text (Flushed durable) = codes "\"result\":{\"durable\":" ++ number_text durable ++ codes "}"
 outcome_text (Answered found) = codes "\"result\":" ++ found_text found
 outcome_text Stopping = codes "\"result\":{\"stopping\":true}"
+outcome_text NoFollower = error_text (codes "1001") (codes "too many followers")
+outcome_text NotFlushed = error_text (codes "5000") (codes "flush failed")
+outcome_text Ending = error_text (codes "6000") (codes "the node is stopping")
 
 -- ---- replies
 
@@ -69,11 +78,6 @@ line_if None outcome = []
 abbrev pub reply_text : Option (List ℕ) → Outcome → List ℕ
 reply_text id outcome = line_if id (outcome_text outcome)
 
--- an error of section 5.1
-abbrev pub error_text : (number message : List ℕ) → List ℕ
-error_text number message =
-    codes "\"error\":{\"code\":" ++ number ++ codes ",\"message\":\"" ++ message ++ codes "\"}"
-
 -- an id, and null where none is known
 abbrev pub or_null : Option (List ℕ) → List ℕ
 or_null id = unwrap_or id (codes "null")
@@ -87,3 +91,7 @@ fault_text (faults.MethodNotFound id) =
     line_if (id_view id) (error_text (codes "-32601") (codes "Method not found"))
 fault_text (faults.InvalidParams id) = line_if (id_view id) (error_text (codes "-32602") (codes "Invalid params"))
 fault_text faults.OutOfMemory = line_with (error_text (codes "-32603") (codes "Internal error")) (codes "null")
+
+-- THE REPLY TO A REQUEST OF WHICH NOTHING IS TOLD: its call can't be carried out, or there is no memory for its reply
+abbrev pub lost_text : Option (List ℕ) → List ℕ
+lost_text id = line_if id (error_text (codes "-32603") (codes "Internal error"))

@@ -5,7 +5,7 @@ ghost use Rattle.std.specs.Io.KnownBytes.{Appends};
 ghost use Rattle.conversing.specs.Talks.{too_long_reply, AnswersLine, AnswersHeld, BreaksOff, Talked};
 
 use crate::desk::Desk;
-use crate::lane_line::{LaneLine, read_line};
+use crate::lane_line::{LaneLine, MAX_LINE, read_line};
 use std::alloc::{AllocError, Global};
 use std::io;
 use std::io::{BufRead, Write};
@@ -76,7 +76,7 @@ pub fn attend<D: Desk, R: BufRead, W: Write>(
 {
     for _ in 0..u64::MAX {
         let mut line = Vec::new(alloc);
-        let Some(read) = read_line(reader, &mut line)? else {
+        let Some(read) = read_line(reader, &mut line, MAX_LINE)? else {
             return Ok(());
         };
         let reply = reply_to(alloc, desk, read, &line)?;

@@ -2,16 +2,16 @@
 
 ghost use Rattle.std.specs.Prelude.{◌≡◌, ◌≢◌, ◌-◌, ◌<◌, ◌≤◌, [], true, false, All, IfOk, length, take, vec_len};
 ghost use Rattle.std.specs.Io.{IsEmptyOrEndsWith};
-ghost use Rattle.conversing.specs.Lines.{line_limit, TakesPiece, ReadsLine};
+ghost use Rattle.conversing.specs.Lines.{TakesPiece, ReadsLine};
 
 use crate::lane::LaneEnd;
 use std::io;
 use std::io::{BufRead, ErrorKind};
 
-/// How many bytes a line has at most, with the line feed that ends it.
+/// How many bytes a line of a lane has at most, with the line feed that ends it.
 pub const MAX_LINE: usize = 2_200_000;
 
-/// A line that was read off a lane.
+/// A line that was read.
 #[derive(Clone, Copy, Debug, PartialEq, Eq)]
 pub enum LaneLine {
     /// It is held whole.
@@ -65,11 +65,16 @@ fn is_interrupted(error: &io::Error) -> bool {
     error.kind() == ErrorKind::Interrupted
 }
 
-/// Takes what a reader has at hand of a line, and puts it behind what is held, unless that makes too much.
-fn take_piece<R: BufRead>(reader: &mut R, line: &mut Vec<u8>) -> Result<Piece, LaneEnd>
-    requires held { vec_len line.old ≤ line_limit }
-    ensures held { vec_len line.new ≤ line_limit }
-    ensures taken { IfOk result (λ piece. TakesPiece piece (R.remaining reader.old) (R.remaining reader.new)
+/// Takes what a reader has at hand of a line, and puts it behind what is held, unless that makes more than `limit`
+/// bytes.
+fn take_piece<R: BufRead>(
+    reader: &mut R,
+    line: &mut Vec<u8>,
+    limit: usize,
+) -> Result<Piece, LaneEnd>
+    requires held { vec_len line.old ≤ limit }
+    ensures held { vec_len line.new ≤ limit }
+    ensures taken { IfOk result (λ piece. TakesPiece limit piece (R.remaining reader.old) (R.remaining reader.new)
         line.old.items line.new.items) }
 {
     let available = match reader.fill_buf() {
@@ -83,7 +88,7 @@ fn take_piece<R: BufRead>(reader: &mut R, line: &mut Vec<u8>) -> Result<Piece, L
         }
     };
     let part = part_of(available);
-    if part.count > MAX_LINE - line.len() {
+    if part.count > limit - line.len() {
         return Ok(Piece::TooMuch);
     }
     let Ok(()) = line.extend_from_slice(&available[..part.count]) else {
@@ -97,19 +102,21 @@ fn take_piece<R: BufRead>(reader: &mut R, line: &mut Vec<u8>) -> Result<Piece, L
     }
 }
 
-/// Reads the next line of a lane, with the line feed that ends it, and holds it if it has at most `MAX_LINE` bytes.
-/// None where nothing is left. At an Err the line is lost.
+/// Reads the next line, with the line feed that ends it, and holds it if it has at most `limit` bytes. None where
+/// nothing is left. At an Err, for want of memory or because it can't be read, the line is lost. Takes memory for
+/// `limit` bytes at most, and time in proportion to the line.
 pub fn read_line<R: BufRead>(
     reader: &mut R,
     line: &mut Vec<u8>,
+    limit: usize,
 ) -> Result<Option<LaneLine>, LaneEnd>
     requires empty { line.old.items ≡ [] }
-    ensures held { vec_len line.new ≤ line_limit }
-    ensures read { IfOk result (λ read. ReadsLine read (R.remaining reader.old) (R.remaining reader.new)
+    ensures held { vec_len line.new ≤ limit }
+    ensures read { IfOk result (λ read. ReadsLine limit read (R.remaining reader.old) (R.remaining reader.new)
         line.new.items) }
 {
     for _ in 0..u64::MAX {
-        match take_piece(reader, line)? {
+        match take_piece(reader, line, limit)? {
             Piece::Middle => {}
             Piece::End => {
                 return if line.is_empty() {

@@ -33,6 +33,8 @@ pub enum Outcome<'a> {
     Intersection(BlockPoint, ChainTip),
     /// `findIntersection`: none of the points is. An error of the number 1000.
     NoIntersection(ChainTip),
+    /// `findIntersection`, `nextBlock`: no follower's number is free. An error of the number 1001.
+    NoFollower,
     /// `submitTransaction`: the transaction of this identifier waits.
     Accepted([u8; 32]),
     /// `submitTransaction`: it doesn't. An error of the number 3000.
@@ -43,8 +45,12 @@ pub enum Outcome<'a> {
     NotForged(Reason<'a>),
     /// `flush`: so many blocks are durable.
     Flushed(u64),
+    /// `flush`: what is immutable could not be made durable. An error of the number 5000.
+    NotFlushed,
     /// `stop`: the node ends.
     Stopping,
+    /// `nextBlock`: the node ends, and nothing more will come. An error of the number 6000.
+    Ending,
     /// `evaluate`, `queryUtxo`, `queryBlock`, `queryTransaction`, `queryMempool` and `why`: what is found.
     Answered(Found<'a>),
 }
@@ -171,6 +177,15 @@ pub fn put_outcome(
             line.extend_from_slice(b"}")
         }
         Outcome::Stopping => line.extend_from_slice(b"\"result\":{\"stopping\":true}"),
+        Outcome::NoFollower => line.extend_from_slice(
+            b"\"error\":{\"code\":1001,\"message\":\"too many followers\"}",
+        ),
+        Outcome::NotFlushed => {
+            line.extend_from_slice(b"\"error\":{\"code\":5000,\"message\":\"flush failed\"}")
+        }
+        Outcome::Ending => line.extend_from_slice(
+            b"\"error\":{\"code\":6000,\"message\":\"the node is stopping\"}",
+        ),
         Outcome::Answered(found) => {
             line.extend_from_slice(b"\"result\":")?;
             put_found(alloc, line, found)

@@ -2,7 +2,8 @@
 
 ghost use Rattle.std.specs.Prelude.{◌≡◌, ◌++◌, IfOk};
 ghost use Rattle.conversing.specs.RequestView.{id_view};
-ghost use Rattle.conversing.specs.Replies.{fault_text, line_if, line_with, or_null, outcome_text, reply_text};
+ghost use Rattle.conversing.specs.Replies.{fault_text, line_if, line_with, lost_text, or_null, outcome_text};
+ghost use Rattle.conversing.specs.Replies.{reply_text};
 
 use crate::outcome::{Outcome, put_outcome};
 use crate::request_fault::RequestFault;
@@ -75,6 +76,18 @@ pub fn fault_line(alloc: Global, fault: &RequestFault) -> Result<Vec<u8>, AllocE
             b"null",
         ),
     }
+}
+
+/// The reply to a request that was read and whose call can't be carried out, or for whose reply there is no memory: the
+/// error -32603 with the request's id. It is empty for a notification.
+pub fn lost_line(alloc: Global, id: &Option<RequestId>) -> Result<Vec<u8>, AllocError>
+    ensures { IfOk result (λ line. line.items ≡ lost_text (id_view id.now)) }
+{
+    error_if(
+        alloc,
+        b"\"error\":{\"code\":-32603,\"message\":\"Internal error\"}",
+        id,
+    )
 }
 
 /// The line of a reply with this id.

@@ -2,7 +2,7 @@
 
 use conversing::{
     Answer, Call, Desk, LaneEnd, MAX_LINE, Outcome, RequestFault, Source, Station, attend,
-    fault_line, read_request, reply_line,
+    fault_line, lost_line, read_request, reply_line,
 };
 use std::alloc::{AllocError, Global};
 use std::test::Fail;
@@ -131,5 +131,57 @@ fn waiting_follower_is_told(rt: HostRuntime) -> Result<(), Fail> {
     assert_eq!(rt; arrived.reply.as_slice(), b"kept\n".as_slice());
     assert_eq!(rt; arrived.notices.len(), 1);
     assert_eq!(rt; arrived.notices[0].place, 1);
+    Ok(())
+}
+
+/// The reply of the id 1 with this outcome.
+fn told(alloc: Global, outcome: &Outcome<'_>) -> Result<Vec<u8>, Fail> {
+    let line = b"{\"jsonrpc\":\"2.0\",\"method\":\"nextBlock\",\"id\":1}";
+    let request = read_request(alloc, line.as_slice())?;
+    Ok(reply_line(alloc, &request.id, outcome)?)
+}
+
+#[test]
+fn no_follower_is_free(rt: HostRuntime) -> Result<(), Fail> {
+    let line = told(rt.alloc(), &Outcome::NoFollower)?;
+    assert_eq!(rt;
+        line.as_slice(),
+        b"{\"jsonrpc\":\"2.0\",\"error\":{\"code\":1001,\"message\":\"too many followers\"},\"id\":1}\n".as_slice()
+    );
+    Ok(())
+}
+
+#[test]
+fn flush_fails(rt: HostRuntime) -> Result<(), Fail> {
+    let line = told(rt.alloc(), &Outcome::NotFlushed)?;
+    assert_eq!(rt;
+        line.as_slice(),
+        b"{\"jsonrpc\":\"2.0\",\"error\":{\"code\":5000,\"message\":\"flush failed\"},\"id\":1}\n".as_slice()
+    );
+    Ok(())
+}
+
+#[test]
+fn node_ends(rt: HostRuntime) -> Result<(), Fail> {
+    let line = told(rt.alloc(), &Outcome::Ending)?;
+    assert_eq!(rt;
+        line.as_slice(),
+        b"{\"jsonrpc\":\"2.0\",\"error\":{\"code\":6000,\"message\":\"the node is stopping\"},\"id\":1}\n".as_slice()
+    );
+    Ok(())
+}
+
+#[test]
+fn call_is_lost(rt: HostRuntime) -> Result<(), Fail> {
+    let alloc = rt.alloc();
+    let asks = b"{\"jsonrpc\":\"2.0\",\"method\":\"flush\",\"id\":\"a\"}";
+    let line = lost_line(alloc, &read_request(alloc, asks.as_slice())?.id)?;
+    assert_eq!(rt;
+        line.as_slice(),
+        b"{\"jsonrpc\":\"2.0\",\"error\":{\"code\":-32603,\"message\":\"Internal error\"},\"id\":\"a\"}\n".as_slice()
+    );
+    let notifies = b"{\"jsonrpc\":\"2.0\",\"method\":\"flush\"}";
+    let none = lost_line(alloc, &read_request(alloc, notifies.as_slice())?.id)?;
+    assert_eq!(rt; none.as_slice(), b"".as_slice());
     Ok(())
 }

@@ -1,0 +1,10 @@
+pub mod Lanes
+pub mod Replies
+pub mod Reasons
+pub mod ChainTelling
+pub mod BlockTelling
+pub mod UtxoTelling
+pub mod UnspentView
+pub mod Submitting
+pub mod Following
+pub mod Serving
