@@ -3,3 +3,5 @@
 pub use Rattle.flushing.proofs.Opened.{begins_on_opened, begins_with_none}
 -- The same beside a core that threads share.
 pub use Rattle.flushing.proofs.Beside.{nothing_begins, opened_begins}
+-- Texts begin themselves, and what begins them begins all that they begin.
+pub use Rattle.flushing.proofs.Growing.{begins_itself, begins_further}

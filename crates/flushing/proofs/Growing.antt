@@ -21,8 +21,12 @@ texts_begin before after begins =
     let whole : after ≡ before ++ rest = sym (take-append-drop (length before) after) ∙ ap (λ (bs : List Block). bs ++ rest) begins in
     record { later = texts_of rest; are = ap texts_of whole ∙ map-append block_text before rest }
 
+-- texts begin themselves
+pub begins_itself : (texts : List (List ℕ)) → Begins texts texts
+begins_itself texts = record { later = []; are = sym (append-nil texts) }
+
 -- what begins texts begins all that these begin
-begins_further : (first middle all : List (List ℕ)) → Begins first middle → Begins middle all → Begins first all
+pub begins_further : (first middle all : List (List ℕ)) → Begins first middle → Begins middle all → Begins first all
 begins_further first middle all a b = record {
   later = a.later ++ b.later;
   are = b.are ∙ (ap (λ (l : List (List ℕ)). l ++ b.later) a.are ∙ append_assoc first a.later b.later);

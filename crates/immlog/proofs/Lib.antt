@@ -12,3 +12,4 @@ pub mod Turns
 pub mod Torn
 pub mod Again
 pub mod OneByOne
+pub mod ForCallers

@@ -1,14 +1,14 @@
 -- What a caller knows after what: calls, looks and questions, one after the other.
-use Rattle.std.proofs.Common.{◌≡◌, ℕ, Option, Some, None, subst, sym}
+use Rattle.std.proofs.Common.{◌≡◌, ℕ, subst, sym}
 use Rattle.model.specs.Ledger.{Network}
 use Rattle.model.specs.Follower.{Stay}
-use Rattle.model.specs.History.{State, Event, Open, Next, Reply, Kept, Refused, Submitted, Opened, TooManyFollowers, Instructed, Forwarded, Closed, UnknownFollower, Discarded, NotBeside, OutOfMemory}
+use Rattle.model.specs.History.{State, Event, Next, Reply, Kept, Refused, Submitted, Opened, TooManyFollowers, Instructed, Forwarded, Closed, UnknownFollower, Discarded, NotBeside, OutOfMemory}
 use Rattle.model.specs.Journal.{Knowledge, IsLook}
 use Rattle.shared.specs.Asking.{IsAsked}
 use Rattle.shared.specs.Answers.{IsAnswered}
 use Rattle.shared.specs.Entries.{call_by}
-use Rattle.shared.specs.Later.{IsLater, Same, Called, Looked, Met}
-use Rattle.serving.specs.Following.{HasIdled, NotYet, Again, HasFollower, HasNoFollower, Had, New}
+use Rattle.shared.specs.Later.{IsLater, Same, Called, Looked}
+use Rattle.serving.specs.Following.{HasIdled, NotYet, Again}
 
 -- where nothing changed
 pub same_later : (network : Network) (a b c : Knowledge) → IsLater network a b → c ≡ b → IsLater network a c
@@ -43,28 +43,3 @@ idled_later network id _ _ (Again a b c d height before look call) =
 pub due_later : (network : Network) (id : ℕ) (a b c d : Knowledge) (height : ℕ) (reply : Reply) → HasIdled network id a b → IsLook network b height c → IsAnswered network c (Next id) reply d → IsLater network a d
 due_later network id a b c d height reply idle look answered =
     answered_later network a c d (Next id) reply (Looked a b c height (idled_later network id a b idle) look) answered
-
--- later than what is later
-pub later_on : (network : Network) (a b c : Knowledge) → IsLater network a b → IsLater network b c → IsLater network a c
-later_on network a _ _ before (Same b) = before
-later_on network a _ _ before (Called b c d call more step) = Called a c d call (later_on network a b c before more) step
-later_on network a _ _ before (Looked b c d height more step) = Looked a c d height (later_on network a b c before more) step
-later_on network a _ _ before (Met b c d other other' more step) = Met a c d other other' (later_on network a b c before more) step
-
--- with a follower that it had, or that it opened
-pub follower_later : (network : Network) (before after : Knowledge) (had : Option ℕ) (id : ℕ) → HasFollower network before had after id → IsLater network before after
-follower_later network before after had id (Had _ same) = same_later network before before after (Same before) same
-follower_later network before after had id (New _ call) = Called before before after (call_by before.caller Open (Opened id)) (Same before) call
-
--- with none, since none could be opened
-pub none_later : (network : Network) (before after : Knowledge) (had : Option ℕ) → HasNoFollower network before had after → IsLater network before after
-none_later network before after had none = Called before before after (call_by before.caller Open TooManyFollowers) (Same before) none.call
-
--- whoever had a follower keeps it
-pub keeps_had : (network : Network) (before after : Knowledge) (had has : Option ℕ) (id : ℕ) → HasFollower network before had after id → has ≡ Some id → (i : ℕ) → had ≡ Some i → has ≡ Some i
-keeps_had network before after had has id (Had is same) kept i was = cc
-keeps_had network before after had has id (New none call) kept i was = cc
-
--- who had none has none to keep
-pub keeps_none : (had has : Option ℕ) → had ≡ None → (i : ℕ) → had ≡ Some i → has ≡ Some i
-keeps_none had has none i was = cc

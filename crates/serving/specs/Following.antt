@@ -38,11 +38,13 @@ pub record HasNoFollower (network : Network) (before : Knowledge) (had : Option 
   pub none : had ≡ None
   pub call : IsCalled network before (call_by before.caller Open TooManyFollowers) after
 
--- Of a follower's call nothing is told: it was made, in part or wholly, and a lane that had a follower keeps it.
-pub record HasFollowed (network : Network) (before : Knowledge) (had : Option ℕ) (after : Knowledge) (has : Option ℕ)
+-- Of a follower's call nothing is told. The lane has its follower, which it had or which was opened now, and the call
+-- was made, in part or wholly; or it has none, since no number is free.
+pub data HasFollowed (network : Network) (before : Knowledge) (had : Option ℕ) (after : Knowledge) (has : Option ℕ)
     : Type 0 where
-  pub later : IsLater network before after
-  pub keeps : (id : ℕ) → had ≡ Some id → has ≡ Some id
+  By : (id : ℕ) (opened : Knowledge) → HasFollower network before had opened id → IsLater network opened after
+      → has ≡ Some id → HasFollowed network before had after has
+  Without : HasNoFollower network before had after → has ≡ None → HasFollowed network before had after has
 
 -- ---- points
 

@@ -3,7 +3,7 @@
 -- steps.
 use denote.RattleType.{RattleType}
 use denote.Builtin.{unit}
-use denote.Param.Send.{IsSend, IsSync, struct_sync, sendable}
+use denote.Param.Send.{IsSend, IsSync, struct_send, struct_sync, sendable}
 use denote.Struct.Declared.{shape}
 use Rattle.std.proofs.Crossing.{crosses}
 use Rattle.std.proofs.Crossing as heap
@@ -63,4 +63,12 @@ module _ (S : RattleType) (s : scheme.Ghosts S.Denot) where
           table.the_field_sync unit View.the_row (Core.the_row S s) (HeightRule.the_row S) Global.the_row
               (rule.ghosts S s rule.no_dict) allocator.ghosts unit_send heap.send heap.sync heap.frees,
           (mutex.the_sync (Desk.the_row S B s b) desk_send, tt),
+        )
+
+    pub Shared-send : IsSend (Shared.the_field S B b s).row
+    Shared-send =
+        struct_send (shape (Shared.the_type S B b s)) (
+          table.the_field_send unit View.the_row (Core.the_row S s) (HeightRule.the_row S) Global.the_row
+              (rule.ghosts S s rule.no_dict) allocator.ghosts unit_send heap.send heap.frees,
+          (mutex.the_send (Desk.the_row S B s b) desk_send, tt),
         )

@@ -6,8 +6,8 @@ use Rattle.script.specs.Names.{AllNames}
 use Rattle.scenario.specs.declared.fault.ScenarioFault.{ScenarioFault}
 use Rattle.scenario.specs.declared.fault.ScenarioFault.TheVariants.{OutOfMemory, WriteFailed}
 use Rattle.scenario.specs.SendRun.{Sent, SendsAll, SendsBy}
-use Rattle.simulation.specs.declared.keeper.WhenFull.{WhenFull}
-use Rattle.simulation.specs.declared.keeper.WhenFull.TheVariants.{Refuse, Discard}
+use Rattle.reception.specs.declared.keeper.WhenFull.{WhenFull}
+use Rattle.reception.specs.declared.keeper.WhenFull.TheVariants.{Refuse, Discard}
 use Rattle.simulation.specs.declared.summary.Summary.{Summary}
 
 -- ---- what it prints

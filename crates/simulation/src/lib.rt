@@ -10,13 +10,10 @@
 
 mod clients;
 mod course;
-mod keeper;
-mod reception;
 mod simulations;
 mod summary;
 mod threads;
 
 pub use clients::{Clients, MAX_CLIENTS};
-pub use keeper::WhenFull;
 pub use simulations::{Setup, sim};
 pub use summary::Summary;

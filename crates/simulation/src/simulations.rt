@@ -9,12 +9,11 @@ ghost use Rattle.simulation.specs.Simulation.{IsFaultless, IsSimFault, summary_t
 
 use crate::clients::Clients;
 use crate::course::Course;
-use crate::keeper::{Keeper, Places, WhenFull};
-use crate::reception::Reception;
 use crate::summary::{Summary, put_summary};
 use crate::threads::{Client, Peer, run_adder, run_client, run_peer};
 use genesis::{Genesis, Scheme};
 use inbox::{AdderEnd, Mailroom, PEERS, PeerEnd};
+use reception::{Keeper, Places, Reception, WhenFull};
 use scenario::{ScenarioFault, Sending};
 use shared::{Adder, Caller, Room, Shared};
 use std::alloc::{AllocError, Global};

@@ -4,8 +4,8 @@ ghost use Rattle.std.specs.Prelude.{◌≡◌, ◌-◌, ◌^◌, ◌++◌, OnOk,
 ghost use Rattle.simulation.specs.Simulation.{discarded_line, follower_lines, heights_line, number_line, peer_line};
 ghost use Rattle.simulation.specs.Simulation.{peer_lines, summary_text, total_of};
 
-use crate::keeper::WhenFull;
 use inbox::PEERS;
+use reception::WhenFull;
 use std::alloc::AllocError;
 use std::io::Write;
 

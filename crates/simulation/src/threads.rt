@@ -3,9 +3,9 @@
 ghost use Rattle.std.specs.Prelude.{◌<◌, ◌≤◌, ◌↔◌, ◌⊎◌, IsTrue};
 
 use crate::course::Course;
-use crate::reception::Reception;
 use chain_core::{FollowerId, Instruction};
 use inbox::{Mailroom, PEERS, PeerEnd};
+use reception::Reception;
 use shared::{Caller, Room, Shared};
 use std::alloc::{AllocError, Global};
 use std::sync::Wait;

@@ -3,8 +3,9 @@
 use crate::fixture::{MEMORY, network_with};
 use genesis::{Genesis, Scheme};
 use inbox::PEERS;
+use reception::WhenFull;
 use scenario::{LineFault, ScenarioFault};
-use simulation::{Clients, Setup, WhenFull, sim};
+use simulation::{Clients, Setup, sim};
 use std::process::Abort;
 use std::sync::Wait;
 use std::sync::atomic::{AtomicBool, AtomicU64, Ordering};
