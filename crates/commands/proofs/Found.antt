@@ -1,6 +1,6 @@
 -- The subcommand that was found, from its name and its rows.
-use Rattle.std.proofs.Common.{◌≡◌, true, codes, List, Option, Some, None, option_map, refl, rules}
-use Rattle.std.specs.Prelude.{bytes_eq, IfSome}
+use Rattle.std.proofs.Common.{◌≡◌, true, codes, List, Option, Some, None, option_map, Result, Ok, Err, refl, rules}
+use Rattle.std.specs.Prelude.{bytes_eq, IfSome, IfOk}
 use Rattle.std.proofs.lemmas.Slice.Eq.{bytes_eq-Decides}
 use Rattle.clap.specs.Words.{Text, Row, first_of}
 use Rattle.commands.specs.declared.jobs.Job.{Job}
@@ -20,6 +20,11 @@ same_text a b h = search (rules, bytes_eq-Decides a b, h)
 pub some_weaker : {X : Type 0} (P Q : X → Type 0) (r : Option X) → ((x : X) → P x → Q x) → IfSome r P → IfSome r Q
 some_weaker P Q None weaker holds = tt
 some_weaker P Q (Some x) weaker holds = weaker x holds
+
+-- the same of what was made, if it was
+pub ok_weaker : {X E : Type 0} (P Q : X → Type 0) (r : Result X E) → ((x : X) → P x → Q x) → IfOk r P → IfOk r Q
+ok_weaker P Q (Ok x) weaker holds = weaker x holds
+ok_weaker P Q (Err e) weaker holds = tt
 
 -- a text that is there, with what is known of it
 pub there : {P : Text → Type 0} {N : Type 0} (text : Option Text) (n : N) → (text ≡ None → Some n ≡ None) → ((t : Text) → text ≡ Some t → P t) → (t : Text) × (text ≡ Some t) × P t

@@ -114,5 +114,6 @@ log_app = with_subcommand script_app replay_app.top
 abbrev pub text_app : App
 text_app = with_subcommand (with_subcommand log_app id_app.top) check_app.top
 
-abbrev pub node_app : App
-node_app = with_subcommand text_app show_app.top
+-- all but `serve`, which stays
+abbrev pub short_app : App
+short_app = with_subcommand text_app show_app.top

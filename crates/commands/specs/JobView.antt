@@ -138,9 +138,9 @@ IsCheckJob rows (Under genesis (Check base text)) =
     IsCheck rows genesis.now (option_map (λ path. path.now) base.log) (option_map (λ path. path.now) base.script) text
 IsCheckJob rows job = ⊥
 
--- the job is the subcommand that was found, with its paths
-abbrev pub IsJobOf : Option (Text × List Row) → Job → Type 0
-IsJobOf found job =
+-- the job is the subcommand that was found, with its paths, but for `serve`
+abbrev pub IsShortJobOf : Option (Text × List Row) → Job → Type 0
+IsShortJobOf found job =
     ((rows : List Row) × (found ≡ Some (codes "run", rows)) × IsRunJob rows job)
     ⊎ (((rows : List Row) × (found ≡ Some (codes "sim", rows)) × IsSimJob rows job)
     ⊎ (((rows : List Row) × (found ≡ Some (codes "replay", rows)) × IsReplayJob rows job)

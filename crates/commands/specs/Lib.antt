@@ -1,5 +1,6 @@
 pub mod CommandLine
 pub mod JobView
+pub mod ServeLine
 pub mod Ending
 pub mod GenesisFile
 pub mod Schemes

@@ -5,13 +5,15 @@ ghost use Rattle.clap.specs.Words.{app_of, rule_of, rows_of, found_of, first_of,
 ghost use Rattle.clap.specs.declared.builder.command.Command.TheViews.{out-Command};
 ghost use Rattle.commands.specs.CommandLine.{option_rule, required_rule, clients_rule, explain_rule, discard_rule};
 ghost use Rattle.commands.specs.CommandLine.{on_script, files_app, run_app, clients_app, sim_app, replay_app, bare_app};
-ghost use Rattle.commands.specs.CommandLine.{script_app, node_app, placed_rule, kind_rule, binary_rule, with_text};
+ghost use Rattle.commands.specs.CommandLine.{script_app, short_app, placed_rule, kind_rule, binary_rule, with_text};
 ghost use Rattle.commands.specs.CommandLine.{id_app, base_app, check_app, log_app, scheme_rule, json_rule, form_app};
 ghost use Rattle.commands.specs.CommandLine.{show_app, text_app};
-ghost use Rattle.commands.specs.JobView.{is_given, file_in, file_of, form_in, IsTextAt, IsLogJob, IsJobOf};
+ghost use Rattle.commands.specs.JobView.{is_given, file_in, file_of, form_in, IsTextAt, IsLogJob, IsShortJobOf};
 ghost use Rattle.commands.specs.JobView.{IsRunJob, IsSimJob, IsReplayJob, IsIdJob, IsCheckJob, IsShowJob};
+ghost use Rattle.commands.specs.ServeLine.{node_app, IsJobOf};
 
 use crate::jobs::{Base, Job, Source, Task, TextAt};
+use crate::serve_command::{serve_command, serve_job};
 use clap::builder::ValueParser;
 use clap::error::ErrorKind;
 use clap::{Arg, ArgAction, ArgMatches, Command, Error};
@@ -21,7 +23,7 @@ use std::alloc::{AllocError, Global};
 use telling::{Form, Kind};
 
 /// An option with the path of a file.
-fn path_option<'a>(alloc: Global, id: &'a str, help: &'a str) -> Arg<'a>
+pub(crate) fn path_option<'a>(alloc: Global, id: &'a str, help: &'a str) -> Arg<'a>
     ensures rule { rule_of result ≡ option_rule id.entry.now }
     ensures local { result.global ≡ false }
 {
@@ -33,7 +35,7 @@ fn path_option<'a>(alloc: Global, id: &'a str, help: &'a str) -> Arg<'a>
 }
 
 /// One that has to be given.
-fn required_path<'a>(alloc: Global, id: &'a str, help: &'a str) -> Arg<'a>
+pub(crate) fn required_path<'a>(alloc: Global, id: &'a str, help: &'a str) -> Arg<'a>
     ensures rule { rule_of result ≡ required_rule id.entry.now }
     ensures local { result.global ≡ false }
 {
@@ -307,16 +309,24 @@ fn text_command<'a>(alloc: Global) -> Result<Command<'a>, AllocError>
     log_command(alloc)?.subcommand(id)?.subcommand(check)
 }
 
-/// The command that the program is.
-fn node_command<'a>(alloc: Global) -> Result<Command<'a>, AllocError>
-    ensures { IfOk result (λ c. app_of c ≡ node_app) }
+/// The same with the one that shows a text.
+fn short_command<'a>(alloc: Global) -> Result<Command<'a>, AllocError>
+    ensures { IfOk result (λ c. app_of c ≡ short_app) }
 {
     let show = show_command(alloc)?;
     text_command(alloc)?.subcommand(show)
 }
 
+/// The command that the program is.
+fn node_command<'a>(alloc: Global) -> Result<Command<'a>, AllocError>
+    ensures { IfOk result (λ c. app_of c ≡ node_app) }
+{
+    let serve = serve_command(alloc)?;
+    short_command(alloc)?.subcommand(serve)
+}
+
 /// Whether a flag is given.
-fn is_given(found: &ArgMatches<'_>, id: &str) -> bool
+pub(crate) fn is_given(found: &ArgMatches<'_>, id: &str) -> bool
     ensures { result ≡ is_given (first_of id.now (rows_of (found_of found.now))) }
 {
     match found.get_str(id) {
@@ -481,9 +491,9 @@ fn check_job<'a>(found: &ArgMatches<'a>) -> Option<Job<'a>>
     })
 }
 
-/// The job that matches name, if there is one.
-fn job_of<'a>(matches: &ArgMatches<'a>) -> Option<Job<'a>>
-    ensures { IfSome result (IsJobOf (subcommand_rows_of matches.now)) }
+/// The job that matches name, if there is one, but for a node that stays.
+fn short_job_of<'a>(matches: &ArgMatches<'a>) -> Option<Job<'a>>
+    ensures { IfSome result (IsShortJobOf (subcommand_rows_of matches.now)) }
 {
     let (name, found) = matches.subcommand()?;
     if name == "run" {
@@ -507,11 +517,26 @@ fn job_of<'a>(matches: &ArgMatches<'a>) -> Option<Job<'a>>
     None
 }
 
+/// The job that matches name, if there is one.
+fn job_of<'a>(alloc: Global, matches: &ArgMatches<'a>) -> Result<Option<Job<'a>>, AllocError>
+    ensures { IfOk result (λ job. IfSome job (IsJobOf (subcommand_rows_of matches.now))) }
+{
+    if let Some((name, found)) = matches.subcommand() {
+        if name == "serve" {
+            return serve_job(alloc, found);
+        }
+    }
+    Ok(short_job_of(matches))
+}
+
 /// Why words that clap took name no job: of its values these alone may be none.
 fn refusal(matches: &ArgMatches<'_>) -> &'static str {
     let Some((name, found)) = matches.subcommand() else {
         return "there is no command";
     };
+    if name == "serve" {
+        return "a --lane has no colon between IN and OUT, or there are more than 60 lanes with --stdio, or 8 peers";
+    }
     if name != "show" {
         return "KIND is none of transaction, block and script";
     }
@@ -538,7 +563,8 @@ pub fn job<'a>(alloc: Global, words: &'a [String]) -> Result<Job<'a>, Error>
     ensures { IfOk result (IsJobOf (subcommand_of node_app (map string_bytes words.entry.now))) }
 {
     let matches = node_command(alloc)?.try_get_matches_from(words)?;
-    match job_of(&matches) {
+    let found = job_of(alloc, &matches)?;
+    match found {
         Some(job) => Ok(job),
         None => {
             let error = node_command(alloc)?.error(ErrorKind::InvalidValue, refusal(&matches))?;

@@ -2,11 +2,13 @@
 
 use crate::jobs::Source;
 use chain_core::ReopenFault;
+use flushing::SharedOnFault;
 use genesis::GenesisFault;
 use hints::{GenesisHint, ScriptHint};
+use hosting::HostFault;
 use immlog::{AppendFault, OpenLogFault};
 use scenario::ScenarioFault;
-use std::alloc::Global;
+use std::alloc::{AllocError, Global};
 use std::io::{Result, Write};
 use telling::{HexFault, TellFault};
 use thiserror::Error as Fault;
@@ -126,5 +128,32 @@ impl<'a> From<AppendFault> for Failure<'a> {
 impl<'a> From<ScenarioFault> for Failure<'a> {
     fn from(fault: ScenarioFault) -> Failure<'a> {
         Failure::Scenario(fault)
+    }
+}
+
+impl<'a> From<AllocError> for Failure<'a> {
+    fn from(_: AllocError) -> Failure<'a> {
+        Failure::Scenario(ScenarioFault::OutOfMemory)
+    }
+}
+
+impl<'a> From<SharedOnFault> for Failure<'a> {
+    fn from(fault: SharedOnFault) -> Failure<'a> {
+        match fault {
+            SharedOnFault::InvalidBlock(number) => Failure::InvalidBlock(number),
+            // A command line has no more lanes than there may be callers.
+            SharedOnFault::BadCallers | SharedOnFault::OutOfMemory => {
+                Failure::Scenario(ScenarioFault::OutOfMemory)
+            }
+        }
+    }
+}
+
+impl<'a> From<HostFault> for Failure<'a> {
+    fn from(fault: HostFault) -> Failure<'a> {
+        match fault {
+            HostFault::OutOfMemory => Failure::Scenario(ScenarioFault::OutOfMemory),
+            HostFault::LogFault => Failure::DiskFault,
+        }
     }
 }

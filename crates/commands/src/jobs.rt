@@ -1,6 +1,7 @@
 //! What the program can do.
 
 use genesis::Scheme;
+use hosting::Workers;
 use simulation::Clients;
 use std::fmt;
 use telling::{Form, Kind};
@@ -65,6 +66,25 @@ pub enum Job<'a> {
     },
 }
 
+/// What a node that stays is given.
+#[derive(Debug, Drop)]
+pub struct Serving<'a> {
+    /// The file of its log, if it has one.
+    pub log: Option<&'a str>,
+    /// The lanes of its clients, each as the paths of its two streams with a colon between.
+    pub lanes: Vec<&'a str>,
+    /// Where what each peer sends is read.
+    pub peers: Vec<&'a str>,
+    /// Whether peers send bytes behind their length, and not lines of digits.
+    pub is_binary: bool,
+    /// Whether the standard streams are a client's lane too.
+    pub stdio: bool,
+    /// Whether it ends when nobody is left who could send a block or ask for something.
+    pub until_closed: bool,
+    /// How many threads check the signatures of a block.
+    pub workers: Workers,
+}
+
 /// What is done under a genesis.
 #[derive(Debug, Drop)]
 pub enum Task<'a> {
@@ -86,6 +106,8 @@ pub enum Task<'a> {
     Replay {
         log: &'a str,
     },
+    /// Stay, and answer peers and clients.
+    Serve(Serving<'a>),
     /// Print in this form what the genesis is.
     ShowGenesis {
         form: Form,

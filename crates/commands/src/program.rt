@@ -12,10 +12,12 @@ use crate::jobs::{Job, Task};
 use crate::log_listing::show_log;
 use crate::log_runs::{replay, run_logged};
 use crate::runs::{run_file, setup_of, sim_file};
+use crate::serving_node::serve;
 use crate::texts::{check, identify, print_genesis, show};
 use clap::Error;
 use clap::error::ErrorKind;
 use genesis::{GenesisDocument, Scheme};
+use hosting::Process;
 use scenario::ScenarioFault;
 use std::fs::File;
 use std::io::{Read, Write};
@@ -53,8 +55,8 @@ fn refuse<O: Write, E: Write>(error: &Error, out: &mut O, err: &mut E) -> u8
 /// one.
 fn do_by<
     'a,
-    S: SigScheme + Send + Sync,
-    R: Files<File = File> + AllocGlobal + Threads + Wait + Sync,
+    S: SigScheme + Send + Sync + 'static,
+    R: Files<File = File> + AllocGlobal + Threads + Wait + Process + Copy + Send + Sync + 'static,
     I: Read,
     O: Write,
 >(
@@ -86,6 +88,7 @@ fn do_by<
             unasked(sim_file::<S, _, _>(rt, document, *script, setup, out))
         }
         Task::Replay { log } => unasked(replay::<S, _, _>(rt, &document, *log, out)),
+        Task::Serve(serving) => unasked(serve::<S, _>(rt, &document, serving)),
         Task::ShowGenesis { form } => {
             unasked(print_genesis(rt.alloc(), *form, &document.genesis, out))
         }
@@ -116,7 +119,12 @@ fn asked<'a>(end: Result<Verdict, Failure<'a>>) -> Result<Option<Verdict>, Failu
 }
 
 /// Does a task by the scheme that its genesis file names. Here alone the core's scheme is chosen.
-fn do_named<'a, R: Files<File = File> + AllocGlobal + Threads + Wait + Sync, I: Read, O: Write>(
+fn do_named<
+    'a,
+    R: Files<File = File> + AllocGlobal + Threads + Wait + Process + Copy + Send + Sync + 'static,
+    I: Read,
+    O: Write,
+>(
     rt: &R,
     task: &Task<'a>,
     document: GenesisDocument,
@@ -130,12 +138,12 @@ fn do_named<'a, R: Files<File = File> + AllocGlobal + Threads + Wait + Sync, I: 
 }
 
 /// Does a job. A genesis file is read first, and where that says none no other file is opened.
-fn do_read<'a, R: Files<File = File> + AllocGlobal + Threads + Wait + Sync, I: Read, O: Write>(
-    rt: &R,
-    job: &Job<'a>,
-    input: &mut I,
-    out: &mut O,
-) -> Result<Option<Verdict>, Failure<'a>> {
+fn do_read<
+    'a,
+    R: Files<File = File> + AllocGlobal + Threads + Wait + Process + Copy + Send + Sync + 'static,
+    I: Read,
+    O: Write,
+>(rt: &R, job: &Job<'a>, input: &mut I, out: &mut O) -> Result<Option<Verdict>, Failure<'a>> {
     match job {
         Job::Id { kind, text } => unasked(identify(rt, *kind, *text, input, out)),
         Job::Show {
@@ -154,13 +162,12 @@ fn do_read<'a, R: Files<File = File> + AllocGlobal + Threads + Wait + Sync, I: R
 
 /// Does a job, and answers the status: 0 where it was done, but 1 where it asks whether something is valid that isn't;
 /// and else 1 with one line on standard error, or two where a fault is to be explained.
-fn do_job<R: Files<File = File> + AllocGlobal + Threads + Wait + Sync, I: Read, O: Write, E: Write>(
-    rt: &R,
-    job: &Job<'_>,
-    input: &mut I,
-    out: &mut O,
-    err: &mut E,
-) -> u8
+fn do_job<
+    R: Files<File = File> + AllocGlobal + Threads + Wait + Process + Copy + Send + Sync + 'static,
+    I: Read,
+    O: Write,
+    E: Write,
+>(rt: &R, job: &Job<'_>, input: &mut I, out: &mut O, err: &mut E) -> u8
     ensures status { result ≤ 1 }
     ensures quiet { result ≡ 0 → err.new ≡ err.old }
 {
@@ -190,7 +197,7 @@ fn tell<E: Write>(end: Result<Option<Verdict>, Failure<'_>>, err: &mut E) -> u8
 /// refused command line, and 1 where it is asked whether something is valid that isn't; and else 1 with one line on
 /// standard error, or two where a fault is to be explained.
 pub fn start<
-    R: Files<File = File> + AllocGlobal + Threads + Wait + Sync,
+    R: Files<File = File> + AllocGlobal + Threads + Wait + Process + Copy + Send + Sync + 'static,
     I: Read,
     O: Write,
     E: Write,

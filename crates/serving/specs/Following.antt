@@ -38,8 +38,8 @@ pub record HasNoFollower (network : Network) (before : Knowledge) (had : Option 
   pub none : had ≡ None
   pub call : IsCalled network before (call_by before.caller Open TooManyFollowers) after
 
--- Of a follower's call nothing is told. The lane has its follower, which it had or which was opened now, and the call
--- was made, in part or wholly; or it has none, since no number is free.
+-- Of a follower's call nothing is told. The lane has its follower, which it had or which was opened now, and from there
+-- on its caller made calls, whatever they were, or none; or it has no follower, since no number is free.
 pub data HasFollowed (network : Network) (before : Knowledge) (had : Option ℕ) (after : Knowledge) (has : Option ℕ)
     : Type 0 where
   By : (id : ℕ) (opened : Knowledge) → HasFollower network before had opened id → IsLater network opened after

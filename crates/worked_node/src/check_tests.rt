@@ -2,6 +2,7 @@
 
 use super::id_tests::PAYMENT;
 use super::start_tests::{GENESIS, MEMORY, ends, own_folder, remove, write_file};
+use hosting::Process;
 use std::fs;
 use std::fs::File;
 use std::process::Abort;
@@ -61,7 +62,16 @@ arrive A3: kept back 0 added 1
 /// The transaction of a file is judged under the genesis of a folder, with these options too; and with this status this
 /// is printed and told.
 fn checks(
-    rt: &(impl Abort + Files<File = File> + AllocGlobal + Threads + Wait + Sync),
+    rt: &(impl Abort
+        + Files<File = File>
+        + AllocGlobal
+        + Threads
+        + Wait
+        + Process
+        + Copy
+        + Send
+        + Sync
+        + 'static),
     folder: &str,
     (options, file): (&[&str], &str),
     (status, printed, told): (u8, &str, &str),
@@ -106,7 +116,16 @@ fn checks_on_a_genesis(rt: HostRuntime) {
 
 /// The same after a script.
 fn checks_after(
-    rt: &(impl Abort + Files<File = File> + AllocGlobal + Threads + Wait + Sync),
+    rt: &(impl Abort
+        + Files<File = File>
+        + AllocGlobal
+        + Threads
+        + Wait
+        + Process
+        + Copy
+        + Send
+        + Sync
+        + 'static),
     folder: &str,
     (script, file): (&str, &str),
     end: (u8, &str, &str),
@@ -117,7 +136,16 @@ fn checks_after(
 
 /// The same on a log.
 fn checks_on(
-    rt: &(impl Abort + Files<File = File> + AllocGlobal + Threads + Wait + Sync),
+    rt: &(impl Abort
+        + Files<File = File>
+        + AllocGlobal
+        + Threads
+        + Wait
+        + Process
+        + Copy
+        + Send
+        + Sync
+        + 'static),
     folder: &str,
     (log, file): (&str, &str),
     end: (u8, &str, &str),
@@ -128,7 +156,16 @@ fn checks_on(
 
 /// The script of a file is run on a log.
 fn runs_on(
-    rt: &(impl Abort + Files<File = File> + AllocGlobal + Threads + Wait + Sync),
+    rt: &(impl Abort
+        + Files<File = File>
+        + AllocGlobal
+        + Threads
+        + Wait
+        + Process
+        + Copy
+        + Send
+        + Sync
+        + 'static),
     (genesis, script, log): (&str, &str, &str),
 ) {
     let words = [

@@ -1,6 +1,7 @@
 //! Faults of a script that are explained, and what is refused or not selected.
 
 use super::start_tests::{GENESIS, MEMORY, ends, own_folder, remove, write_file};
+use hosting::Process;
 use std::fs::File;
 use std::process::Abort;
 use std::rt::Files;
@@ -10,7 +11,16 @@ use std::thread::Threads;
 /// The script of a file ends by a fault under the genesis of another. With the flag the same is printed and told, and
 /// then a line on what the fault is about.
 pub fn explains(
-    rt: &(impl Abort + Files<File = File> + AllocGlobal + Threads + Wait + Sync),
+    rt: &(impl Abort
+        + Files<File = File>
+        + AllocGlobal
+        + Threads
+        + Wait
+        + Process
+        + Copy
+        + Send
+        + Sync
+        + 'static),
     genesis: &str,
     script: &str,
     (printed, fault, hint): (&str, &str, &str),

@@ -2,6 +2,7 @@
 //! another SHA-256 gave.
 
 use super::start_tests::{MEMORY, ends, ends_on, own_folder, remove, write_file};
+use hosting::Process;
 use std::fs;
 use std::fs::File;
 use std::process::Abort;
@@ -50,7 +51,16 @@ const ALWAYS: &str = "310e8ad6fd176849a5667f8309d828a7aa48dd2d56e308ebe790babd1c
 
 /// The text of the kind has the identifier that is printed.
 fn has_identifier(
-    rt: &(impl Abort + Files<File = File> + AllocGlobal + Threads + Wait + Sync),
+    rt: &(impl Abort
+        + Files<File = File>
+        + AllocGlobal
+        + Threads
+        + Wait
+        + Process
+        + Copy
+        + Send
+        + Sync
+        + 'static),
     folder: &str,
     (kind, parts, printed): (&str, &[&str], &str),
 ) {
@@ -153,7 +163,16 @@ const NONE: &[(&str, &str, &str)] = &[
 
 /// The text is none of the kind, and this is told behind its path.
 fn is_none(
-    rt: &(impl Abort + Files<File = File> + AllocGlobal + Threads + Wait + Sync),
+    rt: &(impl Abort
+        + Files<File = File>
+        + AllocGlobal
+        + Threads
+        + Wait
+        + Process
+        + Copy
+        + Send
+        + Sync
+        + 'static),
     folder: &str,
     (kind, text, told): (&str, &str, &str),
 ) {

@@ -14,6 +14,8 @@ mod id_tests;
 #[cfg(test)]
 mod log_tests;
 #[cfg(test)]
+mod serve_tests;
+#[cfg(test)]
 mod show_tests;
 #[cfg(test)]
 mod sim_tests;

@@ -1,6 +1,7 @@
 //! Runs on logs in files.
 
 use super::start_tests::{GENESIS, MEMORY, ends, own_folder, remove, write_file};
+use hosting::Process;
 use std::fs;
 use std::fs::{File, OpenOptions};
 use std::process::Abort;
@@ -85,7 +86,16 @@ impl Paths {
 
 /// The script is run on the log, with this status, and this is printed and told.
 fn runs_on_log(
-    rt: &(impl Abort + Files<File = File> + AllocGlobal + Threads + Wait + Sync),
+    rt: &(impl Abort
+        + Files<File = File>
+        + AllocGlobal
+        + Threads
+        + Wait
+        + Process
+        + Copy
+        + Send
+        + Sync
+        + 'static),
     paths: &Paths,
     (status, printed, told): (u8, &str, &str),
 ) {
@@ -104,7 +114,16 @@ fn runs_on_log(
 
 /// The log is opened, with this status, and this is printed and told.
 fn replays(
-    rt: &(impl Abort + Files<File = File> + AllocGlobal + Threads + Wait + Sync),
+    rt: &(impl Abort
+        + Files<File = File>
+        + AllocGlobal
+        + Threads
+        + Wait
+        + Process
+        + Copy
+        + Send
+        + Sync
+        + 'static),
     paths: &Paths,
     (status, printed, told): (u8, &str, &str),
 ) {
@@ -314,7 +333,16 @@ const SECOND_LISTED: &str = "record 2
 
 /// The log in the file is listed, with this status, and this is printed and told.
 fn lists(
-    rt: &(impl Abort + Files<File = File> + AllocGlobal + Threads + Wait + Sync),
+    rt: &(impl Abort
+        + Files<File = File>
+        + AllocGlobal
+        + Threads
+        + Wait
+        + Process
+        + Copy
+        + Send
+        + Sync
+        + 'static),
     paths: &Paths,
     (status, printed, told): (u8, &str, &str),
 ) {

@@ -3,6 +3,7 @@
 
 use super::id_tests::PAYMENT;
 use super::start_tests::{GENESIS, ends, ends_on, own_folder, remove, write_file};
+use hosting::Process;
 use std::fs::File;
 use std::process::Abort;
 use std::rt::Files;
@@ -140,7 +141,16 @@ fn nothing_to_be_shown(rt: HostRuntime) {
 
 /// The text of this kind in a file has these lines.
 fn shows(
-    rt: &(impl Abort + Files<File = File> + AllocGlobal + Threads + Wait + Sync),
+    rt: &(impl Abort
+        + Files<File = File>
+        + AllocGlobal
+        + Threads
+        + Wait
+        + Process
+        + Copy
+        + Send
+        + Sync
+        + 'static),
     (kind, file): (&str, &str),
     printed: &str,
 ) {
@@ -150,7 +160,16 @@ fn shows(
 
 /// The transaction in a file has these lines under Ed25519.
 fn shows_by_ed25519(
-    rt: &(impl Abort + Files<File = File> + AllocGlobal + Threads + Wait + Sync),
+    rt: &(impl Abort
+        + Files<File = File>
+        + AllocGlobal
+        + Threads
+        + Wait
+        + Process
+        + Copy
+        + Send
+        + Sync
+        + 'static),
     file: &str,
     printed: &str,
 ) {
@@ -160,7 +179,16 @@ fn shows_by_ed25519(
 
 /// The text of this kind in a file is this document.
 fn shows_json(
-    rt: &(impl Abort + Files<File = File> + AllocGlobal + Threads + Wait + Sync),
+    rt: &(impl Abort
+        + Files<File = File>
+        + AllocGlobal
+        + Threads
+        + Wait
+        + Process
+        + Copy
+        + Send
+        + Sync
+        + 'static),
     (kind, file): (&str, &str),
     printed: &str,
 ) {
@@ -170,7 +198,16 @@ fn shows_json(
 
 /// The genesis in a file isn't shown, for this fault.
 fn refuses_genesis(
-    rt: &(impl Abort + Files<File = File> + AllocGlobal + Threads + Wait + Sync),
+    rt: &(impl Abort
+        + Files<File = File>
+        + AllocGlobal
+        + Threads
+        + Wait
+        + Process
+        + Copy
+        + Send
+        + Sync
+        + 'static),
     file: &str,
     told: &str,
 ) {

@@ -1,6 +1,7 @@
 //! Command lines, files and statuses.
 
 use commands::start;
+use hosting::Process;
 use std::fs::File;
 use std::io::Write;
 use std::process::Abort;
@@ -36,7 +37,16 @@ fn is_said(rt: &impl Abort, said: &[u8], text: &str) {
 /// The program ends with this status. It has printed the one text on standard output and told the other on standard
 /// error, or something where that is `?`. Standard input is empty.
 pub fn ends(
-    rt: &(impl Abort + Files<File = File> + AllocGlobal + Threads + Wait + Sync),
+    rt: &(impl Abort
+        + Files<File = File>
+        + AllocGlobal
+        + Threads
+        + Wait
+        + Process
+        + Copy
+        + Send
+        + Sync
+        + 'static),
     words: &[&str],
     status: u8,
     printed: &str,
@@ -47,7 +57,16 @@ pub fn ends(
 
 /// The same with this standard input.
 pub fn ends_on(
-    rt: &(impl Abort + Files<File = File> + AllocGlobal + Threads + Wait + Sync),
+    rt: &(impl Abort
+        + Files<File = File>
+        + AllocGlobal
+        + Threads
+        + Wait
+        + Process
+        + Copy
+        + Send
+        + Sync
+        + 'static),
     words: &[&str],
     input: &[u8],
     (status, printed, told): (u8, &str, &str),
@@ -166,6 +185,7 @@ const ANSWERED: &[(&[&str], &str)] = &[
     (&["node", "id", "--help"], "Print the identifier.."),
     (&["node", "check", "--help"], "Say whether.."),
     (&["node", "show", "--help"], "Print what a transaction.."),
+    (&["node", "serve", "--help"], "Stay.."),
     (&["node", "--version"], "node 0.1.0\n"),
 ];
 
@@ -224,7 +244,16 @@ pub fn write_file(
 
 /// The script of a file is run under the genesis of another, with this status, and this is printed and told.
 fn runs(
-    rt: &(impl Abort + Files<File = File> + AllocGlobal + Threads + Wait + Sync),
+    rt: &(impl Abort
+        + Files<File = File>
+        + AllocGlobal
+        + Threads
+        + Wait
+        + Process
+        + Copy
+        + Send
+        + Sync
+        + 'static),
     genesis: &str,
     script: &str,
     (status, printed, told): (u8, &str, &str),
@@ -362,7 +391,16 @@ fn scripts_of_files(rt: HostRuntime) {
 
 /// These words end with status 1 where standard output takes nothing, and that is told.
 fn fails_to_write(
-    rt: &(impl Abort + Files<File = File> + AllocGlobal + Threads + Wait + Sync),
+    rt: &(impl Abort
+        + Files<File = File>
+        + AllocGlobal
+        + Threads
+        + Wait
+        + Process
+        + Copy
+        + Send
+        + Sync
+        + 'static),
     words: &[&str],
 ) {
     let words = words_of(rt, words);
