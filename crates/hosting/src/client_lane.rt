@@ -80,7 +80,7 @@ fn answer<S: SigScheme, B: Room, I: BufRead, O: Write + Drop, R: Wait>(
     }
 }
 
-/// Answers one client after the other on a lane of files, as long as it is opened again.
+/// Answers one client after the other on a lane of files, as long as it is opened again, also after one who broke off.
 fn answer_all<S: SigScheme, B: Room, R: Wait>(
     rt: &R,
     floor: &Floor<S, B>,
@@ -110,8 +110,9 @@ fn answer_all<S: SigScheme, B: Room, R: Wait>(
             writer,
         );
         caller = left.caller;
-        before = Some(reader);
-        let ends = !left.has_ended || floor.until_closed || floor.news.is_ending(rt);
+        // What a client who broke off had asked besides is gone with its stream.
+        before = if left.has_ended { Some(reader) } else { None };
+        let ends = floor.until_closed || floor.news.is_ending(rt);
         if ends || !is_reopened(&floor.system, input) {
             break 'clients;
         }
@@ -133,7 +134,7 @@ fn answer_standard<S: SigScheme, B: Room, R: Wait>(rt: &R, floor: &Floor<S, B>, 
     }
 }
 
-/// What the thread of a client's lane does. A lane that can't be opened, read or written ends alone.
+/// What the thread of a client's lane does. A lane that can't be opened ends alone.
 pub fn run_client<S: SigScheme, B: Room, R: Wait>(
     rt: &R,
     floor: &Floor<S, B>,

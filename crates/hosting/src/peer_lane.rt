@@ -59,7 +59,7 @@ fn send_all<M: Mailroom, R: Wait, I: BufRead>(
     unreachable!()
 }
 
-/// Opens the lane and sends what is on it. Answers whether it ended by itself.
+/// Opens the stream and sends what is on it, until it ends or breaks. Answers whether it could be opened.
 fn take_all<M: Mailroom, R: Wait>(
     rt: &R,
     alloc: Global,
@@ -74,10 +74,11 @@ fn take_all<M: Mailroom, R: Wait>(
     let Ok(mut reader) = BufReader::new(alloc, input) else {
         return false;
     };
-    send_all(rt, alloc, news, end, lane.framing, &mut reader).is_ok()
+    let _end = send_all(rt, alloc, news, end, lane.framing, &mut reader);
+    true
 }
 
-/// What the thread of a peer's lane does. A lane that can't be opened or read ends alone.
+/// What the thread of a peer's stream does. A stream that can't be opened ends alone.
 pub fn run_peer<S: SigScheme, B: Room, M: Mailroom, R: Wait>(
     rt: &R,
     floor: &Floor<S, B>,
@@ -86,8 +87,8 @@ pub fn run_peer<S: SigScheme, B: Room, M: Mailroom, R: Wait>(
 ) {
     let news = &*floor.news;
     'peers: for _ in rt.forever() {
-        let has_ended = take_all(rt, floor.alloc, news, &floor.system, &mut end, lane);
-        let ends = !has_ended || floor.until_closed || news.is_ending(rt);
+        let is_open = take_all(rt, floor.alloc, news, &floor.system, &mut end, lane);
+        let ends = !is_open || floor.until_closed || news.is_ending(rt);
         if ends || !is_reopened(&floor.system, &lane.input) {
             break 'peers;
         }
