@@ -95,8 +95,9 @@ fn serve_on_none<
     Ok(())
 }
 
-/// Runs a node under this genesis, on the log that is named or on none, until a client asks it to stop, or nobody is left
-/// who could send a block or ask for something and it is to end then. Blocks that are on the log are there when this begins again.
+/// Runs a node under this genesis, on the log that is named or on none, until a client asks it to stop, or nobody is
+/// left who could send a block or ask for something and it is to end then. Blocks that are on the log are there when
+/// this begins again.
 pub fn serve<
     'a,
     S: SigScheme + Send + Sync + 'static,

@@ -407,10 +407,10 @@ fn run_alone<
 
 /// Runs a node on a core that was opened for as many callers as the plan says, on the blocks of this log, until a
 /// client asks it to stop or, where the plan says so, nobody is left who could send a block or ask for something. Each
-/// lane has a thread of its own, and what goes wrong on it ends it alone; one thread brings what peers send, and this one
-/// puts onto the log what no rollback reaches any more, whenever the chain grows or a client asks for it. In the end what
-/// then stands in the inbox is brought, all that is immutable is flushed, and clients who wait are told that the node ends. Threads
-/// that still read a lane are left to themselves: they end with the process.
+/// lane has a thread of its own, and what goes wrong on it ends it alone; one thread brings what peers send, and this
+/// one puts onto the log what no rollback reaches any more, whenever the chain grows or a client asks for it. In the
+/// end what then stands in the inbox is brought, all that is immutable is flushed, and clients who wait are told that
+/// the node ends. Threads that still read a lane are left to themselves: they end with the process.
 ///
 /// Err `LogFault` where the log's disk failed, and `OutOfMemory` where memory ran out or a thread couldn't be started.
 pub fn host_on_log<
@@ -427,13 +427,13 @@ pub fn host_on_log<
     requires { texts_of opened.start.opened ≡ log.old.blocks }
     // Whatever it answers, the log keeps what it had.
     ensures stay { Begins log.old.blocks log.new.blocks }
-    // At Ok it has all that no rollback reaches after some legal journal of a core's calls. That these are the calls that
-    // the node's threads made no clause says: a node that does nothing would keep to it.
+    // At Ok it has all that no rollback reaches after some legal journal of a core's calls. That these are the calls
+    // that the node's threads made no clause says: a node that does nothing would keep to it.
     ensures all { OnOk result ((journal : Journal)
         × AreImmutableAfter (network_from opened.start S.verifies) journal log.new.blocks) }
     ensures sound { OnOk result (log.new.broken ≡ false) }
-    // A log that wasn't broken is kept through it: it wasn't touched, or after some such journal it has the first of these
-    // blocks, and so does what a crash leaves at any moment since it was called, with all that it had.
+    // A log that wasn't broken is kept through it: it wasn't touched, or after some such journal it has the first of
+    // these blocks, and so does what a crash leaves at any moment since it was called, with all that it had.
     ensures keeps { log.old.broken ≡ false → (log.new ≡ log.old) ⊎ ((journal : Journal)
         × IsKept (network_from opened.start S.verifies) journal log.old.blocks log.new.blocks
         (D.past log.old.disk) (D.past log.new.disk) (D.moment log.new.disk)) }

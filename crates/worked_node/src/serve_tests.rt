@@ -164,8 +164,8 @@ fn streams_that_cannot_be_opened(rt: HostRuntime) {
     remove(&rt, &folder);
 }
 
-/// Command lines of a node that are refused: one without a genesis, a lane of one path, too few workers and too many, an
-/// option of other commands, and nine peers.
+/// Command lines of a node that are refused: one without a genesis, a lane of one path, too few workers and too many,
+/// an option of other commands, and nine peers.
 const REFUSED: &[&[&str]] = &[
     &["node", "serve"],
     &["node", "serve", "--genesis", "g", "--lane", "ask"],
