@@ -22,7 +22,7 @@ use Rattle.followers.specs.declared.fault.UnknownFollower.{UnknownFollower}
 use Rattle.followers.specs.declared.place.Place.{Place}
 use Rattle.followers.specs.declared.place.Due as code
 use Rattle.followers.specs.declared.place.Due.TheVariants.{Add, RollBack}
-use Rattle.followers.specs.Places.{Places, standing, due_of, place_after}
+use Rattle.followers.specs.Places.{Places, open_count, standing, due_of, place_after}
 use Rattle.followers.specs.Calls.{IsOpened, IsOpenFault, IsMovedOn, IsForwarded, IsClosed}
 use Rattle.followers.specs.Standing.{ArePlacesOf, IsDueOf}
 use Rattle.followers.proofs.ForCallers.{the_lengths}
@@ -49,6 +49,17 @@ none_open places id false says is = by_place (follower_of places id) refl
     by_place : (o : Option Place) → follower_of places id ≡ o → follower_of places id ≡ None
     by_place None none = none
     by_place (Some place) some = absurd (let e : false ≡ true = says.1 (place, some) in cc)
+
+-- as many are open
+pub as_many_open : (selected : List Block) (places : Places) (fs : Followers) → ArePlacesOf selected places fs → open_count places ≡ open_count fs
+as_many_open selected [] [] are = refl
+as_many_open selected (None ∷ places) (None ∷ fs) are = as_many_open selected places fs are
+as_many_open selected (Some place ∷ places) (Some f ∷ fs) are = ap suc (as_many_open selected places fs are.1)
+as_many_open selected [] (f ∷ fs) are = absurd are
+as_many_open selected (None ∷ places) [] are = absurd are
+as_many_open selected (Some place ∷ places) [] are = absurd are
+as_many_open selected (None ∷ places) (Some f ∷ fs) are = absurd are
+as_many_open selected (Some place ∷ places) (None ∷ fs) are = absurd are
 
 -- what the test says of the place of a number it says of the follower
 pub open_beside : (selected : List Block) (places : Places) (fs : Followers) (id : ℕ) (answer : Bool) → ArePlacesOf selected places fs → IsTrue answer ↔ ((place : Place) × (follower_of places id ≡ Some place)) → IsTrue answer ↔ ((f : Follower) × (follower_of fs id ≡ Some f))

@@ -13,6 +13,7 @@ use Rattle.model.specs.Mempool.{utxo_after_all, passed, utxo_of, next_slot, reva
 use Rattle.model.specs.Explaining.{Detail, IsDetail}
 use Rattle.model.specs.History.{State}
 use Rattle.model.specs.Asked.{ExplainsSubmission}
+use Rattle.model.specs.Evaluating.{Evaluation, Evaluates, IsEvaluation}
 use Rattle.model.proofs.MempoolSteps.{up_to_date, nothing_valid, submitted_valid}
 use Rattle.mempool.specs.Contents.{Mempool, Waiting}
 use Rattle.mempool.specs.Calls.{resynced_on, IsSubmission, IsWantFor, ExplainsBytes}
@@ -107,6 +108,20 @@ module _ (network : Network) (chain : List Block) (state : LedgerState) (is : Is
             ),
           ),
         )
+
+  -- what bytes would be answered by it at a slot, they would be answered beside the chain
+  pub evaluated : (mempool : Mempool) → IsMempoolOf network chain mempool → (params : Params) → params ≡ state.params → (slot : ℕ) (bytes : List ℕ) (s : State) → chain ≡ s.chain → mempool.waiting.txs ≡ s.mempool
+      → (evaluation : Evaluation) → Evaluates network.verifies params slot mempool.waiting.unspent mempool.capacity mempool.waiting.txs bytes evaluation → IsEvaluation network s slot bytes evaluation
+  evaluated mempool of params params_is slot bytes s chain_is txs_is evaluation told =
+      let v = network.verifies in
+      let utxo = state.ledger.utxo in (
+        utxo,
+        subst (λ (c : List Block). utxo_of network c ≡ Some utxo) chain_is outputs_are,
+        subst (λ (n : ℕ). Evaluates v network.genesis.params slot (utxo_after_all utxo s.mempool) n s.mempool bytes evaluation) of.capacity
+            (subst (λ (ts : List Transaction). Evaluates v network.genesis.params slot (utxo_after_all utxo ts) mempool.capacity ts bytes evaluation) txs_is
+            (subst (λ (u : Utxo). Evaluates v network.genesis.params slot u mempool.capacity mempool.waiting.txs bytes evaluation) (of.unspent utxo outputs_are)
+            (subst (λ (p : Params). Evaluates v p slot mempool.waiting.unspent mempool.capacity mempool.waiting.txs bytes evaluation) (params_is ∙ is.params) told))),
+      )
 
 -- a mempool that was brought up to date with another chain is that chain's
 pub mempool_resynced : (network : Network) (chain : List Block) (old new : Mempool) (waiting : Waiting) → old.capacity ≡ network.genesis.max_mempool → IsResynced network chain old.waiting.txs waiting

@@ -17,3 +17,4 @@ pub mod ChainSoFar
 pub mod ReopeningInside
 pub mod Asking
 pub mod Ways
+pub mod Census

@@ -7,7 +7,9 @@ ghost use Rattle.model.specs.Block.{block_hash_of};
 ghost use Rattle.model.specs.History.{State, live_of, IsFullFor};
 ghost use Rattle.model.specs.Chain.{NoneHas};
 ghost use Rattle.model.specs.Asked.{IsPlaceOf, IsTxPlaceOf, IsWhyOf, Beside, AreUnconnected, ExplainsSubmission};
-ghost use Rattle.tx.specs.Bare.{BeginsLikeTransaction};
+ghost use Rattle.model.specs.Evaluating.{IsEvaluation};
+ghost use Rattle.mempool.specs.Calls.{IsWantAtSubmission};
+ghost use Rattle.mempool.specs.View.{evaluation_of};
 ghost use Rattle.utxo_rules.specs.DetailView.{detail_of};
 ghost use Rattle.chain_core.specs.Asking.{place_of, tx_place_of};
 ghost use Rattle.chain_core.specs.Ways.{why_of};
@@ -21,6 +23,7 @@ use crate::why::{Why, why_in};
 use block::{Block, CheckedBlock};
 use blockstore::Unconnected;
 use ident::{BlockHash, TxId};
+use mempool::Evaluation;
 use std::alloc::AllocError;
 use std::slice::Iter;
 use utxo_rules::Detail;
@@ -139,7 +142,8 @@ impl<S: SigScheme> Core<S> {
     /// Why these bytes would be refused if they were submitted: the reason against the transaction, with what it is
     /// about. None where [`Core::submit`] would refuse them for no reason: they are no transaction, it waits already,
     /// or there is nothing against it. Changes nothing. Linear in the bytes, with a look-up of the identifier and what
-    /// [`utxo_rules::explain`] takes. Err where memory runs out.
+    /// [`utxo_rules::explain`] takes; only where none of the reasons 1 to 7 applies, signatures are verified. Err where
+    /// memory runs out.
     ///
     /// ```text
     /// if let SubmitReply::Refused(reason) = core.submit(&bytes)? {
@@ -151,9 +155,29 @@ impl<S: SigScheme> Core<S> {
     pub fn explain_submission(&self, bytes: &[u8]) -> Result<Option<Detail>, AllocError>
         ensures told { IfOk result (λ told. (s : State) → Stands self.now s →
             ExplainsSubmission (network_held self.now S.verifies) s bytes.now (option_map detail_of told)) }
-        // Memory is asked for only where the bytes begin as a transaction does.
-        ensures memory { OnErr result (BeginsLikeTransaction bytes.now) }
+        // Memory is asked for only where the bytes begin as a transaction does, and not at one without parts.
+        ensures memory { OnErr result (IsWantAtSubmission bytes.now) }
     {
         self.chain_db.explain(bytes)
+    }
+
+    /// What these bytes would be answered if they were submitted, judged at this slot: the reply, and of a refusal what
+    /// it is about. At the slot after the tip's it is what [`Core::submit`] answers. Changes nothing. Costs what
+    /// [`Core::explain_submission`] does. Err where memory runs out.
+    ///
+    /// ```text
+    /// match core.evaluate(slot, &bytes)? {
+    ///     Evaluation::Acceptable => println!(rt; "valid in slot {slot}")?,
+    ///     Evaluation::Refused(detail) => println!(rt; "{detail}")?,
+    ///     Evaluation::Malformed | Evaluation::Known | Evaluation::Full => ..,
+    /// }
+    /// ```
+    pub fn evaluate(&self, slot: u64, bytes: &[u8]) -> Result<Evaluation, AllocError>
+        ensures told { IfOk result (λ told. (s : State) → Stands self.now s →
+            IsEvaluation (network_held self.now S.verifies) s slot bytes.now (evaluation_of told)) }
+        // Memory is asked for only where the bytes begin as a transaction does, and not at one without parts.
+        ensures memory { OnErr result (IsWantAtSubmission bytes.now) }
+    {
+        self.chain_db.evaluate(slot, bytes)
     }
 }

@@ -7,16 +7,16 @@ ghost use Rattle.std.specs.Option.{option_map};
 ghost use Rattle.model.specs.Genesis.{Genesis};
 ghost use Rattle.model.specs.Cbor.{text_of};
 ghost use Rattle.model.specs.Transaction.{Transaction, SpellsTransaction, item_of_transaction};
-ghost use Rattle.tx.specs.Bare.{BeginsLikeTransaction};
 ghost use Rattle.utxo_rules.specs.DetailView.{detail_of};
 ghost use Rattle.mempool.specs.Calls.{IsWantAtSubmission};
-ghost use Rattle.mempool.specs.View.{reply_of};
+ghost use Rattle.mempool.specs.View.{reply_of, evaluation_of};
 ghost use Rattle.model.specs.Block.{Block, SpellsBlock, block_text, block_hash_of};
 ghost use Rattle.model.specs.Ledger.{Network, network_on};
 ghost use Rattle.model.specs.Chain.{immutable_length};
 ghost use Rattle.model.specs.Applying.{IsStateOf};
 ghost use Rattle.model.specs.History.{State, HasBeside};
 ghost use Rattle.model.specs.Asked.{ExplainsSubmission};
+ghost use Rattle.model.specs.Evaluating.{IsEvaluation};
 ghost use Rattle.blockstore.specs.Stored.{IsSet, blocks_of};
 ghost use Rattle.blockstore.specs.Insertion.{IsFull};
 ghost use Rattle.chainsel.specs.Ready.{IsReady};
@@ -37,7 +37,7 @@ use genesis::Genesis;
 use ident::BlockHash;
 use ledger::LedgerState;
 use ledgerdb::LedgerDb;
-use mempool::{Mempool, Resynced, SubmitReply};
+use mempool::{Evaluation, Mempool, Resynced, SubmitReply};
 use std::alloc::{AllocError, Global};
 use std::collections::BTreeMap;
 use utxo_rules::Detail;
@@ -391,10 +391,22 @@ impl<S: SigScheme> ChainDb<S> {
             IsWhole (network_on genesis S.verifies opened) self.now →
             HasState (network_on genesis S.verifies opened) self.now s → self.now.mempool.waiting.txs ≡ s.mempool →
             ExplainsSubmission (network_on genesis S.verifies opened) s bytes.now (option_map detail_of told)) }
-        ensures memory { OnErr result (BeginsLikeTransaction bytes.now) }
+        ensures memory { OnErr result (IsWantAtSubmission bytes.now) }
     {
         let state = self.db.state();
         self.mempool
             .explain(state.params(), state.slot() + 1, bytes)
+    }
+
+    /// What these bytes would be answered at this slot if they were submitted, with what the reason is about.
+    pub fn evaluate(&self, slot: u64, bytes: &[u8]) -> Result<Evaluation, AllocError>
+        ensures told { IfOk result (λ told. (genesis : Genesis) (opened : List Block) (s : State) →
+            IsWhole (network_on genesis S.verifies opened) self.now →
+            HasState (network_on genesis S.verifies opened) self.now s → self.now.mempool.waiting.txs ≡ s.mempool →
+            IsEvaluation (network_on genesis S.verifies opened) s slot bytes.now (evaluation_of told)) }
+        ensures memory { OnErr result (IsWantAtSubmission bytes.now) }
+    {
+        let state = self.db.state();
+        self.mempool.evaluate(state.params(), slot, bytes)
     }
 }

@@ -4,6 +4,7 @@
 
 mod arrival;
 mod asking;
+mod census;
 mod chain_db;
 mod discarding;
 mod event;
@@ -23,6 +24,7 @@ mod why;
 
 pub use arrival::ArriveReply;
 pub use blockstore::Unconnected;
+pub use census::Census;
 pub use discarding::NotBeside;
 pub use event::{RawEvent, Reply};
 pub use finding::Place;

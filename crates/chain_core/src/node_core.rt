@@ -42,7 +42,7 @@ pub struct Core<S: SigScheme> {
     pub(crate) alloc: Global,
     pub(crate) genesis: Genesis,
     pub(crate) chain_db: ChainDb<S>,
-    followers: Followers,
+    pub(crate) followers: Followers,
 }
 
 // By hand, so that each exit calls it: the derived one is copied to each exit of each owner.

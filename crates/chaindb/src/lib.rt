@@ -38,7 +38,7 @@ pub use chain_core::{
 pub use genesis::{Genesis, GenesisDocument, GenesisFault, Grant, Scheme, SecondEra};
 pub use ident::{BlockHash, KeyHash, Point, ScriptHash, TxId};
 pub use ledger::BlockFault;
-pub use mempool::{Mempool, SubmitReply};
+pub use mempool::{Evaluation, Mempool, SubmitReply};
 pub use utxo_rules::{Detail, Reason, Utxo};
 pub use watching::{History, HistoryEntries, Holder, Inclusion, Watch, WatchFault, Which};
 pub use witness_pool::{

@@ -1,11 +1,11 @@
 -- The subcommand that was found, from its name and its rows.
-use Rattle.std.proofs.Common.{◌≡◌, true, codes, List, Option, Some, None, option_map, Result, Ok, Err, refl, rules}
+use Rattle.std.proofs.Common.{◌≡◌, ℕ, true, codes, List, Option, Some, None, option_map, Result, Ok, Err, refl, rules}
 use Rattle.std.specs.Prelude.{bytes_eq, IfSome, IfOk}
 use Rattle.std.proofs.lemmas.Slice.Eq.{bytes_eq-Decides}
-use Rattle.clap.specs.Words.{Text, Row, first_of}
+use Rattle.clap.specs.Words.{Text, Row, TriesOne, first_of}
 use Rattle.commands.specs.declared.jobs.Job.{Job}
 use Rattle.commands.specs.declared.jobs.Job.TheVariants.{Id, Show, ShowLog, Under}
-use Rattle.commands.specs.JobView.{IsLogJob, IsShowJob}
+use Rattle.commands.specs.JobView.{IsLogJob, IsShowJob, IsNumberOf, IsOptionalNumber}
 
 pub name_and_rows : {B : Type 0} (name : B → Text) (rows : B → List Row) (found : Option B) (n m : Text) (r : List Row) → n ≡ m → Some n ≡ option_map name found
     → Some r ≡ option_map (λ (p : Text × List Row). p.1) (option_map {U = Text × List Row} (λ b. (name b, rows b)) found) → option_map {U = Text × List Row} (λ b. (name b, rows b)) found ≡ Some (m, r)
@@ -30,6 +30,17 @@ ok_weaker P Q (Err e) weaker holds = tt
 pub there : {P : Text → Type 0} {N : Type 0} (text : Option Text) (n : N) → (text ≡ None → Some n ≡ None) → ((t : Text) → text ≡ Some t → P t) → (t : Text) × (text ≡ Some t) × P t
 there None n some known = let bad : Some n ≡ None = some refl in cc
 there (Some t) n some known = (t, refl, known t refl)
+
+-- what was read, without a fault
+abbrev ok_of : (E : Type 0) → Option ℕ → Result (Option ℕ) E
+ok_of E read = Ok read
+
+-- a number that was read, where a text is there
+pub optional : {E : Type 0} (gives : List ℕ → Result ℕ E → Type 0) (text : Option Text) (read : Option ℕ) → (text ≡ None → ok_of E read ≡ ok_of E None) → ((t : Text) → text ≡ Some t → TriesOne gives t (Ok read))
+    → ((t : Text) (n : ℕ) → gives t (Ok n) → IsNumberOf t n) → IsOptionalNumber text read
+optional gives None read none some more = let same = none refl in cc
+optional gives (Some t) None none some more = some t refl
+optional gives (Some t) (Some n) none some more = more t n (some t refl)
 
 -- a log that is asked about is one that is shown
 pub log_shown : (rows : List Row) → first_of (codes "kind") rows ≡ Some (codes "log") → (job : Job) → IsLogJob rows job → IsShowJob rows job

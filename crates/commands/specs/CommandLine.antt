@@ -86,13 +86,17 @@ form_app = with_rule (with_rule (with_rule (new_app (codes "show")) kind_rule) s
 abbrev pub show_app : App
 show_app = with_text form_app
 
--- the command `check` with its three options that are files, and with its text
+-- the command `check` with its three options that are files, with the slot, and with its text
 abbrev pub base_app : App
 base_app = with_rule (with_rule (with_rule (new_app (codes "check")) (required_rule (codes "genesis")))
     (option_rule (codes "log"))) (option_rule (codes "script"))
 
+-- the option with the slot in which it is judged
+abbrev pub slot_rule : Rule
+slot_rule = record (option_rule (codes "slot")) { parser = Some (Unsigned 0 18446744073709551615) }
+
 abbrev pub check_app : App
-check_app = with_text base_app
+check_app = with_text (with_rule base_app slot_rule)
 
 -- ---- all of them
 

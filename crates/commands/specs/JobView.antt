@@ -35,6 +35,12 @@ pub record IsRun (rows : List Row) (genesis script : Text) (log : Option Text) (
 abbrev pub IsNumberOf : Text → ℕ → Type 0
 IsNumberOf text n = IsNumeral 10 (without_leading_plus text) × (n ≡ digits_value 10 (without_leading_plus text))
 
+-- none where there is no text, and else its number
+abbrev pub IsOptionalNumber : Option Text → Option ℕ → Type 0
+IsOptionalNumber None n = n ≡ None
+IsOptionalNumber (Some text) None = ⊥
+IsOptionalNumber (Some text) (Some n) = IsNumberOf text n
+
 -- those of `sim`
 pub record IsSim (rows : List Row) (genesis script : Text) (clients : ℕ) (discard : Bool) : Type 0 where
   pub genesis_is : first_of (codes "genesis") rows ≡ Some genesis
@@ -96,10 +102,12 @@ pub record IsLogShown (rows : List Row) (source : Source) : Type 0 where
   pub file_is : file_of source ≡ file_in (first_of (codes "file") rows)
 
 -- those of `check`
-pub record IsCheck (rows : List Row) (genesis : Text) (log script : Option Text) (text : TextAt) : Type 0 where
+pub record IsCheck (rows : List Row) (genesis : Text) (log script : Option Text) (slot : Option ℕ) (text : TextAt)
+    : Type 0 where
   pub genesis_is : first_of (codes "genesis") rows ≡ Some genesis
   pub log_is : first_of (codes "log") rows ≡ log
   pub script_is : first_of (codes "script") rows ≡ script
+  pub slot_is : IsOptionalNumber (one_of (codes "slot") rows) slot
   pub text_is : IsTextAt rows text
 
 -- ---- jobs
@@ -134,8 +142,8 @@ IsLogJob rows (ShowLog source) = (form_in rows ≡ Lines) × (file_of source ≡
 IsLogJob rows job = ⊥
 
 abbrev pub IsCheckJob : List Row → Job → Type 0
-IsCheckJob rows (Under genesis (Check base text)) =
-    IsCheck rows genesis.now (option_map (λ path. path.now) base.log) (option_map (λ path. path.now) base.script) text
+IsCheckJob rows (Under genesis (Check base slot text)) = IsCheck rows genesis.now
+    (option_map (λ path. path.now) base.log) (option_map (λ path. path.now) base.script) slot text
 IsCheckJob rows job = ⊥
 
 -- the job is the subcommand that was found, with its paths, but for `serve`

@@ -24,8 +24,8 @@ abbrev pub workers_rule : Rule
 workers_rule = record (option_rule (codes "workers")) { parser = Some (Unsigned 1 16); defaults = codes "4" ∷ [] }
 
 abbrev pub serve_files_app : App
-serve_files_app =
-    with_rule (with_rule (new_app (codes "serve")) (required_rule (codes "genesis"))) (option_rule (codes "log"))
+serve_files_app = with_rule (with_rule (with_rule (new_app (codes "serve")) (required_rule (codes "genesis")))
+    (option_rule (codes "log"))) (option_rule (codes "metrics"))
 
 abbrev pub lanes_app : App
 lanes_app = with_rule (with_rule serve_files_app (lanes_rule (codes "lane"))) (lanes_rule (codes "peer"))
@@ -46,6 +46,7 @@ given_texts given = unwrap_or given []
 pub record IsServe (rows : List Row) (genesis : Text) (serving : Serving) : Type 0 where
   pub genesis_is : first_of (codes "genesis") rows ≡ Some genesis
   pub log_is : first_of (codes "log") rows ≡ option_map (λ path. path.now) serving.log
+  pub metrics_is : first_of (codes "metrics") rows ≡ option_map (λ path. path.now) serving.metrics
   pub lanes_are : given_texts (all_of (codes "lane") rows) ≡ map (λ lane. lane.now) serving.lanes.items
   pub peers_are : given_texts (all_of (codes "peer") rows) ≡ map (λ path. path.now) serving.peers.items
   pub binary_is : is_given (first_of (codes "binary") rows) ≡ serving.is_binary

@@ -6,7 +6,8 @@ ghost use Rattle.clap.specs.declared.builder.command.Command.TheViews.{out-Comma
 ghost use Rattle.commands.specs.CommandLine.{option_rule, required_rule, clients_rule, explain_rule, discard_rule};
 ghost use Rattle.commands.specs.CommandLine.{on_script, files_app, run_app, clients_app, sim_app, replay_app, bare_app};
 ghost use Rattle.commands.specs.CommandLine.{script_app, short_app, placed_rule, kind_rule, binary_rule, with_text};
-ghost use Rattle.commands.specs.CommandLine.{id_app, base_app, check_app, log_app, scheme_rule, json_rule, form_app};
+ghost use Rattle.commands.specs.CommandLine.{id_app, base_app, check_app, log_app, slot_rule, scheme_rule, json_rule};
+ghost use Rattle.commands.specs.CommandLine.{form_app};
 ghost use Rattle.commands.specs.CommandLine.{show_app, text_app};
 ghost use Rattle.commands.specs.JobView.{is_given, file_in, file_of, form_in, IsTextAt, IsLogJob, IsShortJobOf};
 ghost use Rattle.commands.specs.JobView.{IsRunJob, IsSimJob, IsReplayJob, IsIdJob, IsCheckJob, IsShowJob};
@@ -264,12 +265,25 @@ fn base_command<'a>(alloc: Global) -> Result<Command<'a>, AllocError>
         ))
 }
 
+/// The option with a slot.
+fn slot_option<'a>(alloc: Global) -> Arg<'a>
+    ensures rule { rule_of result ≡ slot_rule }
+    ensures local { result.global ≡ false }
+{
+    Arg::new(alloc, "slot")
+        .long("slot")
+        .action(ArgAction::Set)
+        .value_name("N")
+        .help("The slot in which it is judged; that after the last block's where it isn't given")
+        .value_parser(ValueParser::unsigned(0, u64::MAX))
+}
+
 /// The command `check`.
 fn check_command<'a>(alloc: Global) -> Result<Command<'a>, AllocError>
     ensures app { IfOk result (λ c. app_of c ≡ check_app) }
     ensures local { IfOk result (λ c. (out-Command c).has_globals ≡ false) }
 {
-    let command = base_command(alloc)?;
+    let command = base_command(alloc)?.arg(slot_option(alloc))?;
     with_text(alloc, command)
 }
 
@@ -481,13 +495,16 @@ fn check_job<'a>(found: &ArgMatches<'a>) -> Option<Job<'a>>
     let after_log = found.get_str("log");
     let after_script = found.get_str("script");
     let text = text_at(found);
+    let Ok(slot) = found.try_get_one::<u64>("slot") else {
+        return None;
+    };
     let base = Base {
         log: after_log,
         script: after_script,
     };
     Some(Job::Under {
         genesis,
-        task: Task::Check { base, text },
+        task: Task::Check { base, slot, text },
     })
 }
 

@@ -44,6 +44,9 @@ pub enum Failure<'a> {
     /// The log's block of this number is none, or can't come after those before it.
     #[error("log: invalid block {0}")]
     InvalidBlock(u64),
+    /// What a node counts can't be written to the file of this path, or something else stands there.
+    #[error("cannot write figures to {0}, or something else stands there")]
+    Metrics(&'a str),
     /// The disk of the log failed.
     #[error("log: disk fault")]
     DiskFault,

@@ -83,6 +83,8 @@ pub struct Serving<'a> {
     pub until_closed: bool,
     /// How many threads check the signatures of a block.
     pub workers: Workers,
+    /// The file in which what the node counts is written down, if it is to be.
+    pub metrics: Option<&'a str>,
 }
 
 /// What is done under a genesis.
@@ -112,9 +114,10 @@ pub enum Task<'a> {
     ShowGenesis {
         form: Form,
     },
-    /// Tell whether the transaction that stands there is valid, after this.
+    /// Tell whether the transaction that stands there is valid, after this, and in this slot or that after the tip's.
     Check {
         base: Base<'a>,
+        slot: Option<u64>,
         text: TextAt<'a>,
     },
 }

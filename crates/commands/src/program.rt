@@ -92,8 +92,8 @@ fn do_by<
         Task::ShowGenesis { form } => {
             unasked(print_genesis(rt.alloc(), *form, &document.genesis, out))
         }
-        Task::Check { base, text } => {
-            asked(check::<S, _, _, _>(rt, &document, *base, *text, input, out))
+        Task::Check { base, slot, text } => {
+            asked(check::<S, _, _, _>(rt, &document, *base, *slot, *text, input, out))
         }
     }
 }

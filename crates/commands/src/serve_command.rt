@@ -67,6 +67,11 @@ fn serve_files_command<'a>(alloc: Global) -> Result<Command<'a>, AllocError>
             alloc,
             "log",
             "The blocks that are kept, from this run on or before",
+        ))?
+        .arg(path_option(
+            alloc,
+            "metrics",
+            "Where what the node counts is written each second, for Prometheus to read",
         ))
 }
 
@@ -133,6 +138,7 @@ pub fn serve_job<'a>(alloc: Global, found: &ArgMatches<'a>) -> Result<Option<Job
         return Ok(None);
     };
     let log = found.get_str("log");
+    let metrics = found.get_str("metrics");
     let lanes = texts_of(alloc, found, "lane")?;
     let peers = texts_of(alloc, found, "peer")?;
     let Some(many) = found.get_one::<usize>("workers") else {
@@ -157,6 +163,7 @@ pub fn serve_job<'a>(alloc: Global, found: &ArgMatches<'a>) -> Result<Option<Job
             stdio,
             until_closed,
             workers,
+            metrics,
         }),
     }))
 }

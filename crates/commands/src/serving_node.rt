@@ -8,7 +8,7 @@ use crate::jobs::Serving;
 use crate::log_file::log_of_file;
 use crate::log_runs::restart_of;
 use genesis::{Genesis, GenesisDocument};
-use hosting::{ClientLane, PeerLane, Plan, Process, host, host_on_log};
+use hosting::{ClientLane, PeerLane, Plan, Process, begin_figures, host, host_on_log};
 use peering::Framing;
 use reception::{Places, WhenFull};
 use shared::Opened;
@@ -58,6 +58,14 @@ fn peer_lanes(alloc: Global, serving: &Serving<'_>) -> Result<Vec<PeerLane>, All
     Ok(lanes)
 }
 
+/// Where what the node counts is written down, if it is to be.
+fn metrics_path(alloc: Global, serving: &Serving<'_>) -> Result<Option<String>, AllocError> {
+    match serving.metrics {
+        Some(path) => Ok(Some(String::from_str(alloc, path)?)),
+        None => Ok(None),
+    }
+}
+
 /// What the node is started with. Where blocks have no place, those that no way leads to are discarded.
 fn plan_of(alloc: Global, genesis: &Genesis, serving: &Serving<'_>) -> Result<Plan, AllocError> {
     Ok(Plan {
@@ -67,7 +75,20 @@ fn plan_of(alloc: Global, genesis: &Genesis, serving: &Serving<'_>) -> Result<Pl
         until_closed: serving.until_closed,
         when_full: WhenFull::Discard,
         places: Places::of(genesis),
+        metrics: metrics_path(alloc, serving)?,
     })
+}
+
+/// Makes the file for what the node counts, where one is named: what can't be written is told before the node begins.
+fn begin_metrics<'a, R: Process>(rt: &R, serving: &Serving<'a>) -> Result<(), Failure<'a>> {
+    let Some(path) = serving.metrics else {
+        return Ok(());
+    };
+    if begin_figures(&rt.system(), path)? {
+        Ok(())
+    } else {
+        Err(Failure::Metrics(path))
+    }
 }
 
 /// Runs a node on the log of a file, which is made where it is missing.
@@ -75,9 +96,17 @@ fn serve_on_log<
     'a,
     S: SigScheme + Send + Sync + 'static,
     R: Files<File = File> + AllocGlobal + Threads + Wait + Process + Copy + Send + Sync + 'static,
->(rt: &R, genesis: &Genesis, log: &'a str, plan: Plan) -> Result<(), Failure<'a>> {
+>(
+    rt: &R,
+    genesis: &Genesis,
+    serving: &Serving<'a>,
+    log: &'a str,
+    plan: Plan,
+) -> Result<(), Failure<'a>> {
     let mut restart = restart_of::<S>(rt.alloc(), genesis)?;
     let mut log = log_of_file(rt, log, true, &mut restart)?;
+    // Not before the log is there and held: so no figures come into its place.
+    begin_metrics(rt, serving)?;
     let opened = restart.shared(plan.callers())?;
     host_on_log(rt, rt.system(), opened, &mut log, plan)?;
     Ok(())
@@ -88,7 +117,8 @@ fn serve_on_none<
     'a,
     S: SigScheme + Send + Sync + 'static,
     R: Files<File = File> + AllocGlobal + Threads + Wait + Process + Copy + Send + Sync + 'static,
->(rt: &R, genesis: &Genesis, plan: Plan) -> Result<(), Failure<'a>> {
+>(rt: &R, genesis: &Genesis, serving: &Serving<'a>, plan: Plan) -> Result<(), Failure<'a>> {
+    begin_metrics(rt, serving)?;
     let restart = restart_of::<S>(rt.alloc(), genesis)?;
     let opened = restart.shared(plan.callers())?;
     host(rt, rt.system(), opened, plan)?;
@@ -107,7 +137,7 @@ pub fn serve<
 {
     let plan = plan_of(rt.alloc(), &document.genesis, serving)?;
     match serving.log {
-        Some(log) => serve_on_log::<S, _>(rt, &document.genesis, log, plan),
-        None => serve_on_none::<S, _>(rt, &document.genesis, plan),
+        Some(log) => serve_on_log::<S, _>(rt, &document.genesis, serving, log, plan),
+        None => serve_on_none::<S, _>(rt, &document.genesis, serving, plan),
     }
 }

@@ -1,6 +1,7 @@
 //! What is told of a text: its identifier, what it is, and of a transaction whether it is valid.
 
-ghost use Rattle.std.specs.Prelude.{◌≡◌, ◌≢◌, ℕ, List, [], None, IsOk, IfOk, IfErr, IfSome, OnOk};
+ghost use Rattle.std.specs.Prelude.{◌≡◌, ◌≢◌, ◌+◌, ℕ, List, [], None, IsOk, IfOk, IfErr, IfSome, OnOk, unwrap_or, min};
+ghost use Rattle.model.specs.Chain.{genesis_tip, tip_after};
 ghost use Rattle.model.specs.History.{State};
 ghost use Rattle.chain_core.specs.Held.{Stands, network_held, opening_held};
 ghost use Rattle.scenario.specs.Handed.{RunsWell};
@@ -219,27 +220,40 @@ fn core_after<'a, S: SigScheme, R: Files<File = File> + AllocGlobal + Threads + 
     }
 }
 
-/// Prints what is said of the transaction that these bytes are, at this core.
+/// The slot at which a transaction is judged: this one, or that after the tip's.
+fn slot_at<S: SigScheme>(core: &Core<S>, given: Option<u64>) -> u64
+    // A tip's slot is below 2^63, so none is past the largest of 64 bits.
+    ensures { result ≡ unwrap_or given (min ((tip_after genesis_tip core.now.chain).slot + 1) 18446744073709551615) }
+{
+    match given {
+        Some(slot) => slot,
+        None => core.slot().saturating_add(1),
+    }
+}
+
+/// Prints what is said of the transaction that these bytes are, at this core and in this slot.
 fn tell_verdict<'a, S: SigScheme, O: Write>(
     alloc: Global,
     source: Source<'a>,
-    core: &mut Core<S>,
+    core: &Core<S>,
+    slot: u64,
     bytes: &[u8],
     out: &mut O,
 ) -> Result<Verdict, Failure<'a>>
-    // `valid` is printed just where the definitions have it that a submission of the bytes is taken.
-    ensures { IfOk result (λ verdict. (s : State) → Stands core.old s →
-        PrintsVerdict (network_held core.old S.verifies) s bytes.now (O.contents out.old) (O.contents out.new)
+    // `valid` is printed just where the definitions have it that a submission of the bytes would be taken, judged at this
+    // slot.
+    ensures { IfOk result (λ verdict. (s : State) → Stands core.now s →
+        PrintsVerdict (network_held core.now S.verifies) s slot bytes.now (O.contents out.old) (O.contents out.new)
         verdict) }
 {
-    match print_verdict(alloc, core, bytes, out) {
+    match print_verdict(alloc, core, slot, bytes, out) {
         Ok(verdict) => Ok(verdict),
         Err(fault) => Err(untold(source, fault)),
     }
 }
 
 /// Prints whether the transaction of a text is valid, after the blocks of a log and the run of a script, where they are
-/// named. No block is put onto the log, and of the script nothing is printed.
+/// named, and in this slot, or that after the tip's. No block is put onto the log, and of the script nothing is printed.
 pub fn check<
     'a,
     S: SigScheme,
@@ -250,6 +264,7 @@ pub fn check<
     rt: &R,
     document: &GenesisDocument,
     base: Base<'a>,
+    slot: Option<u64>,
     text: TextAt<'a>,
     input: &mut I,
     out: &mut O,
@@ -257,6 +272,7 @@ pub fn check<
     requires { S.verifies ≡ verifies_by document.now.scheme }
 {
     let bytes = text_of(rt, text, input)?;
-    let mut core = core_after::<S, _>(rt, document, base)?;
-    tell_verdict(rt.alloc(), text.source, &mut core, &bytes, out)
+    let core = core_after::<S, _>(rt, document, base)?;
+    let slot = slot_at(&core, slot);
+    tell_verdict(rt.alloc(), text.source, &core, slot, &bytes, out)
 }

@@ -10,7 +10,7 @@ use Rattle.std.proofs.lemmas.List.Sorted.{sum_by_popped, sum_by_pushed, IsPermut
 use Rattle.std.proofs.lemmas.Map.Keys.{ge_from_not_lt}
 use Rattle.model.specs.Follower.{follower_of, free_id}
 use Rattle.followers.specs.declared.place.Place.{Place}
-use Rattle.followers.specs.Places.{Places}
+use Rattle.followers.specs.Places.{Places, open_count}
 use Rattle.followers.specs.Inside.{free_at, frees, one_if, times}
 
 -- ---- places
@@ -21,6 +21,12 @@ free_once (None ∷ ps) zero = omega arith
 free_once (Some p ∷ ps) zero = omega arith
 free_once (None ∷ ps) (suc n) = free_once ps n
 free_once (Some p ∷ ps) (suc n) = free_once ps n
+
+-- a number is free or a follower has it
+pub free_or_open : (ps : Places) → frees ps + open_count ps ≡ length ps
+free_or_open [] = refl
+free_or_open (None ∷ ps) = let rest = free_or_open ps in omega arith
+free_or_open (Some p ∷ ps) = let rest = free_or_open ps in omega arith
 
 pub free_within : (ps : Places) (n : ℕ) → 1 ≤ free_at ps n → n < length ps
 free_within [] n free = absurd (omega arith)

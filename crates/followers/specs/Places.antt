@@ -1,5 +1,5 @@
 -- Where followers stand, in blocks, and what each call makes of it.
-use Rattle.std.specs.Prelude.{ℕ, ◌+◌, min, nat_lt, List, Option, Some, None, map, option_map, if◌then◌else◌}
+use Rattle.std.specs.Prelude.{ℕ, suc, ◌+◌, min, nat_lt, List, [], ◌∷◌, Option, Some, None, map, option_map, if◌then◌else◌}
 use Rattle.followers.specs.declared.place.Place.{Place}
 use Rattle.followers.specs.declared.place.Due.{Due}
 use Rattle.followers.specs.declared.place.Due.TheVariants.{Add, RollBack}
@@ -7,6 +7,12 @@ use Rattle.followers.specs.declared.place.Due.TheVariants.{Add, RollBack}
 -- for each number the place of its follower, and None where no follower of that number is open
 abbrev pub Places : Type 0
 Places = List (Option Place)
+
+-- how many followers are open; so of any list of what is known of followers
+abbrev pub open_count : {X : Type 0} → List (Option X) → ℕ
+open_count [] = 0
+open_count (None ∷ fs) = open_count fs
+open_count (Some f ∷ fs) = suc (open_count fs)
 
 -- at the end of the first `n` blocks
 abbrev pub standing : ℕ → Place

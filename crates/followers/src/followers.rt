@@ -49,7 +49,7 @@ impl Followers {
     ghost use Rattle.std.specs.Prelude.{◌≡◌, ◌↔◌, [], None, Some, IfOk, IfErr, OnOk, OnErr, IsTrue};
     ghost use Rattle.model.specs.Follower.{follower_of};
     ghost use Rattle.followers.specs.declared.place.Place.{Place as Standing};
-    ghost use Rattle.followers.specs.Places.{due_of, moved_places};
+    ghost use Rattle.followers.specs.Places.{open_count, due_of, moved_places};
     ghost use Rattle.followers.specs.Calls.{IsOpened, IsOpenFault, IsMovedOn, IsForwarded, IsClosed};
 
     /// No follower is open. Takes no memory.
@@ -101,6 +101,13 @@ impl Followers {
         ensures { IsTrue result ↔ ((place : Standing) × (follower_of self.now id.number ≡ Some place)) }
     {
         self.place(id).is_some()
+    }
+
+    /// How many followers are open. In constant time, and takes no memory.
+    pub fn count(&self) -> usize
+        ensures { result ≡ open_count self.now }
+    {
+        self.places.len() - self.free.len()
     }
 
     /// What the follower of this number is told next, beside a selected chain of `height` blocks. Nothing changes. In

@@ -9,14 +9,29 @@ use Rattle.inbox.specs.declared.mailroom.Mailroom as mailroom
 use Rattle.shared.specs.declared.room.Room as room
 use Rattle.shared.proofs.ForCallers.{Shared-send, Shared-sync, Caller-send, Adder-send}
 use Rattle.reception.specs.contracts.reception.Reception as Reception
+use Rattle.hosting.specs.contracts.tally.Tally as Tally
+use Rattle.hosting.specs.contracts.tally.Flushes as Flushes
+use Rattle.hosting.specs.contracts.news.Told as Told
 use Rattle.hosting.specs.contracts.news.News as News
 use Rattle.hosting.specs.contracts.floor.Floor as Floor
 
+tally_send : IsSend Tally.the_row
+tally_send = search (crosses, sendable) depth 20
+
+flushes_send : IsSend Flushes.the_row
+flushes_send = search (crosses, sendable) depth 20
+
+told_send : IsSend Told.the_row
+told_send =
+    let tally = tally_send in
+    let flushes = flushes_send in
+    search (crosses, sendable) depth 60
+
 news_send : IsSend (News.the_field).row
-news_send = search (crosses, sendable) depth 20
+news_send = let told = told_send in search (crosses, sendable) depth 20
 
 news_sync : IsSync (News.the_field).row
-news_sync = search (crosses, sendable) depth 20
+news_sync = let told = told_send in search (crosses, sendable) depth 20
 
 open_gate_send : IsSend OpenGate.the_row
 open_gate_send = search sendable depth 20

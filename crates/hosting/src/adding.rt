@@ -3,7 +3,7 @@
 use crate::floor::Floor;
 use inbox::Mailroom;
 use reception::Reception;
-use shared::{Caller, Room};
+use shared::Room;
 use std::alloc::AllocError;
 use std::sync::Wait;
 use std::thread::Threads;
@@ -15,19 +15,19 @@ pub fn run_adder<S: SigScheme + Send, B: Room, M: Mailroom, R: Threads + Wait + 
     rt: &R,
     floor: &Floor<S, B>,
     mut reception: Reception<S, B, M>,
-    mut caller: Caller<B>,
 ) {
     let news = &*floor.news;
     let shared = &*floor.shared;
     'blocks: for _ in rt.forever() {
         let sent = news.sent(rt);
         let is_ending = news.is_ending(rt);
-        match reception.run(rt, floor.alloc, shared) {
-            Ok(0) if is_ending => break 'blocks,
-            Ok(0) => news.wait_for_blocks(rt, sent),
-            Ok(many) => {
-                let height = shared.height(&mut caller);
-                news.tell_brought(rt, many, height);
+        match reception.bring_next(rt, floor.alloc, shared) {
+            Ok(None) if is_ending => break 'blocks,
+            Ok(None) => news.wait_for_blocks(rt, sent),
+            Ok(Some(reply)) => {
+                let height = reception.height(shared);
+                let discarded = reception.keeper.discarded();
+                news.tell_brought(rt, reply, height, discarded);
             }
             Err(AllocError) => {
                 news.run_short(rt);

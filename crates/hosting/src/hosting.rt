@@ -17,6 +17,7 @@ use crate::floor::Floor;
 use crate::news::News;
 use crate::peer_lane::run_peer;
 use crate::plan::{ClientLane, PeerLane, Plan, Workers};
+use crate::recording::{Record, record_last, run_record};
 use crate::store::{keep_log, keep_none, let_go};
 use immlog::{AppendFault, Disk, Log};
 use inbox::{AdderEnd, Mailroom, PEERS, PeerEnd};
@@ -57,15 +58,17 @@ impl From<AllocError> for HostFault {
 struct Staff<B: Room> {
     adding: Caller<B>,
     keeping: Caller<B>,
-    looking: Caller<B>,
+    watching: Caller<B>,
     flushing: Caller<B>,
 }
 
-/// A node that was started: what its threads share, and the caller who flushes.
+/// A node that was started: what its threads share, the caller who flushes, and where the figures of the end are written
+/// down, if they are to be.
 #[derive(Drop)]
 struct Started<S: SigScheme, B: Room> {
     floor: Floor<S, B>,
     flushing: Caller<B>,
+    record: Option<Record>,
 }
 
 /// The last four of the callers.
@@ -73,7 +76,7 @@ fn staff_of<B: Room>(callers: &mut Vec<Caller<B>>) -> Option<Staff<B>> {
     Some(Staff {
         adding: callers.pop()?,
         keeping: callers.pop()?,
-        looking: callers.pop()?,
+        watching: callers.pop()?,
         flushing: callers.pop()?,
     })
 }
@@ -103,15 +106,26 @@ fn start_adder<
     B: Room + Send + Sync + 'static,
     M: Mailroom + Send + Sync + 'static,
     R: Threads + Wait + Copy + Send + Sync + 'static,
->(
-    rt: &R,
-    floor: &Floor<S, B>,
-    reception: Reception<S, B, M>,
-    looking: Caller<B>,
-) -> Result<(), AllocError> {
+>(rt: &R, floor: &Floor<S, B>, reception: Reception<S, B, M>) -> Result<(), AllocError> {
     let handle = *rt;
     let floor = floor.try_clone()?;
-    thread::spawn(rt, move || run_adder(&handle, &floor, reception, looking))?;
+    thread::spawn(rt, move || run_adder(&handle, &floor, reception))?;
+    Ok(())
+}
+
+/// Starts the thread that writes down what the node counts, if it is to be, in the file of this path.
+fn start_record<
+    S: SigScheme + Send + Sync + 'static,
+    B: Room + Send + Sync + 'static,
+    R: Threads + Wait + Copy + Send + Sync + 'static,
+>(rt: &R, floor: &Floor<S, B>, caller: Caller<B>, path: Option<String>) -> Result<(), AllocError> {
+    let Some(path) = path else {
+        return Ok(());
+    };
+    let record = Record::at(floor.alloc, &path)?;
+    let handle = *rt;
+    let floor = floor.try_clone()?;
+    thread::spawn(rt, move || run_record(&handle, &floor, caller, &record))?;
     Ok(())
 }
 
@@ -192,7 +206,7 @@ fn start_all<
     requires { ends.1 ≡ no_intake }
 {
     let (peers, end) = ends;
-    let (adding, keeping, looking) = staff;
+    let (adding, keeping, watching) = staff;
     let Plan {
         clients,
         peers: lanes,
@@ -200,6 +214,7 @@ fn start_all<
         until_closed: _,
         when_full,
         places,
+        metrics,
     } = plan;
     let peers = Vec::from_array(floor.alloc, peers)?;
     let reception = reception_of(
@@ -211,9 +226,10 @@ fn start_all<
         places,
         when_full,
     );
-    start_adder(rt, floor, reception, looking)?;
+    start_adder(rt, floor, reception)?;
     start_peers(rt, floor, peers, lanes)?;
-    start_clients(rt, floor, callers, clients)
+    start_clients(rt, floor, callers, clients)?;
+    start_record(rt, floor, watching, metrics)
 }
 
 /// How a node ended whose last flush ended so.
@@ -235,6 +251,27 @@ fn news_of(plan: &Plan, callers: usize, height: u64, durable: Option<u64>) -> Ne
     let peers = plan.peers.len().min(PEERS) as u64;
     let clients = plan.clients.len().min(callers) as u64;
     News::new(peers, clients, height, durable, plan.until_closed)
+}
+
+/// Where the figures of the end are written down, if they are to be.
+fn record_of(alloc: Global, plan: &Plan) -> Result<Option<Record>, AllocError> {
+    match &plan.metrics {
+        Some(path) => Ok(Some(Record::at(alloc, path)?)),
+        None => Ok(None),
+    }
+}
+
+/// What is done when the node has ended: clients take their last replies, and the figures of the end are written down.
+fn finish<S: SigScheme, B: Room, R: Wait>(
+    rt: &R,
+    floor: &Floor<S, B>,
+    caller: &mut Caller<B>,
+    record: Option<&Record>,
+) {
+    let_go(rt, &floor.news, &floor.system);
+    if let Some(record) = record {
+        record_last(rt, floor, caller, record);
+    }
 }
 
 /// Starts a node whose core has just got its name, and answers what its threads share, with the caller who flushes: it
@@ -264,11 +301,12 @@ fn start<
     let Staff {
         adding,
         keeping,
-        looking,
+        watching,
         mut flushing,
     } = staff;
     let height = shared.height(&mut flushing);
     let news = news_of(&plan, callers.len(), height, durable);
+    let record = record_of(alloc, &plan)?;
     let floor = Floor {
         alloc,
         shared: Arc::new(alloc, shared)?,
@@ -276,10 +314,14 @@ fn start<
         until_closed: plan.until_closed,
         system,
     };
-    match start_all(rt, &floor, ends, (adding, keeping, looking), callers, plan) {
+    match start_all(rt, &floor, ends, (adding, keeping, watching), callers, plan) {
         Ok(()) => {
             floor.news.begin(rt);
-            Ok(Started { floor, flushing })
+            Ok(Started {
+                floor,
+                flushing,
+                record,
+            })
         }
         Err(AllocError) => {
             floor.news.end(rt);
@@ -322,9 +364,10 @@ fn run_on_log<
     let Started {
         floor,
         mut flushing,
+        record,
     } = start(rt, system, shared, callers, ends, Some(durable), plan)?;
     let flushed = keep_log(rt, &floor, &mut flushing, log);
-    let_go(rt, &floor.news);
+    finish(rt, &floor, &mut flushing, record.as_ref());
     ended(floor.news.is_short(rt), flushed)
 }
 
@@ -349,11 +392,14 @@ fn run_on_none<
 {
     let (shared, callers) = opened.named::<B>()?;
     let ends = inbox.named::<M>()?;
-    let started = start(rt, system, shared, callers, ends, None, plan)?;
-    let news = &*started.floor.news;
-    keep_none(rt, news);
-    let_go(rt, news);
-    ended(news.is_short(rt), Ok(()))
+    let Started {
+        floor,
+        mut flushing,
+        record,
+    } = start(rt, system, shared, callers, ends, None, plan)?;
+    keep_none(rt, &floor.news);
+    finish(rt, &floor, &mut flushing, record.as_ref());
+    ended(floor.news.is_short(rt), Ok(()))
 }
 
 /// An inbox for a node's peers.

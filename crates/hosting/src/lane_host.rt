@@ -105,7 +105,11 @@ impl<D: Desk, R: Wait> Desk for Answering<'_, D, R> {
 
     fn answer(&mut self, line: &[u8]) -> Result<Vec<u8>, AllocError> {
         self.turn.begin();
-        self.desk.answer(line)
+        let answered = self.desk.answer(line);
+        if answered.is_err() {
+            self.turn.news.tell_memory_refused(self.turn.rt);
+        }
+        answered
     }
 }
 

@@ -17,9 +17,13 @@ mod news;
 mod peer_lane;
 mod plan;
 mod process;
+mod recording;
 mod store;
 mod streams;
+mod tally;
+mod timing;
 
 pub use hosting::{HostFault, host, host_on_log};
 pub use plan::{ClientLane, MAX_CLIENT_LANES, MAX_WORKERS, PeerLane, Plan, Workers};
 pub use process::Process;
+pub use recording::begin_figures;

@@ -1,5 +1,7 @@
 //! What the threads of a node tell one another.
 
+use crate::tally::{Flushes, Tally};
+use chain_core::{ArriveReply, Refusal};
 use std::sync::{Condvar, Mutex, MutexGuard, Wait};
 
 /// What was told so far. The counts stand still at the largest number of 64 bits.
@@ -33,6 +35,27 @@ struct Told {
     is_short: bool,
     /// Whether no flush comes any more.
     is_closed: bool,
+    /// Whether the figures are being written down.
+    is_recording: bool,
+    /// What arrivals were answered, and what else peers sent.
+    tally: Tally,
+    /// How many blocks were discarded.
+    discarded: u64,
+    flushes: Flushes,
+    /// How often memory was refused.
+    memory_refusals: u64,
+}
+
+/// What the threads of a node have counted.
+#[derive(Clone, Copy, Debug, Drop)]
+pub struct Counts {
+    pub clients: u64,
+    pub waiting: u64,
+    pub peers: u64,
+    pub tally: Tally,
+    pub discarded: u64,
+    pub flushes: Flushes,
+    pub memory_refusals: u64,
 }
 
 impl Told {
@@ -68,6 +91,8 @@ pub struct News {
     due: Condvar,
     /// A flush was answered, or none comes any more.
     flushed: Condvar,
+    /// The figures were written down.
+    recorded: Condvar,
 }
 
 impl News {
@@ -96,6 +121,11 @@ impl News {
                 is_drained: false,
                 is_short: false,
                 is_closed: false,
+                is_recording: false,
+                tally: Tally::new(),
+                discarded: 0,
+                flushes: Flushes::new(durable),
+                memory_refusals: 0,
             }),
             until_closed,
             sent: Condvar::new(),
@@ -103,6 +133,7 @@ impl News {
             grown: Condvar::new(),
             due: Condvar::new(),
             flushed: Condvar::new(),
+            recorded: Condvar::new(),
         }
     }
 
@@ -152,10 +183,12 @@ impl News {
             .wait_while(rt, told, |told| told.sent == sent && !told.is_ending);
     }
 
-    /// So many blocks were brought, and the selected chain has this height.
-    pub fn tell_brought<R: Wait>(&self, rt: &R, many: u64, height: u64) {
+    /// A block was brought and answered so, the selected chain has this height, and so many blocks were discarded.
+    pub fn tell_brought<R: Wait>(&self, rt: &R, reply: ArriveReply, height: u64, discarded: u64) {
         let mut told = self.told.lock(rt);
-        told.brought = told.brought.saturating_add(many);
+        told.brought = told.brought.saturating_add(1);
+        told.tally.count(reply);
+        told.discarded = discarded;
         let grew = told.height != height;
         told.height = height;
         self.settle(told);
@@ -169,6 +202,12 @@ impl News {
     /// How many blocks were brought.
     pub fn brought<R: Wait>(&self, rt: &R) -> u64 {
         self.told.lock(rt).brought
+    }
+
+    /// A peer sent what can't be brought: it is refused so.
+    pub fn tell_refused<R: Wait>(&self, rt: &R, refusal: Refusal) {
+        let mut told = self.told.lock(rt);
+        told.tally.count_refusal(refusal);
     }
 
     /// Waits until more were brought than these, and answers whether the node goes on.
@@ -242,13 +281,28 @@ impl News {
         }
     }
 
-    /// The flushes up to this one were made, and so many blocks are durable; or they failed.
-    pub fn tell_flushed<R: Wait>(&self, rt: &R, asked: u64, durable: Option<u64>) {
+    /// One flush answered all up to this one, and took so many microseconds: so many blocks are durable, or it failed.
+    pub fn tell_flushed<R: Wait>(&self, rt: &R, asked: u64, durable: Option<u64>, took: u64) {
         let mut told = self.told.lock(rt);
         told.answered = asked;
         told.durable = durable;
+        told.flushes.count(durable, took);
         drop(told);
         self.flushed.notify_all();
+    }
+
+    /// The flushes up to this one were refused, since there is no log.
+    pub fn tell_no_flush<R: Wait>(&self, rt: &R, asked: u64) {
+        let mut told = self.told.lock(rt);
+        told.answered = asked;
+        drop(told);
+        self.flushed.notify_all();
+    }
+
+    /// Memory was refused.
+    pub fn tell_memory_refused<R: Wait>(&self, rt: &R) {
+        let mut told = self.told.lock(rt);
+        told.memory_refusals = told.memory_refusals.saturating_add(1);
     }
 
     /// The node is to end.
@@ -268,6 +322,7 @@ impl News {
     pub fn run_short<R: Wait>(&self, rt: &R) {
         let mut told = self.told.lock(rt);
         told.is_short = true;
+        told.memory_refusals = told.memory_refusals.saturating_add(1);
         drop(told);
         self.end(rt);
     }
@@ -313,5 +368,40 @@ impl News {
         told.is_closed = true;
         drop(told);
         self.flushed.notify_all();
+    }
+
+    /// What was counted so far.
+    pub fn counts<R: Wait>(&self, rt: &R) -> Counts {
+        let told = self.told.lock(rt);
+        Counts {
+            clients: told.clients,
+            waiting: told.waiting,
+            peers: told.peers,
+            tally: told.tally,
+            discarded: told.discarded,
+            flushes: told.flushes,
+            memory_refusals: told.memory_refusals,
+        }
+    }
+
+    /// The figures are about to be written down. Answers whether they are to be: not where no flush comes any more.
+    pub fn begin_record<R: Wait>(&self, rt: &R) -> bool {
+        let mut told = self.told.lock(rt);
+        told.is_recording = !told.is_closed;
+        told.is_recording
+    }
+
+    /// They were.
+    pub fn end_record<R: Wait>(&self, rt: &R) {
+        let mut told = self.told.lock(rt);
+        told.is_recording = false;
+        drop(told);
+        self.recorded.notify_all();
+    }
+
+    /// Waits while they are being written down.
+    pub fn wait_for_record<R: Wait>(&self, rt: &R) {
+        let told = self.told.lock(rt);
+        let _told = self.recorded.wait_while(rt, told, |told| told.is_recording);
     }
 }

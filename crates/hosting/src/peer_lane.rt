@@ -4,6 +4,7 @@ use crate::floor::Floor;
 use crate::news::News;
 use crate::plan::PeerLane;
 use crate::streams::is_reopened;
+use chain_core::Refusal;
 use inbox::{Mailroom, PeerEnd};
 use peering::{Framing, PeerFault, Sent, next_sent};
 use shared::Room;
@@ -32,7 +33,8 @@ fn send<M: Mailroom, R: Wait>(rt: &R, news: &News, end: &mut PeerEnd<M>, bytes: 
     unreachable!()
 }
 
-/// Sends each block of the lane, until the peer ends it or the node ends. What is none is passed over.
+/// Sends each block of the lane, until the peer ends it or the node ends. What is none is counted as refused, and
+/// passed over.
 fn send_all<M: Mailroom, R: Wait, I: BufRead>(
     rt: &R,
     alloc: Global,
@@ -52,8 +54,8 @@ fn send_all<M: Mailroom, R: Wait, I: BufRead>(
                     return Ok(());
                 }
             }
-            // What is no block is passed over.
-            Some(Sent::Malformed | Sent::TooLarge) => {}
+            Some(Sent::Malformed) => news.tell_refused(rt, Refusal::Malformed),
+            Some(Sent::TooLarge) => news.tell_refused(rt, Refusal::TooLarge),
         }
     }
     unreachable!()
@@ -72,9 +74,13 @@ fn take_all<M: Mailroom, R: Wait>(
         return false;
     };
     let Ok(mut reader) = BufReader::new(alloc, input) else {
+        news.tell_memory_refused(rt);
         return false;
     };
-    let _end = send_all(rt, alloc, news, end, lane.framing, &mut reader);
+    match send_all(rt, alloc, news, end, lane.framing, &mut reader) {
+        Ok(()) | Err(PeerFault::ReadFailed) => {}
+        Err(PeerFault::OutOfMemory) => news.tell_memory_refused(rt),
+    }
     true
 }
 

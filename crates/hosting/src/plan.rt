@@ -68,6 +68,10 @@ pub struct Plan {
     pub when_full: WhenFull,
     /// How much may be live.
     pub places: Places,
+    /// The path of the file in which what the node counts is written down each second, if it is to be: that file, and
+    /// the one of the same name with `.next` behind it, are overwritten. [`begin_figures`](crate::begin_figures) looks
+    /// whether they may be.
+    pub metrics: Option<String>,
 }
 
 impl Plan {

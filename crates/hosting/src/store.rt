@@ -13,15 +13,17 @@ ghost use Rattle.hosting.specs.Keeping.{IsKept};
 
 use crate::floor::Floor;
 use crate::news::News;
+use crate::timing::{micros_since, moment};
 use flushing::flush_shared;
 use immlog::{AppendFault, Disk, Log};
 use shared::{Caller, Room};
 use std::sync::Wait;
 use std::thread;
+use std::time::Duration;
 use witness_pool::SigScheme;
 
-/// How often a thread lets others run before the node ends all the same, whose last reply a client doesn't take.
-const MOMENTS: u64 = 1_000_000;
+/// How many milliseconds the node gives clients to take their last replies before it ends all the same.
+const MOMENTS: u64 = 1_000;
 
 /// Puts what can't be rolled back onto the log, and tells how many blocks are durable then.
 fn flush_now<D: Disk, S: SigScheme, B: Room, R: Wait>(
@@ -43,12 +45,18 @@ fn flush_now<D: Disk, S: SigScheme, B: Room, R: Wait>(
         → IsKept (network_from B.start S.verifies) caller.new.seen log.old.blocks log.new.blocks
         (D.past log.old.disk) (D.past log.new.disk) (D.moment log.new.disk) }
 {
+    let begun = moment(&floor.system);
     let flushed = flush_shared(rt, log, &*floor.shared, caller);
+    let took = micros_since(&floor.system, begun);
     let durable = match flushed {
         Ok(()) => Some(log.durable() as u64),
-        Err(_) => None,
+        Err(AppendFault::OutOfMemory) => {
+            floor.news.tell_memory_refused(rt);
+            None
+        }
+        Err(AppendFault::Broken | AppendFault::DiskFault) => None,
     };
-    floor.news.tell_flushed(rt, asked, durable);
+    floor.news.tell_flushed(rt, asked, durable, took);
     flushed
 }
 
@@ -126,19 +134,19 @@ pub fn keep_none<R: Wait>(rt: &R, news: &News) {
         if due.is_ending {
             break 'asks;
         }
-        news.tell_flushed(rt, due.asked, None);
+        news.tell_no_flush(rt, due.asked);
     }
     let asked = news.wait_until_drained(rt);
-    news.tell_flushed(rt, asked, None);
+    news.tell_no_flush(rt, asked);
 }
 
-/// Gives clients who are being answered when the node ends some time to take their replies.
-pub fn let_go<R: Wait>(rt: &R, news: &News) {
+/// Gives clients who are being answered when the node ends a second to take their replies.
+pub fn let_go<R: Wait>(rt: &R, news: &News, system: &HostRuntime) {
     news.close(rt);
     'moments: for _ in 0..MOMENTS {
         if !news.is_answering(rt) {
             break 'moments;
         }
-        thread::yield_now();
+        thread::sleep(system, Duration::from_millis(1));
     }
 }

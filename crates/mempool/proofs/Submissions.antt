@@ -1,5 +1,5 @@
 -- What becomes of a transaction that is submitted.
-use Rattle.std.proofs.Common.{◌≡◌, ℕ, ◌<◌, ◌≤◌, Bool, true, false, true≢false, List, [], ◌∷◌, ◌++◌, length, map, nat_lt, Option, Some, None, Contains, refl, sym, ap, subst, ◌∙◌, arith}
+use Rattle.std.proofs.Common.{◌≡◌, ℕ, ◌<◌, ◌≤◌, Bool, true, false, true≢false, List, [], ◌∷◌, ◌++◌, length, map, nat_lt, Some, None, Contains, refl, sym, ap, subst, ◌∙◌, arith}
 use Rattle.model.specs.Cbor.{Null, items_of, items_text}
 use Rattle.model.specs.Transaction.{Transaction, SpellsTransaction, item_of_body, item_of_witnesses, transaction_id_of}
 use Rattle.model.specs.Signature.{Verifies}
@@ -11,8 +11,11 @@ use Rattle.model.proofs.TransactionTexts.{one_transaction}
 use Rattle.tx.specs.Bare.{IsBare, BeginsLikeTransaction}
 use Rattle.mempool.specs.Contents.{Mempool}
 use Rattle.mempool.specs.Calls.{with_tx, IsLeft, IsSubmission, IsNew, IsWantFor, ExplainsBytes}
-use Rattle.model.specs.Explaining.{Detail, Explains}
-use Rattle.std.proofs.lemmas.Option.{none-some}
+use Rattle.model.specs.Explaining.{Detail, IsDetail}
+use Rattle.model.specs.Evaluating as evaluating
+use Rattle.model.specs.Evaluating.{Evaluation, Evaluates, reply_of}
+use Rattle.model.proofs.OneReply.{answers_one}
+use Rattle.model.proofs.Evaluations.{evaluation_answers}
 
 after_last : (utxo : Utxo) (ts : List Transaction) (t : Transaction) → utxo_after_all utxo (ts ++ t ∷ []) ≡ utxo_after (utxo_after_all utxo ts) t
 after_last utxo [] t = refl
@@ -107,21 +110,31 @@ module _ (verifies : Verifies) (params : Params) (slot : ℕ) (mempool : Mempool
       let none : t.inputs ≡ [] = ap (λ (x : Transaction). x.inputs) (sym same) ∙ bare.inputs in
       true≢false (sym some ∙ ap (λ (xs : _). nat_lt 0 (length xs)) none)
 
--- ---- what bytes would be refused for
+-- ---- what bytes would be answered
+
+module _ (verifies : Verifies) (params : Params) (slot : ℕ) (mempool : Mempool) (bytes : List ℕ) (t : Transaction) (spells : SpellsTransaction t bytes) where
+  abbrev EvaluatesHere : Evaluation → Type 0
+  EvaluatesHere = Evaluates verifies params slot mempool.waiting.unspent mempool.capacity mempool.waiting.txs bytes
+
+  -- its identifier is there
+  pub evaluated_known : (id : List ℕ) → id ≡ transaction_id_of t → Contains (map transaction_id_of mempool.waiting.txs) id → EvaluatesHere evaluating.Known
+  evaluated_known id is there = (t, spells, subst (Contains (map transaction_id_of mempool.waiting.txs)) is there)
+
+  -- a reason is there
+  pub evaluated_refused : (detail : Detail) → (IsInMempool mempool.waiting.txs t → ⊥) → IsDetail verifies params mempool.waiting.unspent slot t detail → EvaluatesHere (evaluating.Refused detail)
+  evaluated_refused detail fresh is = (t, spells, (fresh, is))
+
+  -- there is none
+  pub evaluated_full : (IsInMempool mempool.waiting.txs t → ⊥) → reason_against verifies params mempool.waiting.unspent slot t ≡ None → mempool.capacity ≤ length mempool.waiting.txs → EvaluatesHere evaluating.Full
+  evaluated_full fresh none no_room = (t, spells, ((fresh, none), no_room))
+
+  pub evaluated_acceptable : (IsInMempool mempool.waiting.txs t → ⊥) → reason_against verifies params mempool.waiting.unspent slot t ≡ None → length mempool.waiting.txs < mempool.capacity → EvaluatesHere evaluating.Acceptable
+  evaluated_acceptable fresh none room = (t, spells, ((fresh, none), room))
 
 module _ (verifies : Verifies) (params : Params) (slot : ℕ) (mempool : Mempool) (bytes : List ℕ) where
-  -- what is no transaction, is refused for no reason
-  pub no_text : ((t : Transaction) → SpellsTransaction t bytes → ⊥) → ExplainsBytes verifies params slot mempool bytes None
-  no_text none = λ reason answers. none answers.0 answers.1
-
-  -- nor what the mempool has
-  pub known_text : (t : Transaction) → SpellsTransaction t bytes → IsInMempool mempool.waiting.txs t → ExplainsBytes verifies params slot mempool bytes None
-  known_text t spells there = λ reason answers. answers.2.0 (subst (IsInMempool mempool.waiting.txs) (sym (one_transaction answers.0 t bytes answers.1 spells)) there)
-
-  -- the reason against what it hasn't
-  pub explained : (t : Transaction) → SpellsTransaction t bytes → (IsInMempool mempool.waiting.txs t → ⊥) → (told : Option Detail) → Explains verifies params mempool.waiting.unspent slot t told → ExplainsBytes verifies params slot mempool bytes told
-  explained t spells fresh (Some detail) is = (t, spells, (fresh, is))
-  explained t spells fresh None none = λ reason answers.
-      let same = one_transaction answers.0 t bytes answers.1 spells in
-      let against : reason_against verifies params mempool.waiting.unspent slot t ≡ Some reason = subst (λ (x : Transaction). reason_against verifies params mempool.waiting.unspent slot x ≡ Some reason) same answers.2.1 in
-      none-some reason (sym none ∙ against)
+  -- what would be answered in another way, would be refused for no reason
+  pub not_refused : (e : Evaluation) → ((reason : Reason) → reply_of e ≡ Refused reason → ⊥) → Evaluates verifies params slot mempool.waiting.unspent mempool.capacity mempool.waiting.txs bytes e
+      → ExplainsBytes verifies params slot mempool bytes None
+  not_refused e other is = λ reason answers. other reason
+      (answers_one verifies params slot mempool.waiting.unspent mempool.capacity mempool.waiting.txs bytes (reply_of e) (Refused reason)
+      (evaluation_answers verifies params slot mempool.waiting.unspent mempool.capacity mempool.waiting.txs bytes e is) answers)

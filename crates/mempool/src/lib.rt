@@ -7,16 +7,19 @@
 //!     SubmitReply::Refused(reason) => println!(rt; "{reason}")?,
 //!     SubmitReply::Malformed | SubmitReply::Known | SubmitReply::Full => ..,
 //! }
+//! let told = mempool.evaluate(state.params(), slot, &bytes)?; // what it would be answered, and why
 //! // Another chain is selected.
 //! let resynced = mempool.resync(state.params(), state.utxo(), state.slot() + 1)?;
 //! mempool.put(resynced);
 //! ```
 #![tactic(auto)]
 
+mod evaluation;
 mod mempool;
 mod picking;
 mod reply;
 mod waiting;
 
+pub use evaluation::Evaluation;
 pub use mempool::{Mempool, Resynced};
 pub use reply::SubmitReply;

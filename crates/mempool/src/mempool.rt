@@ -9,15 +9,16 @@ ghost use Rattle.model.specs.Cbor.{text_of};
 ghost use Rattle.model.specs.Transaction.{Transaction, SpellsTransaction, item_of_transaction, size_of};
 ghost use Rattle.model.specs.Block.{item_of_transactions};
 ghost use Rattle.model.specs.Mempool.{IsInMempool, picked};
+ghost use Rattle.model.specs.Evaluating.{Evaluates};
 ghost use Rattle.model.specs.Rules as model;
 ghost use Rattle.mempool.specs.Calls.{IsWantAtSubmission};
-ghost use Rattle.tx.specs.Bare.{BeginsLikeTransaction};
 ghost use Rattle.utxo_rules.specs.View.{params_of};
 ghost use Rattle.utxo_rules.specs.DetailView.{detail_of};
 ghost use Rattle.mempool.specs.Calls.{resynced_on, IsSubmission, IsSubmissionOf, IsNew, IsWantFor, ExplainsBytes};
 ghost use Rattle.mempool.specs.Picking.{IsSpelled};
-ghost use Rattle.mempool.specs.View.{reply_of};
+ghost use Rattle.mempool.specs.View.{reply_of, evaluation_of};
 
+use crate::evaluation::Evaluation;
 use crate::reply::SubmitReply;
 use crate::waiting::Waiting;
 use cbor::CborFault;
@@ -241,10 +242,56 @@ impl<S: SigScheme> Mempool<S> {
         self.late_answer(plain(self.alloc, tx)?)
     }
 
+    /// What these bytes would be answered at this slot if they were submitted, and where they would be refused, what the
+    /// reason is about. At the slot after the tip's it is what [`Mempool::submit`] answers. Changes nothing. Linear in
+    /// the bytes, with a look-up of the identifier; only a transaction that is new, and against which there is none of
+    /// the reasons 1 to 7, has its signatures verified, and what [`utxo_rules::explain_late`] takes comes to it. Err
+    /// where memory runs out.
+    pub fn evaluate(
+        &self,
+        params: &Params,
+        slot: u64,
+        bytes: &[u8],
+    ) -> Result<Evaluation, AllocError>
+        ensures told { IfOk result (λ told. Evaluates S.verifies (params_of params.now) slot self.now.waiting.unspent
+            self.now.capacity self.now.waiting.txs bytes.now (evaluation_of told)) }
+        // Memory is asked for only where the bytes begin as a transaction does, and not at one without parts.
+        ensures memory { OnErr result (IsWantAtSubmission bytes.now) }
+    {
+        let tx = match Tx::decode(self.alloc, bytes) {
+            Ok(tx) => tx,
+            Err(CborFault::Malformed) => return Ok(Evaluation::Malformed),
+            Err(CborFault::OutOfMemory) => return Err(AllocError),
+        };
+        if self.waiting.has(tx.id()) {
+            return Ok(Evaluation::Known);
+        }
+        if let Some(detail) = self.waiting.explain_early(params, slot, &tx) {
+            return Ok(Evaluation::Refused(detail));
+        }
+        self.evaluate_late(&plain(self.alloc, tx)?)
+    }
+
+    /// What a transaction would be answered that is new, and against which there is none of the reasons 1 to 7.
+    fn evaluate_late(&self, tx: &CheckedTx<S>) -> Result<Evaluation, AllocError>
+        ensures { IfOk result (λ told. (params : model.Params) (slot : ℕ) (bytes : List ℕ) →
+            IsNew S.verifies params slot self.now tx.now → SpellsTransaction tx.now bytes →
+            Evaluates S.verifies params slot self.now.waiting.unspent self.now.capacity self.now.waiting.txs bytes
+            (evaluation_of told)) }
+    {
+        if let Some(detail) = self.waiting.explain_late(tx)? {
+            return Ok(Evaluation::Refused(detail));
+        }
+        if self.waiting.len() as u64 >= self.capacity {
+            return Ok(Evaluation::Full);
+        }
+        Ok(Evaluation::Acceptable)
+    }
+
     /// Why these bytes would be refused at this slot, that after the tip's, if they were submitted: the reason against
     /// the transaction with what it is about. None where they would be refused for no reason: they are no transaction,
-    /// it waits already, or there is nothing against it. Changes nothing. Linear in the bytes, with a look-up of the
-    /// identifier and what [`utxo_rules::explain`] takes. Err where memory runs out.
+    /// it waits already, or there is nothing against it. It is what [`Mempool::evaluate`] tells of a refusal, and costs
+    /// the same. Changes nothing. Err where memory runs out.
     pub fn explain(
         &self,
         params: &Params,
@@ -253,17 +300,13 @@ impl<S: SigScheme> Mempool<S> {
     ) -> Result<Option<Detail>, AllocError>
         ensures told { IfOk result (λ told.
             ExplainsBytes S.verifies (params_of params.now) slot self.now bytes.now (option_map detail_of told)) }
-        // Memory is asked for only where the bytes begin as a transaction does.
-        ensures memory { OnErr result (BeginsLikeTransaction bytes.now) }
+        // Memory is asked for only where the bytes begin as a transaction does, and not at one without parts.
+        ensures memory { OnErr result (IsWantAtSubmission bytes.now) }
     {
-        let tx = match Tx::decode(self.alloc, bytes) {
-            Ok(tx) => tx,
-            Err(CborFault::Malformed) => return Ok(None),
-            Err(CborFault::OutOfMemory) => return Err(AllocError),
-        };
-        if self.waiting.has(tx.id()) {
-            return Ok(None);
+        match self.evaluate(params, slot, bytes)? {
+            Evaluation::Refused(detail) => Ok(Some(detail)),
+            Evaluation::Malformed | Evaluation::Known | Evaluation::Full | Evaluation::Acceptable =>
+                Ok(None),
         }
-        self.waiting.explain(params, slot, &plain(self.alloc, tx)?)
     }
 }

@@ -1,7 +1,7 @@
 //! Transactions that wait, in the order in which they came.
 
 ghost use Rattle.std.specs.Prelude.{◌≡◌, ◌↔◌, ℕ, [], length, map, sum, Contains, IsTrue, IfOk, OnOk, OnErr, IfErr};
-ghost use Rattle.std.specs.Prelude.{Some, None};
+ghost use Rattle.std.specs.Prelude.{Some, None, MatchOption};
 ghost use Rattle.std.specs.Option.{option_map};
 ghost use Rattle.std.specs.Arc.{arc_value};
 ghost use Rattle.model.specs.Transaction.{transaction_id_of, size_of};
@@ -9,7 +9,7 @@ ghost use Rattle.model.specs.Mempool.{IsInMempool, picked};
 ghost use Rattle.model.specs.Rules as model;
 ghost use Rattle.model.specs.Rules.{reason_against};
 ghost use Rattle.utxo_rules.specs.View.{params_of, reason_of};
-ghost use Rattle.model.specs.Explaining.{Explains};
+ghost use Rattle.model.specs.Explaining.{IsDetail, Explains};
 ghost use Rattle.utxo_rules.specs.Check.{IsCheckFault, PassesEarly};
 ghost use Rattle.utxo_rules.specs.DetailView.{detail_of};
 ghost use Rattle.mempool.specs.Calls.{with_tx, kept_with, resynced_on};
@@ -23,7 +23,8 @@ use std::marker::Model;
 use std::sync::Arc;
 use tx::Tx;
 use utxo_rules::{
-    CheckFault, Detail, Params, Reason, Utxo, apply, check, check_early, check_late, explain,
+    CheckFault, Detail, Params, Reason, Utxo, apply, check, check_early, check_late, explain_early,
+    explain_late,
 };
 use witness_pool::{CheckedTx, SigScheme};
 
@@ -142,17 +143,23 @@ impl<S: SigScheme> Waiting<S> {
         check_late(self.alloc, &self.unspent, tx)
     }
 
-    /// The reason against a transaction at a slot, on what those that wait leave unspent, with what it is about.
-    pub fn explain(
-        &self,
-        params: &Params,
-        slot: u64,
-        tx: &CheckedTx<S>,
-    ) -> Result<Option<Detail>, AllocError>
-        ensures { IfOk result (λ told.
-            Explains S.verifies (params_of params.now) self.now.unspent slot tx.now (option_map detail_of told)) }
+    /// The first of the reasons 1 to 7 against a transaction, on what those that wait leave unspent, with what it is
+    /// about. Takes no memory.
+    pub fn explain_early(&self, params: &Params, slot: u64, tx: &Tx) -> Option<Detail>
+        ensures { MatchOption result
+            (PassesEarly S.verifies (params_of params.now) self.now.unspent slot tx.now)
+            (λ detail. IsDetail S.verifies (params_of params.now) self.now.unspent slot tx.now (detail_of detail)) }
     {
-        explain(self.alloc, params, slot, &self.unspent, tx)
+        explain_early(params, slot, &self.unspent, tx)
+    }
+
+    /// The first of the reasons 8 to 14 against a transaction that passed the others, with what it is about.
+    pub fn explain_late(&self, tx: &CheckedTx<S>) -> Result<Option<Detail>, AllocError>
+        ensures { IfOk result (λ told. (params : model.Params) (slot : ℕ) →
+            PassesEarly S.verifies params self.now.unspent slot tx.now →
+            Explains S.verifies params self.now.unspent slot tx.now (option_map detail_of told)) }
+    {
+        explain_late(self.alloc, &self.unspent, tx)
     }
 
     /// Has a transaction wait after the others. Err where memory runs out: nothing changes.

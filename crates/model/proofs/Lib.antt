@@ -16,6 +16,7 @@ pub mod FollowerSteps
 pub mod Discarding
 pub mod LegalHistories
 pub mod OneReply
+pub mod Evaluations
 pub mod ToldChains
 pub mod Unspent
 pub mod Reasons

@@ -90,7 +90,7 @@ module _ (verifies : Verifies) (params : Params) (slot : ℕ) (unspent : Utxo) (
   case_one bytes r q (IsSome reply t spelled is) (IsSome other u spelled_too is_too) =
       answer_one u reply other (subst (λ (x : Transaction). IsAnswer x reply) (one_transaction t u bytes spelled spelled_too) is) is_too
 
-  answers_one : (bytes : List ℕ) (r q : SubmitReply) → Answers verifies params slot unspent max txs bytes r → Answers verifies params slot unspent max txs bytes q → r ≡ q
+  pub answers_one : (bytes : List ℕ) (r q : SubmitReply) → Answers verifies params slot unspent max txs bytes r → Answers verifies params slot unspent max txs bytes q → r ≡ q
   answers_one bytes r q one two = case_one bytes r q (case_of bytes r one) (case_of bytes q two)
 
 submission_one : (network : Network) (s : State) (bytes : List ℕ) (r q : SubmitReply) (t u : State) → Takes network s bytes r t → Takes network s bytes q u → r ≡ q

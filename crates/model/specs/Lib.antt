@@ -19,6 +19,7 @@ pub mod Follower
 pub mod History
 pub mod Forging
 pub mod Asked
+pub mod Evaluating
 pub mod Journal
 pub mod Codes
 pub mod JournalCodes

@@ -18,7 +18,7 @@ mod rule_examples;
 mod rules;
 mod texts;
 
-pub use asking::never_too_far_back;
+pub use asking::{evaluated_as_answered, never_too_far_back};
 pub use eras::{assets_counted_once, before_the_second_era, in_the_second_era, one_era};
 pub use examples::{
     lengths_of_later_blocks, no_texts, scripts_of_times, scripts_that_count, texts_of_first_blocks,

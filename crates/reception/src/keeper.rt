@@ -71,6 +71,11 @@ impl<B: Room> Keeper<B> {
         self.discarded
     }
 
+    /// How many blocks the selected chain has. Waits for nothing.
+    pub fn height<S: SigScheme>(&mut self, shared: &Shared<S, B>) -> u64 {
+        shared.height(&mut self.caller)
+    }
+
     /// Whether a tenth of what may be live is free.
     fn has_places<S: SigScheme, R: Wait>(&mut self, rt: &R, shared: &Shared<S, B>) -> bool {
         shared.live_blocks(rt, &mut self.caller) <= self.places.blocks

@@ -2,7 +2,7 @@
 //!
 //! ```text
 //! let mut reception = Reception { adder, keeper: Keeper::new(caller, Places::of(&genesis)), when_full: WhenFull::Discard };
-//! reception.run(rt, alloc, &shared)?; // brings some of what the inbox has
+//! reception.bring_next(rt, alloc, &shared)?; // what the core did with the next arrival, if there is one
 //! ```
 #![tactic(auto)]
 

@@ -1,15 +1,13 @@
 //! Who takes in what peers send.
 
 use crate::keeper::{Keeper, WhenFull};
+use chain_core::ArriveReply;
 use inbox::{Mailroom, PEERS, PeerEnd};
 use shared::{Adder, Room, Shared};
 use std::alloc::{AllocError, Global};
 use std::sync::Wait;
 use std::thread::Threads;
 use witness_pool::{OpenGate, SigScheme};
-
-/// How often the adder tries to take an arrival before it is looked whether more comes.
-const TURNS: u64 = 64;
 
 /// The adder, and who keeps places free for what it brings, if that is to be.
 #[derive(Drop)]
@@ -19,37 +17,29 @@ pub struct Reception<S: SigScheme, B: Room, M: Mailroom> {
     pub when_full: WhenFull,
 }
 
-impl<S: SigScheme + Send, B: Room, M: Mailroom> Reception<S, B, M> {
-    /// Brings the next arrival, once places were made free for it where it had none. Answers how many it brought: none
-    /// where the inbox is empty.
-    fn bring_next<R: Threads + Wait + Sync>(
-        &mut self,
-        rt: &R,
-        alloc: Global,
-        shared: &Shared<S, B>,
-    ) -> Result<u64, AllocError> {
-        let Some(size) = self.adder.fetch(rt) else {
-            return Ok(0);
-        };
-        self.keeper.make_place(rt, alloc, shared, size)?;
-        match self.adder.bring(rt, shared)? {
-            Some(_reply) => Ok(1),
-            None => Ok(0),
-        }
+impl<S: SigScheme, B: Room, M: Mailroom> Reception<S, B, M> {
+    /// How many blocks the selected chain has, as the keeper sees it. Waits for nothing.
+    pub fn height(&mut self, shared: &Shared<S, B>) -> u64 {
+        self.keeper.height(shared)
     }
+}
 
-    /// Brings some of what is there, and answers how many arrivals that were. Where memory runs out for one, it stays
-    /// with the adder.
-    pub fn run<R: Threads + Wait + Sync>(
+impl<S: SigScheme + Send, B: Room, M: Mailroom> Reception<S, B, M> {
+    /// Brings the next arrival, once places were made free for it where it had none and that is to be. Answers what the
+    /// core did; None where the inbox is empty. Where memory runs out for an arrival, it stays with the adder.
+    pub fn bring_next<R: Threads + Wait + Sync>(
         &mut self,
         rt: &R,
         alloc: Global,
         shared: &Shared<S, B>,
-    ) -> Result<u64, AllocError> {
-        match self.when_full {
-            WhenFull::Refuse => self.adder.run(rt, shared, TURNS),
-            WhenFull::Discard => self.bring_next(rt, alloc, shared),
+    ) -> Result<Option<ArriveReply>, AllocError> {
+        let Some(size) = self.adder.fetch(rt) else {
+            return Ok(None);
+        };
+        if self.when_full == WhenFull::Discard {
+            self.keeper.make_place(rt, alloc, shared, size)?;
         }
+        self.adder.bring(rt, shared)
     }
 
     /// Brings all that is left, once the peers have ended, which are lent.
@@ -60,11 +50,9 @@ impl<S: SigScheme + Send, B: Room, M: Mailroom> Reception<S, B, M> {
         shared: &Shared<S, B>,
         peers: &mut [PeerEnd<M>; PEERS],
     ) -> Result<(), AllocError> {
-        if self.when_full == WhenFull::Discard {
-            for _ in rt.forever() {
-                if self.bring_next(rt, alloc, shared)? == 0 {
-                    break;
-                }
+        for _ in rt.forever() {
+            if self.bring_next(rt, alloc, shared)?.is_none() {
+                break;
             }
         }
         self.adder.drain(rt, shared, peers)

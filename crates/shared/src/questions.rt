@@ -9,6 +9,7 @@ ghost use Rattle.model.specs.Asked.{IsPlaceOf, IsTxPlaceOf, IsWhyOf, ExplainsSub
 ghost use Rattle.ident.specs.PointView.{point_of};
 ghost use Rattle.utxo_rules.specs.DetailView.{detail_of};
 ghost use Rattle.chain_core.specs.Asking.{place_of, tx_place_of};
+ghost use Rattle.chain_core.specs.Census.{IsCensus};
 ghost use Rattle.chain_core.specs.Ways.{why_of};
 ghost use Rattle.shared.specs.Starts.{network_from};
 ghost use Rattle.shared.specs.Asking.{IsAsked, AreFurthest};
@@ -18,7 +19,7 @@ use crate::handles::{copy_hashes, share_text};
 use crate::room::Room;
 use crate::shared::Shared;
 use block::Block;
-use chain_core::{Place, TxPlace, Why};
+use chain_core::{Census, Place, TxPlace, Why};
 use ident::{BlockHash, Point, TxId};
 use std::alloc::{AllocError, Global};
 use std::sync::Wait;
@@ -137,6 +138,17 @@ impl<S: SigScheme, B: Room> Shared<S, B> {
         let found = desk.core().explain_submission(bytes)?;
         desk.tell(&self.heights, &mut caller.seat);
         Ok(found)
+    }
+
+    /// How much the core holds, all at one moment, as [`chain_core::Core::census`] says. Waits for the lock. In constant
+    /// time; takes no memory.
+    pub fn census<R: Wait>(&self, rt: &R, caller: &mut Caller<B>) -> Census
+        ensures { IsAsked (network_from B.start S.verifies) caller.old caller.new
+            (λ s. IsCensus (network_from B.start S.verifies) s result) }
+    {
+        let mut desk = self.desk.lock(rt);
+        desk.tell(&self.heights, &mut caller.seat);
+        desk.core().census()
     }
 
     /// How many live blocks there are, as [`chain_core::Core::live_blocks`] counts them. Waits for the lock. In

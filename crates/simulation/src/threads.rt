@@ -36,9 +36,9 @@ fn add<S: SigScheme + Send, B: Room, M: Mailroom, R: Threads + Wait + Sync>(
         if course.is_over() {
             break;
         }
-        match reception.run(rt, alloc, shared) {
-            Ok(0) => thread::yield_now(),
-            Ok(_) => {}
+        match reception.bring_next(rt, alloc, shared) {
+            Ok(None) => thread::yield_now(),
+            Ok(Some(_reply)) => {}
             Err(AllocError) => course.stop(),
         }
     }

@@ -5,19 +5,18 @@ use Rattle.std.specs.Io.KnownBytes.{Appends}
 use Rattle.model.specs.Transaction as model
 use Rattle.model.specs.Transaction.{SpellsTransaction}
 use Rattle.model.specs.Ledger.{Network}
-use Rattle.model.specs.Mempool.{SubmitReply, Submits}
 use Rattle.model.specs.History.{State}
-use Rattle.model.specs.Explaining.{Detail}
-use Rattle.mempool.specs.View.{reply_of}
-use Rattle.mempool.specs.declared.reply.SubmitReply.{SubmitReply as CodeReply}
-use Rattle.mempool.specs.declared.reply.SubmitReply.TheVariants.{Malformed}
+use Rattle.model.specs.Evaluating.{Evaluation, IsEvaluation}
+use Rattle.mempool.specs.View.{evaluation_of}
+use Rattle.mempool.specs.declared.evaluation.Evaluation.{Evaluation as CodeEvaluation}
+use Rattle.mempool.specs.declared.evaluation.Evaluation.TheVariants.{Malformed}
 use Rattle.telling.specs.declared.fault.TellFault.{TellFault}
 use Rattle.telling.specs.declared.kind.Kind.{Kind}
 use Rattle.telling.specs.declared.kind.Kind.TheVariants.{Transaction}
 use Rattle.telling.specs.declared.verdict.Verdict.{Verdict}
 use Rattle.telling.specs.Faults.{IsUntold, IsOutside}
 use Rattle.telling.specs.Identifiers.{IsIdLine, PrintsId}
-use Rattle.telling.specs.Verdicts.{IsJudgement, PrintsAnswer, PrintsVerdict}
+use Rattle.telling.specs.Verdicts.{PrintsEvaluation, PrintsVerdict}
 
 -- a line that was written is what is printed
 pub id_printed : (kind : Kind) (bytes line written : List ℕ) (old new : Option (List ℕ)) → IsIdLine kind bytes line → written ≡ line → Appends old new written → PrintsId kind bytes old new
@@ -27,15 +26,15 @@ id_printed kind bytes line written old new is same appended = record {
   printed = subst (Appends old new) (same ∙ is.text) appended;
 }
 
--- bytes whose submission is answered so are no transaction
-pub no_transaction : (network : Network) (s : State) (bytes : List ℕ) (reply : CodeReply) (told : Option Detail) → reply ≡ Malformed → IsJudgement network s bytes (reply_of reply) told → (t : model.Transaction) → SpellsTransaction t bytes → ⊥
-no_transaction network s bytes reply told is judged = (subst (λ (r : CodeReply). Submits network s.chain s.mempool bytes (reply_of r) judged.after) is judged.submits).answers
+-- bytes that are evaluated so are no transaction
+pub no_transaction : (network : Network) (s : State) (slot : ℕ) (bytes : List ℕ) (e : CodeEvaluation) → e ≡ Malformed → IsEvaluation network s slot bytes (evaluation_of e) → (t : model.Transaction) → SpellsTransaction t bytes → ⊥
+no_transaction network s slot bytes e is evaluated = (subst (λ (x : CodeEvaluation). IsEvaluation network s slot bytes (evaluation_of x)) is evaluated).2
 
--- the text of a judgement that was printed tells the verdict in each state in which that is the judgement
-pub verdict_printed : {E : Type 0} {Stand : State → Type 0} (network : Network) (bytes : List ℕ) (old new : Option (List ℕ)) (reply : SubmitReply) (told : Option Detail) (end : Result Verdict E) → ((s : State) → Stand s → IsJudgement network s bytes reply told)
-    → IfOk end (PrintsAnswer reply told old new) → IfOk end (λ verdict. (s : State) → Stand s → PrintsVerdict network s bytes old new verdict)
-verdict_printed network bytes old new reply told (Ok verdict) judged printed = λ s stands. record { reply = reply; told = told; judgement = judged s stands; answer = printed }
-verdict_printed network bytes old new reply told (Err fault) judged printed = tt
+-- the text of an evaluation that was printed tells the verdict in each state in which that is the evaluation
+pub verdict_printed : {E : Type 0} {Stand : State → Type 0} (network : Network) (slot : ℕ) (bytes : List ℕ) (old new : Option (List ℕ)) (e : Evaluation) (end : Result Verdict E) → ((s : State) → Stand s → IsEvaluation network s slot bytes e)
+    → IfOk end (PrintsEvaluation e old new) → IfOk end (λ verdict. (s : State) → Stand s → PrintsVerdict network s slot bytes old new verdict)
+verdict_printed network slot bytes old new e (Ok verdict) evaluated printed = λ s stands. record { evaluation = e; evaluates = evaluated s stands; prints = printed }
+verdict_printed network slot bytes old new e (Err fault) evaluated printed = tt
 
 -- a fault that isn't what the bytes are is one of any
 pub told_outside : {T : Type 0} (Stand : State → Type 0) (bytes : List ℕ) (end : Result T TellFault) → IfErr end IsOutside → IfErr end (λ fault. (s : State) → Stand s → IsUntold Transaction bytes fault)

@@ -1,5 +1,5 @@
 -- A value that is all of the bytes.
-use Rattle.std.proofs.Common.{◌≡◌, ℕ, List, [], ◌∷◌, ◌++◌, append-nil, sym, ap, subst, ◌∙◌}
+use Rattle.std.proofs.Common.{◌≡◌, ℕ, List, [], ◌++◌, append-nil, sym, ap, subst, ◌∙◌}
 use Rattle.model.specs.Value.{Value, SpellsValue}
 use Rattle.model.proofs.ValueItems.{values_apart}
 use Rattle.cbor.specs.Gives.{IfMalformed}

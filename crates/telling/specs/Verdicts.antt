@@ -1,58 +1,45 @@
 -- What is told of a transaction: what a submission of it would be answered, and what a reason against it is about.
-use Rattle.std.specs.Prelude.{◌≡◌, ℕ, List, [], ◌∷◌, ◌++◌, Option, Some, None, codes, decimal}
+use Rattle.std.specs.Prelude.{◌≡◌, ℕ, List, [], ◌∷◌, ◌++◌, Option, codes, decimal}
 use Rattle.std.specs.Io.KnownBytes.{Appends}
-use Rattle.model.specs.Transaction.{Transaction}
 use Rattle.model.specs.Ledger.{Network}
 use Rattle.model.specs.Rules.{Reason, reason_number}
-use Rattle.model.specs.Mempool.{SubmitReply, Malformed, Known, Refused, Full, Added, Submits}
 use Rattle.model.specs.History.{State}
-use Rattle.model.specs.Explaining.{Detail}
-use Rattle.model.specs.Asked.{ExplainsSubmission}
+use Rattle.model.specs.Explaining.{Detail, reason_of_detail}
+use Rattle.model.specs.Evaluating.{Evaluation, Malformed, Known, Refused, Full, Acceptable, IsEvaluation}
 use Rattle.utxo_rules.specs.Texts.{reason_name}
 use Rattle.utxo_rules.specs.Sentences.{detail_text}
 use Rattle.telling.specs.declared.verdict.Verdict.{Verdict}
 use Rattle.telling.specs.declared.verdict.Verdict.TheVariants.{Valid, NotValid}
 
--- JUDGEMENT OF A TRANSACTION
--- A submission of the bytes in this state would be answered so, and this is told of what it would be refused for.
-pub record IsJudgement (network : Network) (s : State) (bytes : List ℕ) (reply : SubmitReply) (told : Option Detail)
-    : Type 0 where
-  pub after : List Transaction
-  pub submits : Submits network s.chain s.mempool bytes reply after
-  pub explains : ExplainsSubmission network s bytes told
-
 -- the transaction is valid where it would be taken
-abbrev pub verdict_of : SubmitReply → Verdict
-verdict_of Added = Valid
-verdict_of reply = NotValid
+abbrev pub verdict_of : Evaluation → Verdict
+verdict_of Acceptable = Valid
+verdict_of evaluation = NotValid
 
 -- the number and the name of a reason, on a line
 abbrev pub reason_line : Reason → List ℕ
 reason_line reason = decimal (reason_number reason) ++ (codes " " ++ (reason_name reason ++ 10 ∷ []))
 
 -- what it is about, on a line that begins as those that explain a script do
-abbrev pub detail_line : Option Detail → List ℕ
-detail_line None = []
-detail_line (Some detail) = codes "# " ++ (detail_text detail ++ 10 ∷ [])
+abbrev pub detail_line : Detail → List ℕ
+detail_line detail = codes "# " ++ (detail_text detail ++ 10 ∷ [])
 
--- TEXT OF A JUDGEMENT (this project's own)
-abbrev pub judgement_text : SubmitReply → Option Detail → List ℕ
-judgement_text Malformed told = codes "malformed\n"
-judgement_text Known told = codes "known\n"
-judgement_text (Refused reason) told = reason_line reason ++ detail_line told
-judgement_text Full told = codes "full\n"
-judgement_text Added told = codes "valid\n"
+-- TEXT OF AN EVALUATION (this project's own)
+abbrev pub evaluation_text : Evaluation → List ℕ
+evaluation_text Malformed = codes "malformed\n"
+evaluation_text Known = codes "known\n"
+evaluation_text (Refused detail) = reason_line (reason_of_detail detail) ++ detail_line detail
+evaluation_text Full = codes "full\n"
+evaluation_text Acceptable = codes "valid\n"
 
--- the text of a judgement is printed, and the verdict is that of its answer
-pub record PrintsAnswer (reply : SubmitReply) (told : Option Detail) (old new : Option (List ℕ)) (verdict : Verdict)
-    : Type 0 where
-  pub printed : Appends old new (judgement_text reply told)
-  pub verdict_is : verdict ≡ verdict_of reply
+-- the text of an evaluation is printed, and the verdict is its
+pub record PrintsEvaluation (evaluation : Evaluation) (old new : Option (List ℕ)) (verdict : Verdict) : Type 0 where
+  pub printed : Appends old new (evaluation_text evaluation)
+  pub verdict_is : verdict ≡ verdict_of evaluation
 
--- the same of the judgement of these bytes in this state
-pub record PrintsVerdict (network : Network) (s : State) (bytes : List ℕ) (old new : Option (List ℕ))
+-- the same of what a submission of these bytes would be answered in this state, judged at this slot
+pub record PrintsVerdict (network : Network) (s : State) (slot : ℕ) (bytes : List ℕ) (old new : Option (List ℕ))
     (verdict : Verdict) : Type 0 where
-  pub reply : SubmitReply
-  pub told : Option Detail
-  pub judgement : IsJudgement network s bytes reply told
-  pub answer : PrintsAnswer reply told old new verdict
+  pub evaluation : Evaluation
+  pub evaluates : IsEvaluation network s slot bytes evaluation
+  pub prints : PrintsEvaluation evaluation old new verdict

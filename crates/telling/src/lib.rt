@@ -2,11 +2,11 @@
 //! a submission of it would be answered. The bytes may be written as hexadecimal text.
 #![tactic(auto)]
 
+mod evaluation_text;
 mod fault;
 mod form;
 mod hex_text;
 mod identifier;
-mod judgement;
 mod kind;
 mod line;
 mod shown;
@@ -16,7 +16,6 @@ pub use fault::TellFault;
 pub use form::Form;
 pub use hex_text::{HexFault, bytes_of_hex};
 pub use identifier::print_identifier;
-pub use judgement::{Judgement, judge};
 pub use kind::Kind;
 pub use shown::print_shown;
 pub use verdict::{Verdict, print_verdict};

@@ -1,5 +1,5 @@
 -- How what a search finds explains a reason.
-use Rattle.std.proofs.Common.{◌≡◌, ℕ, ◌≤◌, ◌<◌, Bool, true, false, List, [], ◌∷◌, Option, Some, None, Result, Ok, Err, IfOk, OnErr, refl, sym, ap, subst, ◌∙◌, arith}
+use Rattle.std.proofs.Common.{◌≡◌, ℕ, ◌≤◌, ◌<◌, Bool, true, false, List, [], ◌∷◌, Option, Some, None, Result, Ok, Err, IfOk, IfErr, MatchOption, refl, sym, ap, subst, ◌∙◌, arith}
 use Rattle.std.specs.Prelude.{if◌then◌else◌}
 use Rattle.std.specs.List.{AllByRecursion}
 use Rattle.model.specs.Signature.{Verifies}
@@ -8,18 +8,16 @@ use Rattle.model.specs.Utxo.{Utxo}
 use Rattle.model.specs.Rules.{Params, Reason, reason_number, reasons, passes, first_failing, reason_against}
 use Rattle.utxo_rules.specs.declared.reason.Reason.{Reason as CodeReason}
 use Rattle.utxo_rules.specs.View.{reason_of}
-use Rattle.utxo_rules.specs.Check.{early_reasons, PassesEarly}
-use Rattle.model.specs.Explaining.{Detail, Explains}
-use Rattle.utxo_rules.specs.DetailView.{FindsDetail}
-use Rattle.utxo_rules.proofs.Ends.{told_early, early_pass}
+use Rattle.std.specs.Option.{option_map}
+use Rattle.std.proofs.lemmas.Option.{none-some}
+use Rattle.utxo_rules.specs.Check.{reason_of_result, early_reasons, PassesEarly}
+use Rattle.model.specs.Explaining.{Detail, IsDetail, Explains}
+use Rattle.utxo_rules.specs.declared.detail.Detail.{Detail as CodeDetail}
+use Rattle.utxo_rules.specs.DetailView.{detail_of, FindsDetail}
 
 pub if_ok : {X E : Type 0} {P R : X → Type 0} (r : Result X E) → ((x : X) → P x → R x) → IfOk r P → IfOk r R
 if_ok (Ok x) more is = more x is
 if_ok (Err e) more is = tt
-
-pub on_err_more : {X E : Type 0} {P R : Type 0} (r : Result X E) → (P → R) → OnErr r P → OnErr r R
-on_err_more (Ok x) more is = tt
-on_err_more (Err e) more is = more is
 
 -- the first that fails does
 told_fails : (test : Reason → Bool) (rs : List Reason) (r : Reason) → first_failing test rs ≡ Some r → test r ≡ false
@@ -55,15 +53,20 @@ module _ (verifies : Verifies) (params : Params) (utxo : Utxo) (slot : ℕ) wher
     explained r None is finds = absurd (let both : true ≡ false = sym finds ∙ fails r is in cc)
     explained r (Some detail) is finds = record { reason = is ∙ ap (λ (x : Reason). Some x) (sym finds.0); so = finds.1 }
 
-    -- where a reason from the eighth on is told the first seven don't apply
-    pub late_passes : (r : Reason) → reason_against verifies params utxo slot t ≡ Some r → 8 ≤ reason_number r → PassesEarly verifies params utxo slot t
-    late_passes r is late = by_early (first_failing (passes verifies params utxo slot t) early_reasons) refl
-      where
-        by_early : (o : Option Reason) → first_failing (passes verifies params utxo slot t) early_reasons ≡ o → PassesEarly verifies params utxo slot t
-        by_early None none = early_pass verifies params utxo slot t none
-        by_early (Some x) some =
-            let same : Some x ≡ Some r = sym (told_early verifies params utxo slot t x some) ∙ is in
-            let told : x ≡ r = cc in
-            let early : reason_number x < 8 = told_among (passes verifies params utxo slot t) (λ y. reason_number y < 8) early_reasons x (omega arith, (omega arith, (omega arith, (omega arith, (omega arith, (omega arith, (omega arith, tt))))))) some in
-            let number = ap reason_number told in
-            absurd (omega (arith, early, late, number))
+-- a reason that the first seven told is one of these
+pub is_early : (params : Params) (utxo : Utxo) (slot : ℕ) (t : Transaction) (r : Result (Unit {0}) CodeReason)
+    → ((verifies : Verifies) → reason_of_result r ≡ first_failing (passes verifies params utxo slot t) early_reasons) → IfErr r (λ reason. reason_number (reason_of reason) < 8)
+is_early params utxo slot t (Ok unit) first = tt
+is_early params utxo slot t (Err reason) first =
+    let none : Verifies = λ key message signature. false in
+    told_among (passes none params utxo slot t) (λ y. reason_number y < 8) early_reasons (reason_of reason) (omega arith, (omega arith, (omega arith, (omega arith, (omega arith, (omega arith, (omega arith, tt))))))) (sym (first none))
+
+-- ---- in two parts
+
+module _ (params : Params) (utxo : Utxo) (slot : ℕ) (t : Transaction) where
+  -- what is found of the first seven is the detail
+  pub early_found : (r : Reason) (found : Option CodeDetail) → ((verifies : Verifies) → reason_against verifies params utxo slot t ≡ Some r)
+      → ((verifies : Verifies) → FindsDetail verifies params utxo slot t r (option_map detail_of found))
+      → MatchOption found ((verifies : Verifies) → PassesEarly verifies params utxo slot t) (λ detail. (verifies : Verifies) → IsDetail verifies params utxo slot t (detail_of detail))
+  early_found r None is finds = λ verifies. absurd (none-some r (sym (explained verifies params utxo slot t r None (is verifies) (finds verifies)) ∙ is verifies))
+  early_found r (Some detail) is finds = λ verifies. explained verifies params utxo slot t r (Some (detail_of detail)) (is verifies) (finds verifies)

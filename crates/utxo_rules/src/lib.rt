@@ -40,7 +40,7 @@ pub use detail::{AssetId, Detail};
 pub use diff::Diff;
 pub use entries::{Entries, EntriesOf};
 pub use era::{Era, SecondEra};
-pub use explaining::explain;
+pub use explaining::{explain, explain_early, explain_late};
 pub use params::Params;
 pub use reason::Reason;
 pub use rules::{check, check_early, check_late};

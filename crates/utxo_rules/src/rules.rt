@@ -1,9 +1,9 @@
 //! The rules of a transaction.
 
-ghost use Rattle.std.specs.Prelude.{◌≡◌, ℕ, Some, None, OnOk, IfErr};
+ghost use Rattle.std.specs.Prelude.{◌≡◌, ◌<◌, ℕ, Some, None, OnOk, IfErr};
 ghost use Rattle.model.specs.Signature.{Verifies};
 ghost use Rattle.model.specs.Rules as model;
-ghost use Rattle.model.specs.Rules.{passes, first_failing, reason_against};
+ghost use Rattle.model.specs.Rules.{passes, first_failing, reason_against, reason_number};
 ghost use Rattle.utxo_rules.specs.View.{params_of, reason_of};
 ghost use Rattle.utxo_rules.specs.Check.{reason_of_result, early_reasons, first_of_witnesses, first_of_spending};
 ghost use Rattle.utxo_rules.specs.Check.{IsFirstOf, IsCheckFault, PassesEarly};
@@ -108,6 +108,7 @@ fn check_spending<S: SigScheme>(
 pub fn check_early(params: &Params, utxo: &Utxo, slot: u64, tx: &Tx) -> Result<(), Reason>
     ensures refused { IfErr result (λ reason. (verifies : Verifies) →
         reason_against verifies (params_of params.now) utxo.now slot tx.now ≡ Some (reason_of reason)) }
+    ensures early { IfErr result (λ reason. reason_number (reason_of reason) < 8) }
     ensures passed { OnOk result ((verifies : Verifies) →
         PassesEarly verifies (params_of params.now) utxo.now slot tx.now) }
 {

@@ -41,6 +41,26 @@ sign K
 end
 ";
 
+/// A payment of 900 that is valid from slot 5 on and before slot 10. Another SHA-256 gave its signature.
+const FROM_5_TO_10: &[&str] = &[
+    "83a5 0081825820 0000000000000000000000000000000000000000000000000000000000000000 00\n",
+    "0181825821 60 72cd6e8422c407fb6d098690f1130b7ded7ec2f7f5e1d30bd9d521f015363793 190384\n",
+    "0219012c 030a 0805\n",
+    "a1 0081825820 0101010101010101010101010101010101010101010101010101010101010101\n",
+    "5840 382f62757fed74c450ca1275fa7e97fe2214a51137e4c2550a9bc2003c2b4c45\n",
+    "382f62757fed74c450ca1275fa7e97fe2214a51137e4c2550a9bc2003c2b4c45\n",
+    "f6\n",
+];
+
+/// What is printed of it in the slot after genesis, and in slot 10.
+const IN_SLOT_1: &str = "1 OutsideInterval
+# slot 1 is outside the transaction's interval, from slot 5 on and before slot 10
+";
+
+const IN_SLOT_10: &str = "1 OutsideInterval
+# slot 10 is outside the transaction's interval, from slot 5 on and before slot 10
+";
+
 /// It waits.
 const SUBMITTED: &str = "submit T\n";
 
@@ -212,6 +232,19 @@ fn checks_after_a_script(rt: HostRuntime) {
         ("no/such", file),
         (1, "", "cannot read no/such\n"),
     );
+    remove(&rt, &folder);
+}
+
+// In the slot that is named, and in the one after the tip's where none is.
+#[test]
+fn checks_in_a_slot(rt: HostRuntime) {
+    let folder = own_folder(&rt);
+    let payment = write_file(&rt, &folder, "payment", FROM_5_TO_10);
+    let file = payment.as_str();
+    checks(&rt, &folder, (&[], file), (1, IN_SLOT_1, ""));
+    checks(&rt, &folder, (&["--slot", "5"], file), (0, "valid\n", ""));
+    checks(&rt, &folder, (&["--slot", "9"], file), (0, "valid\n", ""));
+    checks(&rt, &folder, (&["--slot", "10"], file), (1, IN_SLOT_10, ""));
     remove(&rt, &folder);
 }
 

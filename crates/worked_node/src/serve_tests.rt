@@ -98,12 +98,17 @@ impl Paths {
 
     /// What the client was told has these texts, one behind the other.
     fn was_told(&self, rt: &(impl Abort + Files + AllocGlobal), texts: &[&str]) {
-        let told = fs::read_to_string(rt, &*self.told).expect(rt, "a text");
-        let mut rest = told.as_str();
-        for text in texts {
-            let (_, behind) = rest.split_once(*text).expect(rt, "the text");
-            rest = behind;
-        }
+        has_in_order(rt, &self.told, texts);
+    }
+}
+
+/// The file of this path has these texts, one behind the other.
+fn has_in_order(rt: &(impl Abort + Files + AllocGlobal), path: &str, texts: &[&str]) {
+    let told = fs::read_to_string(rt, path).expect(rt, "a text");
+    let mut rest = told.as_str();
+    for text in texts {
+        let (_, behind) = rest.split_once(*text).expect(rt, "the text");
+        rest = behind;
     }
 }
 
@@ -120,6 +125,98 @@ fn serves_and_goes_on_with_its_log(rt: HostRuntime) {
     let rest = ["--log", &*again.log, "--until-closed"];
     again.serve(&rt, rest.as_slice());
     again.was_told(&rt, &["{\"jsonrpc\":\"2.0\",\"result\":1,\"id\":7}\n"]);
+    remove(&rt, &folder);
+}
+
+/// What a node has in the end that was sent these blocks, of whose chain all but two are durable, part by part; the rest
+/// depends on how far it was.
+const FIGURES: &[&str] = &[
+    "# HELP chaindb_chain_height Blocks of the selected chain.
+# TYPE chaindb_chain_height gauge
+chaindb_chain_height 3
+# HELP chaindb_chain_slot Slot of the selected chain's last block.
+# TYPE chaindb_chain_slot gauge
+chaindb_chain_slot 3
+",
+    "\nchaindb_immutable_blocks 1\n",
+    "\nchaindb_durable_blocks 1\n",
+    "\nchaindb_kept_blocks 3\n",
+    "\nchaindb_live_blocks 2\n",
+    "\nchaindb_mempool_transactions 0\n",
+    "\nchaindb_unspent_outputs 1\n",
+    "\nchaindb_followers 1\n",
+    "\nchaindb_arrivals_total 4\n",
+    "\nchaindb_arrivals_kept_total 3\n",
+    "\nchaindb_arrivals_refused_total{number=\"1\",reason=\"TooLarge\"} 0
+chaindb_arrivals_refused_total{number=\"2\",reason=\"Malformed\"} 1
+chaindb_arrivals_refused_total{number=\"3\",reason=\"BodyHashMismatch\"} 0
+chaindb_arrivals_refused_total{number=\"4\",reason=\"TooOld\"} 0
+chaindb_arrivals_refused_total{number=\"5\",reason=\"Known\"} 0
+chaindb_arrivals_refused_total{number=\"6\",reason=\"Clash\"} 0
+chaindb_arrivals_refused_total{number=\"7\",reason=\"VolatileFull\"} 0
+",
+    "\nchaindb_failed_flushes_total 0\n",
+    "\nchaindb_memory_refusals_total 0\n",
+];
+
+/// What one has that goes on behind the durable block, and is sent the same again.
+const FIGURES_AGAIN: &[&str] = &[
+    "\nchaindb_chain_height 3\n",
+    "\nchaindb_arrivals_total 4\n",
+    "\nchaindb_arrivals_kept_total 2\n",
+    "{number=\"2\",reason=\"Malformed\"} 1\n",
+    "{number=\"4\",reason=\"TooOld\"} 1\n",
+];
+
+#[test]
+fn writes_down_what_it_counts(rt: HostRuntime) {
+    let folder = own_folder(&rt);
+    let paths = Paths::of(&rt, &folder, ASKED);
+    let figures = format!(in rt.alloc(); "{folder}/figures").expect(&rt, MEMORY);
+    let rest = [
+        "--log",
+        &*paths.log,
+        "--peer",
+        &*paths.blocks,
+        "--metrics",
+        &*figures,
+    ];
+    paths.serve(&rt, rest.as_slice());
+    has_in_order(&rt, &figures, FIGURES);
+    paths.serve(&rt, rest.as_slice());
+    has_in_order(&rt, &figures, FIGURES_AGAIN);
+    remove(&rt, &folder);
+}
+
+#[test]
+fn figures_overwrite_nothing_else(rt: HostRuntime) {
+    let folder = own_folder(&rt);
+    let genesis = write_file(&rt, &folder, "genesis.toml", GENESIS);
+    write_file(&rt, &folder, "notes", &["# mine\n"]);
+    write_file(&rt, &folder, "free.next", &["mine too\n"]);
+    for name in ["notes", "free", "genesis.toml", "new.log", "no/such"] {
+        let path = format!(in rt.alloc(); "{folder}/{name}").expect(&rt, MEMORY);
+        let log = format!(in rt.alloc(); "{folder}/new.log").expect(&rt, MEMORY);
+        let told = format!(in rt.alloc();
+            "cannot write figures to {path}, or something else stands there\n"
+        ).expect(&rt, MEMORY);
+        let words = [
+            "node",
+            "serve",
+            "--until-closed",
+            "--genesis",
+            &*genesis,
+            "--log",
+            &*log,
+            "--metrics",
+            &*path,
+        ];
+        ends(&rt, words.as_slice(), 1, "", told.as_str());
+    }
+    let notes = format!(in rt.alloc(); "{folder}/notes").expect(&rt, MEMORY);
+    let next = format!(in rt.alloc(); "{folder}/free.next").expect(&rt, MEMORY);
+    has_in_order(&rt, &notes, &["# mine\n"]);
+    has_in_order(&rt, &next, &["mine too\n"]);
     remove(&rt, &folder);
 }
 

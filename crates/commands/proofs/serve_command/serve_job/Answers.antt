@@ -11,6 +11,7 @@ returns c =
     record {
       genesis_is = sym (first_value-rows found (codes "genesis")) ∙ sym c.in-Some.ensures;
       log_is = sym (first_value-rows found (codes "log")) ∙ sym c.get_str-log.ensures;
+      metrics_is = sym (first_value-rows found (codes "metrics")) ∙ sym c.get_str-metrics.ensures;
       lanes_are = sym c.in_ok-lanes.ensures;
       peers_are = sym c.in_ok-peers.ensures;
       binary_is = sym c.is_given-is_binary.ensures;

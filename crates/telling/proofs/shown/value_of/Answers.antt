@@ -1,4 +1,4 @@
-use Rattle.std.proofs.Common.{◌≡◌, true, false, true≢false, List, length, eqb, sym, ap, ◌∙◌}
+use Rattle.std.proofs.Common.{true≢false, List, length, eqb, sym, ap, ◌∙◌}
 use Rattle.std.proofs.lemmas.Result.{err_from_is_err_and}
 use Rattle.telling.proofs.ValueTexts.{whole_refused, more_follows}
 use Rattle.telling.proofs.shown.value_of.Goals as goal

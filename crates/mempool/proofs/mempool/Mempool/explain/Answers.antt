@@ -1,36 +1,31 @@
-use Rattle.std.proofs.Common.{◌≡◌, List, map, Contains, sym, subst, refl}
-use Rattle.std.proofs.lemmas.Result.{IfOk-weaker}
-use Rattle.std.specs.Option.{option_map}
-use Rattle.model.specs.Transaction.{Transaction, transaction_id_of}
-use Rattle.model.specs.Explaining.{Explains}
+use Rattle.std.proofs.Common.{◌≡◌, inl, inr, subst}
+use Rattle.model.specs.Mempool as mempool
+use Rattle.model.specs.Evaluating.{Evaluates, Malformed, Known, Full, Acceptable}
 use Rattle.utxo_rules.specs.View.{params_of}
-use Rattle.utxo_rules.specs.DetailView.{detail_of}
-use Rattle.mempool.specs.Contents.{Mempool}
-use Rattle.mempool.specs.Calls.{ExplainsBytes}
-use Rattle.mempool.proofs.Submissions.{is_new, known_text, explained}
+use Rattle.mempool.specs.declared.evaluation.Evaluation.{Evaluation}
+use Rattle.mempool.specs.declared.evaluation.Evaluation.TheVariants as code
+use Rattle.mempool.specs.View.{evaluation_of}
+use Rattle.mempool.proofs.Submissions.{not_refused}
 use Rattle.mempool.proofs.mempool.Mempool.explain.Goals as goal
 
-pub returns-then-has-clause-told : goal.returns-then-has-clause-told
-returns-then-has-clause-told g c =
-    let a = c.self.inside in
-    let t = c.in-Ok.tx in
-    let inside : Mempool = record { capacity = a.capacity; waiting = a.waiting } in
-    let there : Contains (map transaction_id_of inside.waiting.txs) c.id.result.bytes = c.if-has.ensures.0 refl in
-    known_text g.S.SigScheme.verifies (params_of c.args.params.now) c.args.slot c.args.self.now c.args.bytes.now t c.in-Ok.ensures.found
-    (subst (λ (id : List _). Contains (map transaction_id_of c.args.self.now.waiting.txs) id) c.id.ensures.is
-    (subst (λ (p : Mempool). Contains (map transaction_id_of p.waiting.txs) c.id.result.bytes) c.self.view_is there))
-
-pub returns-clause-told : goal.returns-clause-told
-returns-clause-told g c =
+pub returns-in-Malformed : goal.returns-in-Malformed
+returns-in-Malformed g c =
     let v = g.S.SigScheme.verifies in
     let params = params_of c.args.params.now in
-    let a = c.self.inside in
-    let t = c.in-Ok.tx in
-    let inside : Mempool = record { capacity = a.capacity; waiting = a.waiting } in
-    let fresh = is_new inside c.args.self.now t c.id.result.bytes c.has.result c.self.view_is c.id.ensures.is c.has.ensures.1 c.if-has.false in
-    IfOk-weaker c.explain-2.result (λ told. Explains v params a.waiting.unspent c.args.slot c.in_ok-plain.field-0 (option_map detail_of told))
-    (λ told. ExplainsBytes v params c.args.slot c.args.self.now c.args.bytes.now (option_map detail_of told))
-    (λ told is. explained v params c.args.slot c.args.self.now c.args.bytes.now t c.in-Ok.ensures.found fresh (option_map detail_of told)
-    (subst (λ (p : Mempool). Explains v params p.waiting.unspent c.args.slot t (option_map detail_of told)) c.self.view_is
-    (subst (λ (x : Transaction). Explains v params a.waiting.unspent c.args.slot x (option_map detail_of told)) c.in_ok-plain.ensures is)))
-    c.explain-2.ensures
+    let now = c.args.self.now in
+    let slot = c.args.slot in
+    let bytes = c.args.bytes.now in
+    let is = λ (e : Evaluation) (same : c.in_ok-detail.field-0 ≡ e). subst (λ (x : Evaluation). Evaluates v params slot now.waiting.unspent now.capacity now.waiting.txs bytes (evaluation_of x)) same c.in_ok-detail.ensures.told in
+    record {
+      told = elim c.in-Malformed.is [
+        | inl malformed ↦ not_refused v params slot now bytes Malformed (λ reason same. absurd (let e : mempool.Malformed ≡ mempool.Refused reason = same in cc)) (is code.Malformed malformed)
+        | inr others ↦ elim others [
+          | inl known ↦ not_refused v params slot now bytes Known (λ reason same. absurd (let e : mempool.Known ≡ mempool.Refused reason = same in cc)) (is code.Known known)
+          | inr rest ↦ elim rest [
+            | inl full ↦ not_refused v params slot now bytes Full (λ reason same. absurd (let e : mempool.Full ≡ mempool.Refused reason = same in cc)) (is code.Full full)
+            | inr acceptable ↦ not_refused v params slot now bytes Acceptable (λ reason same. absurd (let e : mempool.Added ≡ mempool.Refused reason = same in cc)) (is code.Acceptable acceptable)
+          ]
+        ]
+      ];
+      memory = tt;
+    }

@@ -1,0 +1,16 @@
+use Rattle.std.proofs.Common.{refl}
+use Rattle.std.specs.Prelude.{string_bytes}
+use Rattle.metrics.specs.Metrics.{clients}
+use Rattle.metrics.proofs.Appended.{same_lines, same_next}
+use Rattle.metrics.proofs.tables.put_clients.Goals as goal
+
+pub returns : goal.returns
+returns c =
+    let old = string_bytes c.args.out.now in
+    let new = string_bytes c.put_rows.new.out in
+    same_lines c.put_rows.result old new _ (clients c.args.figures.now)
+    (same_next _ _ _ _ c.gauge.ensures
+    (same_next _ _ _ _ c.gauge-2.ensures
+    (same_next _ _ _ _ c.gauge-3.ensures
+    (same_next _ _ _ _ c.gauge-4.ensures refl))))
+    c.put_rows.ensures
