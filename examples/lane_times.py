@@ -3,8 +3,9 @@
 
 It prints how many requests are answered a second on one lane and on eight, each by a process of its own, one after the
 other and a hundred at once; in what time eight clients who wait are told a block; how long an answer takes while
-another lane sends 10,000 lines that are no requests, and a third one asks and never reads; and what the node's memory
-was before and after 1,000,000 calls. PROGRAM is the program `node`.
+another lane sends 10,000 lines that are no requests, and a third one asks and never reads; the same for as long while
+two processes compute that have nothing to do with the node, as that lane's client and its thread do; and what the
+node's memory was before and after 1,000,000 calls. PROGRAM is the program `node`.
 """
 import hashlib
 import os
@@ -139,8 +140,28 @@ def resident(process):
 
 def shown(took):
     """The middle of these times, and the greatest."""
-    late = sorted(took)[len(took) * 99 // 100]
-    return f"median {statistics.median(took):.1f}, 99 of 100 within {late:.1f}, most {max(took):.1f}"
+    took = sorted(took)
+    late, last = took[len(took) * 99 // 100], took[len(took) * 999 // 1000]
+    return (
+        f"median {statistics.median(took):.1f}, 99 of 100 within {late:.1f}, 999 of 1,000 within {last:.1f}, "
+        f"most {took[-1]:.1f} of {len(took):,}"
+    )
+
+
+def beside_computing(lane, lasts):
+    """How long answers take for so many seconds while two processes compute."""
+    end = time.perf_counter() + lasts
+
+    def compute(_place):
+        while time.perf_counter() < end:
+            pass
+        return []
+
+    found, took = beside(2, compute), []
+    while time.perf_counter() < end:
+        took += latencies(lane, 100)
+    numbers(found)
+    return took
 
 
 def main():
@@ -176,6 +197,7 @@ def main():
     lasted = time.perf_counter() - start
     numbers(hostile)
     print(f"the same beside 10,000 hostile lines in {lasted:.1f} s: {shown(took)}")
+    print("the same beside two processes that compute:", shown(beside_computing(lanes[0], lasted)))
     before = resident(node)
     rate(lanes, 4, 250_000, 100)
     print(f"memory before and after 1,000,000 calls: {before} and {resident(node)} KB")

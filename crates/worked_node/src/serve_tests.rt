@@ -144,7 +144,6 @@ chaindb_chain_slot 3
     "\nchaindb_live_blocks 2\n",
     "\nchaindb_mempool_transactions 0\n",
     "\nchaindb_unspent_outputs 1\n",
-    "\nchaindb_followers 1\n",
     "\nchaindb_arrivals_total 4\n",
     "\nchaindb_arrivals_kept_total 3\n",
     "\nchaindb_arrivals_refused_total{number=\"1\",reason=\"TooLarge\"} 0
