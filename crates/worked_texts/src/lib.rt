@@ -7,6 +7,8 @@ mod addresses;
 #[cfg(test)]
 mod blocks;
 #[cfg(test)]
+mod described;
+#[cfg(test)]
 mod drafts;
 #[cfg(test)]
 mod fixture;
