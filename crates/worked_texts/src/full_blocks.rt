@@ -13,7 +13,7 @@ const FRONT: &str =
     "82 8402 05 5820 3b232b00fdf18aa5f2e408bd66e32ceb313459697b54313151494910541c08aa 5820";
 
 /// The text of that block with the payment and the minting, of 536 bytes: the body begins with byte 72.
-const BOTH: &[&str] = &[
+pub const BOTH: &[&str] = &[
     FRONT,
     "bbfbd26cb295c5678715ef2cda0d469ef1f746970c2fbb7c5a78984bd5f803f7 82 83",
     PAYING_BODY,

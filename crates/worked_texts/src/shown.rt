@@ -1,11 +1,10 @@
 //! What is shown of values, scripts, transactions and blocks, line by line.
 
 use super::blocks::FIRST;
-use super::fixture::{
-    KEY_HASH, MEMORY, NINES, ONES, POLICY, TWOS, ZEROS, boxed, check, hex, is_text,
-};
+use super::fixture::{KEY_HASH, MEMORY, ONES, POLICY, TWOS, ZEROS, boxed, check, hex, is_text};
+use super::full_blocks::BOTH;
 use super::transaction_making::{MINTING_ID, PAYING_ID};
-use super::transactions::{MINTING_BODY, PAYING_BODY, read};
+use super::transactions::read;
 use super::verdicts::{BADLY, SIGNED};
 use block::CheckedBlock;
 use showing::{show_block, show_script, show_transaction, show_value};
@@ -21,7 +20,7 @@ fn is_shown(rt: &(impl Abort + AllocGlobal), pieces: &[&str], shown: Result<Stri
 }
 
 /// 5 lovelace and two policies. The first has the empty name and two longer ones, the shorter of which stands first.
-const VALUE: &[&str] = &[
+pub const VALUE: &[&str] = &[
     "8205 a2 5820",
     ONES,
     "a3 40 01 41ff 1818 420000 1bffffffffffffffff 5820",
@@ -56,14 +55,14 @@ fn values_shown(rt: HostRuntime) {
 }
 
 /// The script that asks for three of a key, two slots, one of nothing, and all of one slot.
-const NESTED: &[&str] = &[
+pub const NESTED: &[&str] = &[
     "830303 85 82005820",
     ONES,
     "82041818 8205190100 820280 82018182040a",
 ];
 
 /// Its hash.
-const NESTED_HASH: &str = "c49fe5140b1032ecb2dcff750a6e5a818384992c4ebcfd2048ea76410db1f8e2";
+pub const NESTED_HASH: &str = "c49fe5140b1032ecb2dcff750a6e5a818384992c4ebcfd2048ea76410db1f8e2";
 
 const NESTED_SHOWN: &[&str] = &[
     "script ",
@@ -81,7 +80,7 @@ fn scripts_shown(rt: HostRuntime) {
 }
 
 /// The script that asks for all of one that starts at slot 5, and what is shown of it.
-const ALL_OF_ONE: &[u8] = b"\x82\x01\x81\x82\x04\x05";
+pub const ALL_OF_ONE: &[u8] = b"\x82\x01\x81\x82\x04\x05";
 
 const ALL_OF_ONE_SHOWN: &str =
     "script 628626760b0f2d91f81228c7f37fcdb040599ab5dc73563e3749dd4a02d93b3d\n  all\n    starts 5\n";
@@ -137,7 +136,7 @@ const BADLY_SHOWN: &[&str] = &[
 /// Nothing is spent; 2 lovelace go to a key on network 0, and 1 to a script on network 15.
 /// It holds from slot 7 on and before slot 9, and burns 2 of the policy's asset ff. Its one script asks for one of
 /// none.
-const BURNING: &[&str] = &[
+pub const BURNING: &[&str] = &[
     "83 a6 00 80 01 82 82 5821 60",
     KEY_HASH,
     "02 82 5821 7f",
@@ -148,9 +147,9 @@ const BURNING: &[&str] = &[
 ];
 
 /// Its identifier, and the hash of the script that asks for one of none.
-const BURNING_ID: &str = "7a46970ba26deabe3644ec5009d877039a64dbf9fc4b9771bba9aee6cf15ea94";
+pub const BURNING_ID: &str = "7a46970ba26deabe3644ec5009d877039a64dbf9fc4b9771bba9aee6cf15ea94";
 
-const ANY_HASH: &str = "4fe508587f6e34eeaf6229b70c9e3d2dad87b2860ae1b21a991efac7309626f6";
+pub const ANY_HASH: &str = "4fe508587f6e34eeaf6229b70c9e3d2dad87b2860ae1b21a991efac7309626f6";
 
 const BURNING_SHOWN: &[&str] = &[
     "transaction ",
@@ -172,26 +171,6 @@ fn transactions_shown(rt: HostRuntime) {
     is_transaction_shown(&rt, BADLY, BADLY_SHOWN);
     is_transaction_shown(&rt, BURNING, BURNING_SHOWN);
 }
-
-/// Block 2 in slot 5 after the first block, with a payment and a minting that are badly signed: the text of 536 bytes.
-const BOTH: &[&str] = &[
-    "82 8402 05 5820 3b232b00fdf18aa5f2e408bd66e32ceb313459697b54313151494910541c08aa 5820",
-    "bbfbd26cb295c5678715ef2cda0d469ef1f746970c2fbb7c5a78984bd5f803f7 82 83",
-    PAYING_BODY,
-    "a1 0081825820",
-    ONES,
-    "5840",
-    NINES,
-    NINES,
-    "f6 83",
-    MINTING_BODY,
-    "a2 0081825820",
-    ONES,
-    "5840",
-    NINES,
-    NINES,
-    "0181820180 f6",
-];
 
 const FIRST_SHOWN: &[&str] = &[
     "block 3b232b00fdf18aa5f2e408bd66e32ceb313459697b54313151494910541c08aa\nsize 40\n",
