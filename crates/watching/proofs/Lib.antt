@@ -15,3 +15,4 @@ mod Reaching
 mod Summed
 mod Holding
 mod OneList
+mod Settled

@@ -15,3 +15,4 @@ pub mod Holders
 pub mod HoldersTold
 pub mod Told
 pub mod Due
+pub mod Settled

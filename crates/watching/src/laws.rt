@@ -4,6 +4,7 @@ ghost use Rattle.watching.specs.Ledgers.{OutputsAreTheLedgers, OutputsAreTheChai
 ghost use Rattle.watching.specs.Ledgers.{WhichStays};
 ghost use Rattle.watching.specs.Due.{NextAreTaken, PointsAreKept, ReachStays};
 ghost use Rattle.watching.specs.Holders.{HoldersAreOne};
+ghost use Rattle.watching.specs.Settled.{IndexIsTheNodes};
 ghost use Rattle.watching.specs.Told.{HistoriesAreTheChains, InclusionsAreTheChains};
 ghost use Rattle.watching.specs.Which.{WatchedAreMeant, WatchedAreLeft, NoneIsLeftOut};
 
@@ -46,6 +47,14 @@ pub fn follows_the_told()
 /// So its outputs are the watched ones of the UTXO of that chain's ledger, where the chain has one.
 pub fn outputs_are_the_tolds()
     ensures { OutputsAreTheTolds }
+{}
+
+/// Of a node of which the chain theorem holds, and an index that began where a follower was last set and took each
+/// instruction that it was given since: once nothing is left to tell that follower, the index's outputs are those that
+/// it watches of the UTXO of the selected chain. So where it watches all, [`crate::Watch::balance`] has of each asset
+/// what the node's outputs of the address hold.
+pub fn index_is_the_nodes()
+    ensures { IndexIsTheNodes }
 {}
 
 /// What an index tells of an owner are the transactions that spent a watched output of it or made one, in the blocks
