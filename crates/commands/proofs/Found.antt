@@ -1,11 +1,9 @@
 -- The subcommand that was found, from its name and its rows.
-use Rattle.std.proofs.Common.{◌≡◌, ℕ, true, codes, List, Option, Some, None, option_map, Result, Ok, Err, refl, rules}
+use Rattle.std.proofs.Common.{◌≡◌, ℕ, true, List, Option, Some, None, option_map, Result, Ok, Err, refl, rules}
 use Rattle.std.specs.Prelude.{bytes_eq, IfSome, IfOk}
 use Rattle.std.proofs.lemmas.Slice.Eq.{bytes_eq-Decides}
-use Rattle.clap.specs.Words.{Text, Row, TriesOne, first_of}
-use Rattle.commands.specs.declared.jobs.Job.{Job}
-use Rattle.commands.specs.declared.jobs.Job.TheVariants.{Id, Show, ShowLog, Under}
-use Rattle.commands.specs.JobView.{IsLogJob, IsShowJob, IsNumberOf, IsOptionalNumber}
+use Rattle.clap.specs.Words.{Text, Row, TriesOne}
+use Rattle.commands.specs.JobView.{IsNumberOf, IsOptionalNumber}
 
 pub name_and_rows : {B : Type 0} (name : B → Text) (rows : B → List Row) (found : Option B) (n m : Text) (r : List Row) → n ≡ m → Some n ≡ option_map name found
     → Some r ≡ option_map (λ (p : Text × List Row). p.1) (option_map {U = Text × List Row} (λ b. (name b, rows b)) found) → option_map {U = Text × List Row} (λ b. (name b, rows b)) found ≡ Some (m, r)
@@ -41,10 +39,3 @@ pub optional : {E : Type 0} (gives : List ℕ → Result ℕ E → Type 0) (text
 optional gives None read none some more = let same = none refl in cc
 optional gives (Some t) None none some more = some t refl
 optional gives (Some t) (Some n) none some more = more t n (some t refl)
-
--- a log that is asked about is one that is shown
-pub log_shown : (rows : List Row) → first_of (codes "kind") rows ≡ Some (codes "log") → (job : Job) → IsLogJob rows job → IsShowJob rows job
-log_shown rows kind (ShowLog source) is = record { kind_is = kind; form_is = is.0; file_is = is.1 }
-log_shown rows kind (Id k text) is = absurd is
-log_shown rows kind (Show k form scheme text) is = absurd is
-log_shown rows kind (Under genesis task) is = absurd is

@@ -13,7 +13,6 @@ use Rattle.commands.specs.declared.jobs.Job.{Job}
 use Rattle.commands.specs.declared.jobs.Job.TheVariants.{Id, Show, ShowLog, Under}
 use Rattle.commands.specs.declared.jobs.Source.{Source}
 use Rattle.commands.specs.declared.jobs.Source.TheVariants.{File, Input}
-use Rattle.commands.specs.declared.jobs.Task.{Task}
 use Rattle.commands.specs.declared.jobs.Task.TheVariants.{Run, Sim, Replay, ShowGenesis, Check}
 use Rattle.commands.specs.declared.jobs.TextAt.{TextAt}
 
@@ -95,10 +94,10 @@ pub record IsGenesisShown (rows : List Row) (genesis : Text) (form : Form) : Typ
   pub file_is : first_of (codes "file") rows ≡ Some genesis
   pub form_is : form_in rows ≡ form
 
--- the same of a log, of which there is no document
-pub record IsLogShown (rows : List Row) (source : Source) : Type 0 where
+-- the same of a log
+pub record IsLogShown (rows : List Row) (source : Source) (form : Form) : Type 0 where
   pub kind_is : first_of (codes "kind") rows ≡ Some (codes "log")
-  pub form_is : form_in rows ≡ Lines
+  pub form_is : form_in rows ≡ form
   pub file_is : file_of source ≡ file_in (first_of (codes "file") rows)
 
 -- those of `check`
@@ -132,14 +131,9 @@ IsIdJob rows job = ⊥
 
 abbrev pub IsShowJob : List Row → Job → Type 0
 IsShowJob rows (Show kind form scheme text) = IsShow rows kind form scheme text
-IsShowJob rows (ShowLog source) = IsLogShown rows source
+IsShowJob rows (ShowLog source form) = IsLogShown rows source form
 IsShowJob rows (Under genesis (ShowGenesis form)) = IsGenesisShown rows genesis.now form
 IsShowJob rows job = ⊥
-
--- lines of a log, whatever the kind that is asked about
-abbrev pub IsLogJob : List Row → Job → Type 0
-IsLogJob rows (ShowLog source) = (form_in rows ≡ Lines) × (file_of source ≡ file_in (first_of (codes "file") rows))
-IsLogJob rows job = ⊥
 
 abbrev pub IsCheckJob : List Row → Job → Type 0
 IsCheckJob rows (Under genesis (Check base slot text)) = IsCheck rows genesis.now

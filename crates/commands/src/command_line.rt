@@ -9,7 +9,7 @@ ghost use Rattle.commands.specs.CommandLine.{script_app, short_app, placed_rule,
 ghost use Rattle.commands.specs.CommandLine.{id_app, base_app, check_app, log_app, slot_rule, scheme_rule, json_rule};
 ghost use Rattle.commands.specs.CommandLine.{form_app};
 ghost use Rattle.commands.specs.CommandLine.{show_app, text_app};
-ghost use Rattle.commands.specs.JobView.{is_given, file_in, file_of, form_in, IsTextAt, IsLogJob, IsShortJobOf};
+ghost use Rattle.commands.specs.JobView.{is_given, file_in, file_of, form_in, IsTextAt, IsShortJobOf};
 ghost use Rattle.commands.specs.JobView.{IsRunJob, IsSimJob, IsReplayJob, IsIdJob, IsCheckJob, IsShowJob};
 ghost use Rattle.commands.specs.ServeLine.{node_app, IsJobOf};
 
@@ -445,20 +445,6 @@ fn form_of(found: &ArgMatches<'_>) -> Form
     }
 }
 
-/// The question what a log has, of which there is no document.
-fn log_job<'a>(found: &ArgMatches<'a>) -> Option<Job<'a>>
-    ensures { IfSome result (IsLogJob (rows_of (found_of found.now))) }
-{
-    match form_of(found) {
-        Form::Json => None,
-        Form::Lines => {
-            let path = found.get_str("file");
-            let source = source_at(path);
-            Some(Job::ShowLog { source })
-        }
-    }
-}
-
 /// The question what a text is that these arguments name, if they name one.
 fn show_job<'a>(found: &ArgMatches<'a>) -> Option<Job<'a>>
     ensures { IfSome result (IsShowJob (rows_of (found_of found.now))) }
@@ -466,7 +452,8 @@ fn show_job<'a>(found: &ArgMatches<'a>) -> Option<Job<'a>>
     let name = found.get_str("kind")?;
     let form = form_of(found);
     if name == "log" {
-        return log_job(found);
+        let source = source_at(found.get_str("file"));
+        return Some(Job::ShowLog { source, form });
     }
     if name == "genesis" {
         let genesis = found.get_str("file")?;
@@ -560,9 +547,6 @@ fn refusal(matches: &ArgMatches<'_>) -> &'static str {
     let Some(kind) = found.get_str("kind") else {
         return "there is no KIND";
     };
-    if kind == "log" {
-        return "a log has no document";
-    }
     if kind == "genesis" {
         return "there is no FILE, which a genesis has to have";
     }

@@ -55,9 +55,10 @@ pub enum Job<'a> {
         scheme: Scheme,
         text: TextAt<'a>,
     },
-    /// Print the records of the log that stands there.
+    /// Print in this form the log that stands there.
     ShowLog {
         source: Source<'a>,
+        form: Form,
     },
     /// Do this under the genesis of this file.
     Under {

@@ -11,6 +11,7 @@ use std::alloc::Global;
 use std::fs::File;
 use std::io::{BufReader, Read, Write};
 use std::rt::Files;
+use telling::Form;
 
 /// Why the log there isn't listed to its end.
 fn unlisted<'a>(source: Source<'a>, fault: ListFault) -> Failure<'a> {
@@ -23,36 +24,42 @@ fn unlisted<'a>(source: Source<'a>, fault: ListFault) -> Failure<'a> {
     }
 }
 
-/// Prints the log that a reader gives.
+/// Prints in this form the log that a reader gives.
 fn list<'a, R: Read, O: Write>(
     alloc: Global,
     source: Source<'a>,
+    form: Form,
     from: &mut R,
     out: &mut O,
 ) -> Result<(), Failure<'a>>
     ensures { OnOk result (IfSome (R.remaining from.old)
-        (λ bytes. PrintsLog bytes (O.contents out.old) (O.contents out.new))) }
+        (λ bytes. PrintsLog form bytes (O.contents out.old) (O.contents out.new))) }
 {
     let Ok(mut reader) = BufReader::new(alloc, from) else {
         return Err(Failure::Scenario(ScenarioFault::OutOfMemory));
     };
-    match list_log(alloc, &mut reader, out) {
+    match list_log(alloc, form, &mut reader, out) {
         Ok(()) => Ok(()),
         Err(fault) => Err(unlisted(source, fault)),
     }
 }
 
-/// Prints the log that stands there, which isn't changed, nor held against other programs.
+/// Prints in this form the log that stands there, which isn't changed, nor held against other programs.
 pub fn show_log<'a, R: Files<File = File> + AllocGlobal, I: Read, O: Write>(
     rt: &R,
     source: Source<'a>,
+    form: Form,
     input: &mut I,
     out: &mut O,
-) -> Result<(), Failure<'a>> {
+) -> Result<(), Failure<'a>>
+    // Of a log on standard input just that is printed.
+    ensures { source.entry ≡ Source.Input → OnOk result (IfSome (I.remaining input.old)
+        (λ bytes. PrintsLog form bytes (O.contents out.old) (O.contents out.new))) }
+{
     match source {
-        Source::Input => list(rt.alloc(), source, input, out),
+        Source::Input => list(rt.alloc(), source, form, input, out),
         Source::File(path) => match File::open(rt, path) {
-            Ok(mut file) => list(rt.alloc(), source, &mut file, out),
+            Ok(mut file) => list(rt.alloc(), source, form, &mut file, out),
             Err(_) => Err(Failure::Unread(source)),
         },
     }

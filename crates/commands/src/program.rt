@@ -89,9 +89,7 @@ fn do_by<
         }
         Task::Replay { log } => unasked(replay::<S, _, _>(rt, &document, *log, out)),
         Task::Serve(serving) => unasked(serve::<S, _>(rt, &document, serving)),
-        Task::ShowGenesis { form } => {
-            unasked(print_genesis(rt.alloc(), *form, &document.genesis, out))
-        }
+        Task::ShowGenesis { form } => { unasked(print_genesis(rt.alloc(), *form, &document, out)) }
         Task::Check { base, slot, text } => {
             asked(check::<S, _, _, _>(rt, &document, *base, *slot, *text, input, out))
         }
@@ -152,7 +150,7 @@ fn do_read<
             scheme,
             text,
         } => unasked(show(rt, *kind, *form, *scheme, *text, input, out)),
-        Job::ShowLog { source } => unasked(show_log(rt, *source, input, out)),
+        Job::ShowLog { source, form } => unasked(show_log(rt, *source, *form, input, out)),
         Job::Under { genesis, task } => {
             let document = genesis_of_file(rt, *genesis, task.explains())?;
             do_named(rt, task, document, input, out)

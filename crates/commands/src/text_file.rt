@@ -1,6 +1,6 @@
 //! The text that a command is about, from a file or from standard input.
 
-ghost use Rattle.std.specs.Prelude.{◌≡◌, IfOk, IfSome};
+ghost use Rattle.std.specs.Prelude.{◌≡◌, ◌≤◌, length, IfOk, IfSome};
 ghost use Rattle.commands.specs.TextFile.{AreBytesOf};
 
 use crate::failure::Failure;
@@ -30,7 +30,8 @@ fn all_of<'a, R: Read>(
     source: Source<'a>,
     reader: &mut R,
 ) -> Result<Vec<u8>, Failure<'a>>
-    ensures { IfOk result (λ bytes. IfSome (R.remaining reader.old) (λ all. bytes.items ≡ all)) }
+    ensures read { IfOk result (λ bytes. IfSome (R.remaining reader.old) (λ all. bytes.items ≡ all)) }
+    ensures small { IfOk result (λ bytes. length bytes.items ≤ 16777216) }
 {
     let mut bytes = Vec::new(alloc);
     if let Err(error) = reader.read_to_end(&mut bytes) {
@@ -62,20 +63,25 @@ fn read_text<'a, R: Read>(
     text: TextAt<'a>,
     reader: &mut R,
 ) -> Result<Vec<u8>, Failure<'a>>
-    ensures { IfOk result (λ bytes. IfSome (R.remaining reader.old)
+    ensures read { IfOk result (λ bytes. IfSome (R.remaining reader.old)
         (λ read. AreBytesOf text.entry.is_binary read bytes.items)) }
+    ensures small { IfOk result (λ _. IfSome (R.remaining reader.old) (λ read. length read ≤ 16777216)) }
 {
     let read = all_of(alloc, text.source, reader)?;
     bytes_in(alloc, text, read)
 }
 
 /// The bytes of a text. One byte more than it may have makes it one that can't be read, so a file without end takes no
-/// more memory.
+/// more memory. Err too where it can't be opened or read, where it isn't the digits of bytes, or where memory runs out.
 pub fn text_of<'a, R: Files<File = File> + AllocGlobal, I: Read>(
     rt: &R,
     text: TextAt<'a>,
     input: &mut I,
-) -> Result<Vec<u8>, Failure<'a>> {
+) -> Result<Vec<u8>, Failure<'a>>
+    // On standard input the bytes are those of all that it gives, where that is known.
+    ensures { text.entry.source ≡ Source.Input → IfOk result (λ bytes. IfSome (I.remaining input.old)
+        (λ read. AreBytesOf text.entry.is_binary read bytes.items)) }
+{
     match text.source {
         Source::Input => read_text(rt.alloc(), text, &mut Read::take(input, MAX_TEXT_SIZE + 1)),
         Source::File(path) => match File::open(rt, path) {

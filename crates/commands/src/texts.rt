@@ -7,9 +7,11 @@ ghost use Rattle.chain_core.specs.Held.{Stands, network_held, opening_held};
 ghost use Rattle.scenario.specs.Handed.{RunsWell};
 ghost use Rattle.std.specs.Io.KnownBytes.{Appends};
 ghost use Rattle.telling.specs.Faults.{IsUntold};
+ghost use Rattle.telling.specs.Identifiers.{PrintsId};
 ghost use Rattle.telling.specs.Shown.{IsShownAs, PrintsShown, genesis_in};
 ghost use Rattle.telling.specs.Verdicts.{PrintsVerdict};
 ghost use Rattle.commands.specs.Schemes.{verifies_by};
+ghost use Rattle.commands.specs.TextFile.{AreBytesOf};
 
 use crate::failure::Failure;
 use crate::jobs::{Base, Source, TextAt};
@@ -45,7 +47,12 @@ pub fn identify<'a, R: Files<File = File> + AllocGlobal, I: Read, O: Write>(
     text: TextAt<'a>,
     input: &mut I,
     out: &mut O,
-) -> Result<(), Failure<'a>> {
+) -> Result<(), Failure<'a>>
+    // Of a text on standard input just that line is printed.
+    ensures { text.entry.source ≡ Source.Input → OnOk result (IfSome (I.remaining input.old)
+        (λ read. (bytes : List ℕ) × AreBytesOf text.entry.is_binary read bytes
+        × PrintsId kind bytes (O.contents out.old) (O.contents out.new))) }
+{
     let bytes = text_of(rt, text, input)?;
     match print_identifier(rt.alloc(), kind, &bytes, out) {
         Ok(()) => Ok(()),
@@ -84,7 +91,12 @@ pub fn show<'a, R: Files<File = File> + AllocGlobal, I: Read, O: Write>(
     text: TextAt<'a>,
     input: &mut I,
     out: &mut O,
-) -> Result<(), Failure<'a>> {
+) -> Result<(), Failure<'a>>
+    // Of a text on standard input just that is printed.
+    ensures { text.entry.source ≡ Source.Input → OnOk result (IfSome (I.remaining input.old)
+        (λ read. (bytes : List ℕ) × AreBytesOf text.entry.is_binary read bytes
+        × PrintsShown (verifies_by scheme) form kind bytes (O.contents out.old) (O.contents out.new))) }
+{
     let bytes = text_of(rt, text, input)?;
     match print_by(rt.alloc(), scheme, form, kind, &bytes, out) {
         Ok(()) => Ok(()),
@@ -92,16 +104,17 @@ pub fn show<'a, R: Files<File = File> + AllocGlobal, I: Read, O: Write>(
     }
 }
 
-/// Prints in this form what a genesis is.
+/// Prints in this form what a genesis is, with the scheme of its network.
 pub fn print_genesis<'a, O: Write>(
     alloc: Global,
     form: Form,
-    genesis: &Genesis,
+    document: &GenesisDocument,
     out: &mut O,
 ) -> Result<(), Failure<'a>>
-    ensures { OnOk result (Appends (O.contents out.old) (O.contents out.new) (genesis_in form genesis.now)) }
+    ensures { OnOk result (Appends (O.contents out.old) (O.contents out.new)
+        (genesis_in form document.now.scheme document.now.genesis)) }
 {
-    let Ok(text) = form.genesis(alloc, genesis) else {
+    let Ok(text) = form.genesis(alloc, document) else {
         return Err(Failure::Scenario(ScenarioFault::OutOfMemory));
     };
     match out.write_all(text.as_bytes()) {

@@ -7,12 +7,15 @@ use Rattle.model.specs.Signature.{Verifies}
 use Rattle.model.specs.Script.{Script, item_of_script}
 use Rattle.model.specs.Transaction.{Credential, KeyHash, ScriptHash, Address, Input, Output, KeyWitness, Transaction, item_of_witness, unless_empty, item_of_transaction, size_of, transaction_id_of}
 use Rattle.model.specs.Rules.{scripts_hold}
-use Rattle.model.specs.Block.{Block, item_of_block}
+use Rattle.model.specs.Block.{Block, item_of_block, block_hash_of}
 use Rattle.model.specs.Genesis.{Grant, Genesis, supply_of}
-use Rattle.describing.specs.Parts.{json_list}
+use Rattle.genesis.specs.Meaning.{scheme_name}
+use Rattle.genesis.specs.declared.scheme.Scheme.{Scheme}
+use Rattle.describing.specs.Parts.{json_list, json_of_given_bytes}
 use Rattle.describing.specs.Scripts.{json_of_script}
 use Rattle.describing.specs.Transactions.{json_of_input, json_of_credential, json_of_address, json_of_output, json_of_signature, json_of_transaction}
-use Rattle.describing.specs.Blocks.{json_of_previous, json_of_block}
+use Rattle.describing.specs.Blocks.{json_of_block}
+use Rattle.describing.specs.Records.{number_of, slot_of, json_of_record}
 use Rattle.describing.specs.Geneses.{era_slot, era_price, json_of_grant, json_of_genesis}
 use Rattle.describing.proofs.Plain.{IsPlain, deeper, number_plain, given_plain, text_plain, verdict_plain, array_plain, none_plain, also_plain, flat_plain, object_plain, mapped_plain, list_plain}
 use Rattle.describing.proofs.PlainParts.{bytes_plain, assets_plain, script_plain}
@@ -78,9 +81,9 @@ transaction_plain verifies t le =
 
 -- ---- blocks
 
-previous_plain : (o : Option (List ℕ)) → IsPlain 0 (json_of_previous o)
-previous_plain None = given_plain None
-previous_plain (Some hash) = bytes_plain hash
+given_bytes_plain : (o : Option (List ℕ)) → IsPlain 0 (json_of_given_bytes o)
+given_bytes_plain None = given_plain None
+given_bytes_plain (Some hash) = bytes_plain hash
 
 some_transactions_plain : (verifies : Verifies) (ts : List Transaction) → AllByRecursion (λ t. nesting (item_of_transaction t) ≤ 62) ts → AllByRecursion (λ t. IsPlain 64 (json_of_transaction verifies t)) ts
 some_transactions_plain verifies [] all = tt
@@ -97,18 +100,29 @@ block_plain verifies b le =
     (flat_plain 65 _ _ _ (number_plain _)
     (flat_plain 65 _ _ _ (bytes_plain _)
     (flat_plain 65 _ _ _ (number_plain _)
-    (flat_plain 65 _ _ _ (previous_plain b.header.previous)
+    (flat_plain 65 _ _ _ (given_bytes_plain b.header.previous)
     (flat_plain 65 _ _ _ (number_plain _)
     (flat_plain 65 _ _ _ (number_plain _)
     (also_plain 65 _ _ _ (transactions_plain verifies b le) (none_plain 65)))))))))
+
+-- ---- records of a log
+
+pub record_plain : (number place size : ℕ) (found : Option Block) → IsPlain 1 (json_of_record number place size found)
+record_plain number place size found =
+    object_plain 0 _ (flat_plain 0 _ _ _ (given_bytes_plain (option_map block_hash_of found))
+    (flat_plain 0 _ _ _ (given_plain (option_map number_of found))
+    (flat_plain 0 _ _ _ (number_plain place)
+    (flat_plain 0 _ _ _ (number_plain number)
+    (flat_plain 0 _ _ _ (number_plain size)
+    (flat_plain 0 _ _ _ (given_plain (option_map slot_of found)) (none_plain 0)))))))
 
 -- ---- geneses
 
 grant_plain : (g : Grant) → IsPlain 2 (json_of_grant g)
 grant_plain g = object_plain 1 _ (also_plain 1 _ _ _ (address_plain g.address) (flat_plain 1 _ _ _ (number_plain g.coin) (none_plain 1)))
 
-pub genesis_plain : (g : Genesis) → IsPlain 4 (json_of_genesis g)
-genesis_plain g =
+pub genesis_plain : (scheme : Scheme) (g : Genesis) → IsPlain 4 (json_of_genesis scheme g)
+genesis_plain scheme g =
     let p = g.params in
     object_plain 3 _ (flat_plain 3 _ _ _ (given_plain (option_map era_slot p.second_era))
     (flat_plain 3 _ _ _ (number_plain g.k)
@@ -123,4 +137,5 @@ genesis_plain g =
     (flat_plain 3 _ _ _ (number_plain p.network)
     (also_plain 3 _ _ _ (list_plain json_of_grant 2 grant_plain g.grants)
     (flat_plain 3 _ _ _ (given_plain (option_map era_price p.second_era))
-    (flat_plain 3 _ _ _ (number_plain (supply_of g)) (none_plain 3)))))))))))))))
+    (flat_plain 3 _ _ _ (text_plain (scheme_name scheme))
+    (flat_plain 3 _ _ _ (number_plain (supply_of g)) (none_plain 3))))))))))))))))

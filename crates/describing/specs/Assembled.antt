@@ -1,15 +1,17 @@
 -- Objects as they are put together, for private clauses: members go in one after another, each to its place.
-use Rattle.std.specs.Prelude.{ℕ, List, [], ◌∷◌, codes, option_map}
+use Rattle.std.specs.Prelude.{ℕ, List, [], ◌∷◌, Option, codes, option_map}
 use Rattle.serde_json.specs.Data.{Data, boolean, Members, put}
 use Rattle.model.specs.Signature.{Verifies}
 use Rattle.model.specs.Transaction.{Transaction, transaction_id_of}
 use Rattle.model.specs.Rules.{Params, scripts_hold}
 use Rattle.model.specs.Genesis.{Genesis}
-use Rattle.describing.specs.Parts.{json_of_number, json_of_given, json_list}
+use Rattle.model.specs.Block.{Block, block_hash_of}
+use Rattle.describing.specs.Parts.{json_of_number, json_of_given, json_of_given_bytes, json_list}
 use Rattle.describing.specs.Values.{json_of_assets}
 use Rattle.describing.specs.Scripts.{json_of_script}
 use Rattle.describing.specs.Transactions.{json_of_input, json_of_output, json_of_signature}
 use Rattle.describing.specs.Geneses.{era_slot, era_price}
+use Rattle.describing.specs.Records.{number_of, slot_of}
 
 -- an object's members, once these are put in too
 abbrev pub put_all : List (List ℕ × Data) → Members → Members
@@ -51,3 +53,10 @@ limits_members genesis =
     ∷ (codes "max_volatile", json_of_number genesis.max_volatile)
     ∷ (codes "max_volatile_bytes", json_of_given genesis.max_volatile_bytes)
     ∷ (codes "max_mempool", json_of_number genesis.max_mempool) ∷ []
+
+-- what is told of the block in a record
+abbrev pub facts_members : Option Block → List (List ℕ × Data)
+facts_members found =
+    (codes "hash", json_of_given_bytes (option_map block_hash_of found))
+    ∷ (codes "number", json_of_given (option_map number_of found))
+    ∷ (codes "slot", json_of_given (option_map slot_of found)) ∷ []

@@ -5,4 +5,5 @@ pub mod Scripts
 pub mod Transactions
 pub mod Blocks
 pub mod Geneses
+pub mod Records
 pub mod Assembled

@@ -27,6 +27,11 @@ json_of_given (Some n) = json_of_number n
 abbrev pub json_of_bytes : List ℕ → Data
 json_of_bytes bytes = string (encode_lower bytes)
 
+-- bytes, or `null` where none are given
+abbrev pub json_of_given_bytes : Option (List ℕ) → Data
+json_of_given_bytes None = null
+json_of_given_bytes (Some bytes) = json_of_bytes bytes
+
 -- a list, in its order
 abbrev pub json_list : {A : Type 0} → (json_of : A → Data) → List A → Data
 json_list json_of xs = array (items_of (map json_of xs))

@@ -7,9 +7,9 @@ ghost use Rattle.model.specs.Block.{block_text, item_of_block};
 ghost use Rattle.model.specs.Cbor.{nesting};
 ghost use Rattle.model.specs.Limits.{nesting_limit};
 ghost use Rattle.block.specs.View.{bytes_of};
-ghost use Rattle.describing.specs.Blocks.{json_of_block, json_of_previous};
+ghost use Rattle.describing.specs.Blocks.{json_of_block};
 ghost use Rattle.describing.specs.Documents.{document_text, IsReadAs};
-ghost use Rattle.describing.specs.Parts.{json_list};
+ghost use Rattle.describing.specs.Parts.{json_list, json_of_given_bytes};
 ghost use Rattle.describing.specs.Transactions.{json_of_transaction};
 
 use crate::documents::document;
@@ -28,7 +28,7 @@ fn put_previous(
     previous: &Option<BlockHash>,
 ) -> Result<(), AllocError>
     ensures { OnOk result (members_view object.new.entries ≡ put (codes "previous")
-        (json_of_previous (option_map bytes_of previous.now)) (members_view object.old.entries)) }
+        (json_of_given_bytes (option_map bytes_of previous.now)) (members_view object.old.entries)) }
 {
     match previous {
         Some(hash) => put_bytes(alloc, object, "previous", hash.as_bytes()),

@@ -9,9 +9,9 @@ ghost use Rattle.describing.specs.Geneses.{json_of_genesis, json_of_grant};
 ghost use Rattle.describing.specs.Parts.{json_list};
 
 use crate::documents::document;
-use crate::parts::{number_json, put_given, put_number};
+use crate::parts::{number_json, put_given, put_number, put_text};
 use crate::transactions::address_json;
-use genesis::{Genesis, Grant};
+use genesis::{Genesis, GenesisDocument, Grant};
 use serde_json::{Map, Value as Json, json};
 use std::alloc::{AllocError, Global};
 
@@ -75,12 +75,14 @@ fn grants_json(alloc: Global, grants: &[Grant]) -> Result<Json, AllocError>
 }
 
 /// A genesis.
-fn genesis_object(alloc: Global, genesis: &Genesis) -> Result<Json, AllocError>
-    ensures { IfOk result (λ json. view json ≡ json_of_genesis genesis.now) }
+fn genesis_object(alloc: Global, document: &GenesisDocument) -> Result<Json, AllocError>
+    ensures { IfOk result (λ json. view json ≡ json_of_genesis document.now.scheme document.now.genesis) }
 {
+    let genesis = &document.genesis;
     let outputs = grants_json(alloc, genesis.outputs())?;
     let mut object = Map::new(alloc);
     put_number(alloc, &mut object, "network", u64::from(genesis.network()))?;
+    put_text(alloc, &mut object, "scheme", document.scheme.name())?;
     put_params(alloc, &mut object, genesis)?;
     put_limits(alloc, &mut object, genesis)?;
     put_number(alloc, &mut object, "supply", genesis.supply())?;
@@ -88,14 +90,16 @@ fn genesis_object(alloc: Global, genesis: &Genesis) -> Result<Json, AllocError>
     Ok(Json::Object(object))
 }
 
-/// The document of a genesis, by the names of its file's keys: its `network`, what it asks of transactions and of
-/// bodies, how much a node keeps, the `supply`, all lovelace that there is, and its `outputs`, each with an `address`
-/// and a `coin`. A key that is left out is `null`. Err where memory runs out. Takes time and memory in proportion to
-/// the document.
-pub fn genesis_json(alloc: Global, genesis: &Genesis) -> Result<String, AllocError>
-    ensures text { IfOk result (λ text. string_bytes text ≡ document_text (json_of_genesis genesis.now)) }
-    ensures reads_back { IfOk result (λ text. IsReadAs (string_bytes text) (json_of_genesis genesis.now)) }
+/// The document of a genesis, by the names of its file's keys: its `network`, its `scheme`, what it asks of
+/// transactions and of bodies, how much a node keeps, the `supply`, all lovelace that there is, and its `outputs`, each
+/// with an `address` and a `coin`. A number that may be left out is `null` where it is. Err where memory runs out.
+/// Takes time and memory in proportion to the document.
+pub fn genesis_json(alloc: Global, given: &GenesisDocument) -> Result<String, AllocError>
+    ensures text { IfOk result (λ text. string_bytes text
+        ≡ document_text (json_of_genesis given.now.scheme given.now.genesis)) }
+    ensures reads_back { IfOk result (λ text. IsReadAs (string_bytes text)
+        (json_of_genesis given.now.scheme given.now.genesis)) }
 {
-    let json = genesis_object(alloc, genesis)?;
+    let json = genesis_object(alloc, given)?;
     document(alloc, &json)
 }

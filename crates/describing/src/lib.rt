@@ -17,12 +17,14 @@ mod blocks;
 mod documents;
 mod geneses;
 mod parts;
+mod records;
 mod scripts;
 mod transactions;
 mod values;
 
 pub use blocks::block_json;
 pub use geneses::genesis_json;
+pub use records::record_json;
 pub use scripts::script_json;
 pub use transactions::transaction_json;
 pub use values::value_json;

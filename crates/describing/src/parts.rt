@@ -1,7 +1,7 @@
 //! The parts of the documents: numbers, bytes, and members of objects.
 
 ghost use Rattle.std.specs.Prelude.{◌≡◌, IfOk, OnOk};
-ghost use Rattle.serde_json.specs.Data.{put};
+ghost use Rattle.serde_json.specs.Data.{put, string};
 ghost use Rattle.serde_json.specs.View.{view, members_view};
 ghost use Rattle.describing.specs.Parts.{json_of_bytes, json_of_given, json_of_number, json_of_whole};
 
@@ -68,6 +68,24 @@ pub fn put_given(
         Some(number) => put_number(alloc, object, name, number),
         None => serde_json::put(object, alloc, name, Json::Null),
     }
+}
+
+/// Puts a text into an object.
+pub fn put_text(
+    alloc: Global,
+    object: &mut Map<String, Json>,
+    name: &str,
+    text: &str,
+) -> Result<(), AllocError>
+    ensures { OnOk result (members_view object.new.entries
+        ≡ put name.now (string text.now) (members_view object.old.entries)) }
+{
+    serde_json::put(
+        object,
+        alloc,
+        name,
+        Json::String(format!(in alloc; "{text}")?),
+    )
 }
 
 /// Puts bytes into an object.

@@ -2,6 +2,7 @@
 
 ghost use Rattle.std.specs.Prelude.{◌≡◌};
 ghost use Rattle.genesis.specs.Document.{scheme_of};
+ghost use Rattle.genesis.specs.Meaning.{scheme_name};
 
 /// The scheme by which signatures are judged.
 #[derive(Clone, Copy, Debug, PartialEq, Eq)]
@@ -21,6 +22,16 @@ impl Scheme {
             "test" => Some(Scheme::Test),
             "ed25519" => Some(Scheme::Ed25519),
             _ => None,
+        }
+    }
+
+    /// Its name in a genesis document: `test` or `ed25519`.
+    pub fn name(self) -> &'static str
+        ensures { result.now ≡ scheme_name self }
+    {
+        match self {
+            Scheme::Test => "test",
+            Scheme::Ed25519 => "ed25519",
         }
     }
 }

@@ -1,8 +1,8 @@
-//! A log, record by record, for people who look into one. Nothing of it is changed.
+//! A log, record by record, as lines for people or as one JSON document for programs. Nothing of it is changed.
 //!
 //! ```text
 //! let mut reader = BufReader::new(alloc, File::open(rt, "blocks.log")?)?;
-//! list_log(alloc, &mut reader, &mut out)?; // record 1, and indented place 0, size 40, block HASH, .. end clean
+//! list_log(alloc, Form::Lines, &mut reader, &mut out)?; // record 1, and indented place 0, size 40, .. end clean
 //! ```
 #![tactic(auto)]
 

@@ -2,7 +2,9 @@
 use Rattle.std.specs.Prelude.{ℕ, ◌+◌, List, [], ◌∷◌, ◌++◌, Option, Some, None, codes}
 use Rattle.model.specs.Rules.{Params, SecondEra}
 use Rattle.model.specs.Genesis.{Grant, Genesis, supply_of}
-use Rattle.showing.specs.Lines.{number_line}
+use Rattle.genesis.specs.Meaning.{scheme_name}
+use Rattle.genesis.specs.declared.scheme.Scheme.{Scheme}
+use Rattle.showing.specs.Lines.{name_line, number_line}
 use Rattle.showing.specs.Transactions.{address_line}
 
 -- a number, where one is given
@@ -44,10 +46,12 @@ abbrev pub lines_of_grants : (place : ℕ) → List Grant → List ℕ
 lines_of_grants place [] = []
 lines_of_grants place (g ∷ gs) = lines_of_grant place g ++ lines_of_grants (place + 1) gs
 
--- THE LINES OF A GENESIS: its network, what it asks, how much a node keeps, the lovelace that there is, and its outputs
-abbrev pub lines_of_genesis : Genesis → List ℕ
-lines_of_genesis genesis =
+-- THE LINES OF A GENESIS: its network, by what scheme signatures are judged, what it asks, how much a node keeps, the
+-- lovelace that there is, and its outputs
+abbrev pub lines_of_genesis : Scheme → Genesis → List ℕ
+lines_of_genesis scheme genesis =
     number_line [] (codes "network") genesis.params.network
+    ++ (name_line [] (codes "scheme") (scheme_name scheme)
     ++ (lines_of_params genesis.params
     ++ (lines_of_limits genesis
-    ++ (number_line [] (codes "supply") (supply_of genesis) ++ lines_of_grants 0 genesis.grants)))
+    ++ (number_line [] (codes "supply") (supply_of genesis) ++ lines_of_grants 0 genesis.grants))))

@@ -18,6 +18,10 @@ number_line margin word number = margin ++ (word ++ (codes " " ++ (decimal numbe
 abbrev pub bytes_line : (margin word bytes : List ℕ) → List ℕ
 bytes_line margin word bytes = margin ++ (word ++ (codes " " ++ (encode_lower bytes ++ 10 ∷ [])))
 
+-- a word, a space and a name
+abbrev pub name_line : (margin word name : List ℕ) → List ℕ
+name_line margin word name = margin ++ (word ++ (codes " " ++ (name ++ 10 ∷ [])))
+
 -- the words for a verdict
 abbrev pub verdict_line : (margin good bad : List ℕ) → Bool → List ℕ
 verdict_line margin good bad verdict = words_line margin (if verdict then good else bad)

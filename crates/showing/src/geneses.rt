@@ -5,9 +5,9 @@ ghost use Rattle.genesis.specs.View.{era_view, grant_view};
 ghost use Rattle.showing.specs.Geneses.{given_line, lines_of_era, lines_of_genesis, lines_of_grant, lines_of_grants};
 ghost use Rattle.showing.specs.Geneses.{lines_of_limits, lines_of_params};
 
-use crate::lines::put_number;
+use crate::lines::{put_name, put_number};
 use crate::transactions::put_address;
-use genesis::{Genesis, Grant, SecondEra};
+use genesis::{Genesis, GenesisDocument, Grant, SecondEra};
 use std::alloc::{AllocError, Global};
 
 /// Appends the line of a number, where one is given.
@@ -76,24 +76,28 @@ fn put_grants(out: &mut String, grants: &[Grant]) -> Result<(), AllocError>
 }
 
 /// Appends the lines of a genesis.
-fn put_genesis(out: &mut String, genesis: &Genesis) -> Result<(), AllocError>
-    ensures { OnOk result (string_bytes out.new ≡ string_bytes out.old ++ lines_of_genesis genesis.now) }
+fn put_genesis(out: &mut String, document: &GenesisDocument) -> Result<(), AllocError>
+    ensures { OnOk result (string_bytes out.new
+        ≡ string_bytes out.old ++ lines_of_genesis document.now.scheme document.now.genesis) }
 {
+    let genesis = &document.genesis;
     put_number(out, "", "network", genesis.network() as u64)?;
+    put_name(out, "", "scheme", document.scheme.name())?;
     put_params(out, genesis)?;
     put_limits(out, genesis)?;
     put_number(out, "", "supply", genesis.supply())?;
     put_grants(out, genesis.outputs())
 }
 
-/// The lines of a genesis, by the names of its file's keys: `network N`, what it asks of transactions and of bodies,
-/// how much a node keeps, `supply N`, all lovelace that there is, and of each output `output I` with its address and
-/// its coin. Keys that may be left out have a line just where they are given. Err where memory runs out. Takes time and
-/// memory in proportion to the lines.
-pub fn show_genesis(alloc: Global, genesis: &Genesis) -> Result<String, AllocError>
-    ensures { IfOk result (λ lines. string_bytes lines ≡ lines_of_genesis genesis.now) }
+/// The lines of a genesis, by the names of its file's keys: `network N`, `scheme NAME`, what it asks of transactions
+/// and of bodies, how much a node keeps, `supply N`, all lovelace that there is, and of each output `output I` with its
+/// address and its coin. Keys of numbers that may be left out have a line just where they are given. Err where memory
+/// runs out. Takes time and memory in proportion to the lines.
+pub fn show_genesis(alloc: Global, document: &GenesisDocument) -> Result<String, AllocError>
+    ensures { IfOk result (λ lines. string_bytes lines
+        ≡ lines_of_genesis document.now.scheme document.now.genesis) }
 {
     let mut lines = String::new(alloc);
-    put_genesis(&mut lines, genesis)?;
+    put_genesis(&mut lines, document)?;
     Ok(lines)
 }

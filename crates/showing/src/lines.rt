@@ -2,7 +2,7 @@
 //! appended here and elsewhere in this crate may stand there.
 
 ghost use Rattle.std.specs.Prelude.{◌≡◌, ◌++◌, IfOk, OnOk, string_bytes};
-ghost use Rattle.showing.specs.Lines.{bytes_line, inner_margin, number_line, verdict_line, words_line};
+ghost use Rattle.showing.specs.Lines.{bytes_line, inner_margin, name_line, number_line, verdict_line, words_line};
 
 use ident::Id;
 use std::alloc::{AllocError, Global};
@@ -38,6 +38,13 @@ pub fn put_id<Kind>(
     ensures { OnOk result (string_bytes out.new ≡ string_bytes out.old ++ bytes_line margin.now word.now id.now.bytes) }
 {
     write!(out, "{margin}{word} {id}\n")
+}
+
+/// Appends a line of a word and a name.
+pub fn put_name(out: &mut String, margin: &str, word: &str, name: &str) -> Result<(), AllocError>
+    ensures { OnOk result (string_bytes out.new ≡ string_bytes out.old ++ name_line margin.now word.now name.now) }
+{
+    write!(out, "{margin}{word} {name}\n")
 }
 
 /// Appends the line of a verdict.

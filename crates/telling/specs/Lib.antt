@@ -1,3 +1,4 @@
+pub mod Misreadings
 pub mod HexText
 pub mod Kinds
 pub mod Identifiers

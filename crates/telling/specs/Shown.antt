@@ -12,13 +12,16 @@ use Rattle.model.specs.Value as value
 use Rattle.model.specs.Value.{SpellsValue}
 use Rattle.block.specs.Read.{IsRead}
 use Rattle.showing.specs.Blocks.{lines_of_block}
+use Rattle.genesis.specs.declared.scheme.Scheme.{Scheme}
 use Rattle.showing.specs.Geneses.{lines_of_genesis}
+use Rattle.showing.specs.Records.{AreLinesOfRecord}
 use Rattle.showing.specs.Scripts.{lines_of_script}
 use Rattle.showing.specs.Transactions.{lines_of_transaction}
 use Rattle.showing.specs.Values.{lines_of_value}
 use Rattle.describing.specs.Documents.{document_text}
 use Rattle.describing.specs.Blocks.{json_of_block}
 use Rattle.describing.specs.Geneses.{json_of_genesis}
+use Rattle.describing.specs.Records.{IsRecordText}
 use Rattle.describing.specs.Scripts.{json_of_script}
 use Rattle.describing.specs.Transactions.{json_of_transaction}
 use Rattle.describing.specs.Values.{json_of_value}
@@ -45,9 +48,13 @@ abbrev pub value_in : Form → value.Value → List ℕ
 value_in Lines v = lines_of_value [] v
 value_in Json v = document_text (json_of_value v)
 
-abbrev pub genesis_in : Form → genesis.Genesis → List ℕ
-genesis_in Lines g = lines_of_genesis g
-genesis_in Json g = document_text (json_of_genesis g)
+abbrev pub genesis_in : Form → Scheme → genesis.Genesis → List ℕ
+genesis_in Lines scheme g = lines_of_genesis scheme g
+genesis_in Json scheme g = document_text (json_of_genesis scheme g)
+
+abbrev pub IsRecordIn : Form → (number place : ℕ) → (block text : List ℕ) → Type 0
+IsRecordIn Lines number place block text = AreLinesOfRecord number place block text
+IsRecordIn Json number place block text = IsRecordText number place block text
 
 -- WHAT SHOWS A TEXT
 -- The bytes are the text of a transaction that is shown so, or of a native script or a value that is; or they are read

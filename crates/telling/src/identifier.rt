@@ -4,9 +4,10 @@ ghost use Rattle.std.specs.Prelude.{◌≡◌, ◌≢◌, ℕ, List, IfOk, OnOk,
 ghost use Rattle.telling.specs.Identifiers.{id_text, IsIdOf, IsIdLine, PrintsId};
 ghost use Rattle.telling.specs.Faults.{IsUntold};
 
-use crate::fault::TellFault;
+use crate::fault::{TellFault, block_fault};
 use crate::kind::Kind;
 use crate::line::write_line;
+use crate::misreading::misreading_of;
 use block::look;
 use cbor::CborFault;
 use ident::Hex;
@@ -22,7 +23,7 @@ fn transaction_id(alloc: Global, bytes: &[u8]) -> Result<[u8; 32], TellFault>
 {
     match Tx::decode(alloc, bytes) {
         Ok(tx) => Ok(tx.id().bytes),
-        Err(CborFault::Malformed) => Err(TellFault::NoTransaction),
+        Err(CborFault::Malformed) => Err(TellFault::NoTransaction(misreading_of(bytes))),
         Err(CborFault::OutOfMemory) => Err(TellFault::OutOfMemory),
     }
 }
@@ -34,7 +35,7 @@ fn block_hash(alloc: Global, bytes: &[u8]) -> Result<[u8; 32], TellFault>
 {
     match look(alloc, bytes) {
         Ok(Ok(block)) => Ok(block.hash().bytes),
-        Ok(Err(bad)) => Err(TellFault::NoBlock(bad)),
+        Ok(Err(bad)) => Err(block_fault(bad, bytes)),
         Err(AllocError) => Err(TellFault::OutOfMemory),
     }
 }
@@ -46,7 +47,7 @@ fn script_hash(alloc: Global, bytes: &[u8]) -> Result<[u8; 32], TellFault>
 {
     match Script::decode(alloc, bytes) {
         Ok(script) => Ok(script.hash().bytes),
-        Err(CborFault::Malformed) => Err(TellFault::NoScript),
+        Err(CborFault::Malformed) => Err(TellFault::NoScript(misreading_of(bytes))),
         Err(CborFault::OutOfMemory) => Err(TellFault::OutOfMemory),
     }
 }

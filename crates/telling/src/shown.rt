@@ -7,10 +7,11 @@ ghost use Rattle.cbor.specs.Gives.{IfMalformed};
 ghost use Rattle.telling.specs.Faults.{IsUntold};
 ghost use Rattle.telling.specs.Shown.{IsShownAs, PrintsShown};
 
-use crate::fault::TellFault;
+use crate::fault::{TellFault, block_fault};
 use crate::form::Form;
 use crate::kind::Kind;
 use crate::line::write_line;
+use crate::misreading::misreading_of;
 use block::look;
 use cbor::CborFault;
 use std::alloc::{AllocError, Global};
@@ -32,7 +33,7 @@ fn transaction_shown<S: SigScheme>(
 {
     let tx = match Tx::decode(alloc, bytes) {
         Ok(tx) => tx,
-        Err(CborFault::Malformed) => return Err(TellFault::NoTransaction),
+        Err(CborFault::Malformed) => return Err(TellFault::NoTransaction(misreading_of(bytes))),
         Err(CborFault::OutOfMemory) => return Err(TellFault::OutOfMemory),
     };
     let Ok(checked) = plain::<S>(alloc, tx) else {
@@ -51,7 +52,7 @@ fn block_shown<S: SigScheme>(alloc: Global, form: Form, bytes: &[u8]) -> Result<
 {
     let found = match look(alloc, bytes) {
         Ok(Ok(found)) => found,
-        Ok(Err(bad)) => return Err(TellFault::NoBlock(bad)),
+        Ok(Err(bad)) => return Err(block_fault(bad, bytes)),
         Err(AllocError) => return Err(TellFault::OutOfMemory),
     };
     let Ok(block) = found.into_checked_block::<S>(alloc) else {
@@ -70,7 +71,7 @@ fn script_shown<S: SigScheme>(alloc: Global, form: Form, bytes: &[u8]) -> Result
 {
     let script = match Script::decode(alloc, bytes) {
         Ok(script) => script,
-        Err(CborFault::Malformed) => return Err(TellFault::NoScript),
+        Err(CborFault::Malformed) => return Err(TellFault::NoScript(misreading_of(bytes))),
         Err(CborFault::OutOfMemory) => return Err(TellFault::OutOfMemory),
     };
     match form.script(alloc, &script) {
@@ -99,7 +100,7 @@ fn value_shown<S: SigScheme>(alloc: Global, form: Form, bytes: &[u8]) -> Result<
 {
     let value = match value_of(alloc, bytes) {
         Ok(value) => value,
-        Err(CborFault::Malformed) => return Err(TellFault::NoValue),
+        Err(CborFault::Malformed) => return Err(TellFault::NoValue(misreading_of(bytes))),
         Err(CborFault::OutOfMemory) => return Err(TellFault::OutOfMemory),
     };
     match form.value(alloc, &value) {

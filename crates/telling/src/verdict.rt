@@ -11,6 +11,7 @@ ghost use Rattle.telling.specs.Verdicts.{verdict_of, PrintsEvaluation, PrintsVer
 use crate::evaluation_text::put_evaluation;
 use crate::fault::TellFault;
 use crate::line::write_line;
+use crate::misreading::misreading_of;
 use chain_core::Core;
 use mempool::Evaluation;
 use std::alloc::Global;
@@ -88,7 +89,7 @@ pub fn print_verdict<S: SigScheme, W: Write>(
         return Err(TellFault::OutOfMemory);
     };
     if let Evaluation::Malformed = evaluation {
-        return Err(TellFault::NoTransaction);
+        return Err(TellFault::NoTransaction(misreading_of(bytes)));
     }
     print_evaluation(alloc, &evaluation, out)
 }

@@ -98,11 +98,11 @@ pub fn explain_early(params: &Params, slot: u64, utxo: &Utxo, tx: &Tx) -> Option
     }
 }
 
-/// The first of the reasons 8 to 14 with what it is about, against a transaction that [`explain_early`] found none of
-/// the others against on this UTXO; None where there is none of these either. It is [`check_late`], and then a search
-/// as that of [`explain_early`]. Err where memory ran out. One pass over what the reason's condition asks is more than
-/// `check_late` costs; of a transaction that isn't balanced the sums are made twice more, and where a signature isn't
-/// good those before it are verified once more.
+/// For a transaction against which [`explain_early`] finds nothing on this UTXO: the first of the reasons 8 to 14 with
+/// what it is about, or None where none of them applies. It is [`check_late`], and then a search for what breaks the
+/// condition of the reason that it told. Err where memory ran out. It costs what `check_late` does and one pass more
+/// over what the condition looks at: the sums are made twice more where a transaction isn't balanced, and where a
+/// signature isn't good those before it are verified once more.
 pub fn explain_late<S: SigScheme>(
     alloc: Global,
     utxo: &Utxo,

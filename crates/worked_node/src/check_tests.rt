@@ -117,9 +117,9 @@ fn checks_on_a_genesis(rt: HostRuntime) {
     let bad = write_file(&rt, &folder, "bad", BADLY_SIGNED);
     checks(&rt, &folder, (none, bad.as_str()), (1, BAD_SIGNATURE, ""));
     let script = write_file(&rt, &folder, "script", &["820180"]);
-    let told = format!(in rt.alloc(); "{script} is no transaction: malformed CBOR\n").expect(
-        &rt, MEMORY,
-    );
+    let told = format!(in rt.alloc();
+        "{script} is no transaction: CBOR of something else\n"
+    ).expect(&rt, MEMORY);
     checks(
         &rt,
         &folder,

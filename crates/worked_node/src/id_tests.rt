@@ -86,7 +86,7 @@ fn texts_on_standard_input(rt: HostRuntime) {
     ends_on(&rt, words.as_slice(), text, (0, ALWAYS, ""));
     let (without, _) = words.split_at(3);
     ends_on(&rt, without, text, (0, ALWAYS, ""));
-    let told = "standard input is no script: malformed CBOR\n";
+    let told = "standard input is no script: malformed CBOR: the text ends before its item does\n";
     ends_on(&rt, without, b"8201".as_slice(), (1, "", told));
     let told = "standard input: the character at place 3 is no hexadecimal digit\n";
     ends_on(&rt, without, b"82-1".as_slice(), (1, "", told));
@@ -108,7 +108,9 @@ fn bytes_of_a_file(rt: HostRuntime) {
     let words = ["node", "id", "script", file.as_str(), "--binary"];
     ends(&rt, words.as_slice(), 0, ALWAYS, "");
     fs::write(&rt, file.as_str(), b"\x82\x01\x80\n".as_slice()).expect(&rt, "a file");
-    let told = format!(in rt.alloc(); "{file} is no script: malformed CBOR\n").expect(&rt, MEMORY);
+    let told = format!(in rt.alloc();
+        "{file} is no script: malformed CBOR: the text goes on at byte 3 behind its item\n"
+    ).expect(&rt, MEMORY);
     ends(&rt, words.as_slice(), 1, "", told.as_str());
     remove(&rt, &folder);
 }
@@ -118,11 +120,35 @@ const NONE: &[(&str, &str, &str)] = &[
     (
         "transaction",
         "820180",
-        " is no transaction: malformed CBOR\n",
+        " is no transaction: CBOR of something else\n",
     ),
-    ("transaction", "", " is no transaction: malformed CBOR\n"),
-    ("script", "82018000", " is no script: malformed CBOR\n"),
-    ("block", "820180", " is no block: the bytes are no block\n"),
+    (
+        "transaction",
+        "",
+        " is no transaction: malformed CBOR: the text ends before its item does\n",
+    ),
+    (
+        "script",
+        "82018000",
+        " is no script: malformed CBOR: the text goes on at byte 3 behind its item\n",
+    ),
+    // A head of two bytes for a number below 24, and a text string.
+    (
+        "script",
+        "82 1803 80",
+        " is no script: malformed CBOR: byte 2 makes a number that has a shorter form\n",
+    ),
+    (
+        "script",
+        "82 01 6161",
+        " is no script: malformed CBOR: byte 2 begins no item\n",
+    ),
+    ("block", "820180", " is no block: CBOR of something else\n"),
+    (
+        "block",
+        "82 84 01 01 f6 5f",
+        " is no block: malformed CBOR: byte 5 begins no item\n",
+    ),
     (
         "block",
         "82840101f658200000000000000000000000000000000000000000000000000000000000000000 80",

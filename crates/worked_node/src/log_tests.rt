@@ -331,6 +331,34 @@ const SECOND_LISTED: &str = "record 2
   slot 5
 ";
 
+/// Both as JSON.
+const FIRST_AS_JSON: &str =
+    "{\"hash\":\"3b232b00fdf18aa5f2e408bd66e32ceb313459697b54313151494910541c08aa\",\"number\":1,\"place\":0,\
+    \"record\":1,\"size\":40,\"slot\":1}";
+
+const SECOND_AS_JSON: &str =
+    "{\"hash\":\"96f42fc392da943a5ebb5c35bb3f5bb0667b1eaffafe4804452df4423d3e7504\",\"number\":2,\"place\":77,\
+    \"record\":2,\"size\":73,\"slot\":5}";
+
+/// The log in the file as one document, with this status, and this is printed and told.
+fn describes(
+    rt: &(impl Abort
+        + Files<File = File>
+        + AllocGlobal
+        + Threads
+        + Wait
+        + Process
+        + Copy
+        + Send
+        + Sync
+        + 'static),
+    paths: &Paths,
+    (status, printed, told): (u8, &str, &str),
+) {
+    let words = ["node", "show", "--json", "log", paths.log.as_str()];
+    ends(rt, words.as_slice(), status, printed, told);
+}
+
 /// The log in the file is listed, with this status, and this is printed and told.
 fn lists(
     rt: &(impl Abort
@@ -385,13 +413,67 @@ fn odd_logs_are_listed(rt: HostRuntime) {
     write_log(&rt, &paths, b"network = 0\n");
     let told = format!(in rt.alloc(); "{} is no log\n", paths.log).expect(&rt, MEMORY);
     lists(&rt, &paths, (1, "", told.as_str()));
-    let words = ["node", "show", "--json", "log", paths.log.as_str()];
-    ends(
-        &rt,
-        words.as_slice(),
-        2,
-        "",
-        "error: a log has no document\n..",
-    );
+    remove(&rt, &folder);
+}
+
+/// The log in the file, as one document, has those two records and this end.
+fn ends_as(
+    rt: &(impl Abort
+        + Files<File = File>
+        + AllocGlobal
+        + Threads
+        + Wait
+        + Process
+        + Copy
+        + Send
+        + Sync
+        + 'static),
+    paths: &Paths,
+    end: &str,
+) {
+    let document = format!(in rt.alloc();
+        "{{\"blocks\":[{FIRST_AS_JSON},{SECOND_AS_JSON}],\"end\":\"{end}\"}}\n"
+    ).expect(rt, MEMORY);
+    describes(rt, paths, (0, document.as_str(), ""));
+}
+
+// At rest, with a record that was being written, and damaged in the second record: then the document has no end.
+#[test]
+fn log_as_a_document(rt: HostRuntime) {
+    let folder = own_folder(&rt);
+    let paths = Paths::of(&rt, &folder, TWO_LOGGED);
+    runs_on_log(&rt, &paths, (0, FOUR_KEPT, ""));
+    ends_as(&rt, &paths, "clean");
+    let mut bytes = log_bytes(&rt, &paths);
+    assert!(&rt; bytes.len() == 188);
+    bytes
+        .extend_from_slice(b"\x00\x00\x00\x28\x01".as_slice())
+        .expect(&rt, MEMORY);
+    write_log(&rt, &paths, &bytes);
+    ends_as(&rt, &paths, "torn");
+    bytes[90] ^= 1;
+    write_log(&rt, &paths, &bytes);
+    let damaged = format!(in rt.alloc(); "{{\"blocks\":[{FIRST_AS_JSON}").expect(&rt, MEMORY);
+    describes(&rt, &paths, (1, damaged.as_str(), "log: damaged at 77\n"));
+    remove(&rt, &folder);
+}
+
+/// The document of a log whose only block is none.
+const NO_BLOCK_AS_JSON: &str =
+    "{\"blocks\":[{\"hash\":null,\"number\":null,\"place\":0,\"record\":1,\"size\":1,\"slot\":null}],\
+    \"end\":\"clean\"}\n";
+
+// One without a record, one whose record has no block, and a file that is none, of which nothing is printed.
+#[test]
+fn odd_logs_as_documents(rt: HostRuntime) {
+    let folder = own_folder(&rt);
+    let paths = Paths::of(&rt, &folder, THREE);
+    write_log(&rt, &paths, b"\x00");
+    describes(&rt, &paths, (0, "{\"blocks\":[],\"end\":\"clean\"}\n", ""));
+    write_log(&rt, &paths, NO_BLOCK);
+    describes(&rt, &paths, (0, NO_BLOCK_AS_JSON, ""));
+    write_log(&rt, &paths, b"network = 0\n");
+    let told = format!(in rt.alloc(); "{} is no log\n", paths.log).expect(&rt, MEMORY);
+    describes(&rt, &paths, (1, "", told.as_str()));
     remove(&rt, &folder);
 }

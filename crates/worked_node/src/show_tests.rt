@@ -58,6 +58,7 @@ const SCRIPT_SHOWN: &str = "script 310e8ad6fd176849a5667f8309d828a7aa48dd2d56e30
 
 /// The genesis of these tests.
 const GENESIS_SHOWN: &str = "network 0
+scheme test
 min_fee_a 1
 min_fee_b 100
 min_utxo 10
@@ -95,7 +96,7 @@ const GENESIS_JSON: &str =
     \"max_volatile\":100,\"max_volatile_bytes\":null,\"min_fee_a\":1,\"min_fee_b\":100,\"min_utxo\":10,\
     \"network\":0,\
     \"outputs\":[{\"address\":{\"hash\":\"72cd6e8422c407fb6d098690f1130b7ded7ec2f7f5e1d30bd9d521f015363793\",\
-    \"kind\":\"key\",\"network\":0},\"coin\":1200}],\"per_asset\":null,\"supply\":1200}\n";
+    \"kind\":\"key\",\"network\":0},\"coin\":1200}],\"per_asset\":null,\"scheme\":\"test\",\"supply\":1200}\n";
 
 /// A value of 5 lovelace and of two assets of one policy, the first of which has the empty name, and the second 2^53
 /// units: the least number that a document has in quotes.
@@ -246,8 +247,12 @@ fn texts_as_documents(rt: HostRuntime) {
 fn value_on_standard_input(rt: HostRuntime) {
     let words = ["node", "show", "value"];
     ends_on(&rt, words.as_slice(), VALUE, (0, VALUE_SHOWN, ""));
-    let told = "standard input is no value: malformed CBOR\n";
+    let told = "standard input is no value: CBOR of something else\n";
     ends_on(&rt, words.as_slice(), b"820580".as_slice(), (1, "", told));
+    let told =
+        "standard input is no value: malformed CBOR: the key at byte 5 is not after the key before it\n";
+    let keys_back = b"82 05 a2 02 00 01 00".as_slice();
+    ends_on(&rt, words.as_slice(), keys_back, (1, "", told));
     let json = ["node", "show", "--json", "value"];
     ends_on(&rt, json.as_slice(), VALUE, (0, VALUE_JSON, ""));
 }
@@ -257,6 +262,6 @@ fn script_on_standard_input(rt: HostRuntime) {
     let words = ["node", "show", "script"];
     let shown = (0, SCRIPT_SHOWN, "");
     ends_on(&rt, words.as_slice(), b"82 01 80".as_slice(), shown);
-    let told = "standard input is no script: malformed CBOR\n";
+    let told = "standard input is no script: malformed CBOR: the text ends before its item does\n";
     ends_on(&rt, words.as_slice(), b"8201".as_slice(), (1, "", told));
 }

@@ -23,6 +23,8 @@ mod item_shapes;
 #[cfg(test)]
 mod items;
 #[cfg(test)]
+mod misfits;
+#[cfg(test)]
 mod pools;
 #[cfg(test)]
 mod scripts;

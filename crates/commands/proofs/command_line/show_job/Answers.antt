@@ -1,16 +1,18 @@
 use Rattle.std.proofs.Common.{Some, sym, ap, ◌∙◌, codes}
-use Rattle.clap.specs.Words.{found_of, rows_of}
+use Rattle.clap.specs.Words.{found_of}
 use Rattle.clap.proofs.WalkLemmas.{first_value-rows}
-use Rattle.commands.specs.JobView.{IsLogJob, IsShowJob}
-use Rattle.commands.proofs.Found.{same_text, some_weaker, log_shown}
+use Rattle.commands.specs.JobView.{file_in}
+use Rattle.commands.proofs.Found.{same_text}
 use Rattle.commands.proofs.command_line.show_job.Goals as goal
 
 pub returns-then-eq : goal.returns-then-eq
 returns-then-eq c =
     let found = found_of c.args.found.now in
-    some_weaker (IsLogJob (rows_of found)) (IsShowJob (rows_of found)) c.log_job.result
-    (log_shown (rows_of found) (sym (first_value-rows found (codes "kind")) ∙ (sym c.in_ok-name.ensures ∙ ap Some (same_text c.in_ok-name.name.now (codes "log") c.if-eq.ensures))))
-    c.log_job.ensures
+    record {
+      kind_is = sym (first_value-rows found (codes "kind")) ∙ (sym c.in_ok-name.ensures ∙ ap Some (same_text c.in_ok-name.name.now (codes "log") c.if-eq.ensures));
+      form_is = sym c.form_of-form.ensures;
+      file_is = c.source_at-source.ensures ∙ ap file_in (c.get_str-then-eq.ensures ∙ first_value-rows found (codes "file"));
+    }
 
 pub returns-then-eq-2 : goal.returns-then-eq-2
 returns-then-eq-2 c =

@@ -6,10 +6,10 @@ use Rattle.describing.proofs.geneses.genesis_json.Goals as goal
 
 pub returns-clause-text : goal.returns-clause-text
 returns-clause-text c =
-    let genesis = c.args.genesis.now in
-    text_told c.document.result _ (json_of_genesis genesis) c.in_ok-json.ensures 4 (genesis_plain genesis) c.document.ensures.text
+    let given = c.args.given.now in
+    text_told c.document.result _ (json_of_genesis given.scheme given.genesis) c.in_ok-json.ensures 4 (genesis_plain given.scheme given.genesis) c.document.ensures.text
 
 pub returns-clause-reads_back : goal.returns-clause-reads_back
 returns-clause-reads_back c =
-    let genesis = c.args.genesis.now in
-    read_back c.document.result _ (json_of_genesis genesis) c.in_ok-json.ensures 4 (genesis_plain genesis) (omega arith) c.document.ensures.reads_back
+    let given = c.args.given.now in
+    read_back c.document.result _ (json_of_genesis given.scheme given.genesis) c.in_ok-json.ensures 4 (genesis_plain given.scheme given.genesis) (omega arith) c.document.ensures.reads_back

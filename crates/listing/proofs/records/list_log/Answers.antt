@@ -11,7 +11,7 @@ returns-in_default-clause-fault g c = no_memory (g.R.Read.remaining c.args.reade
 pub records-init : goal.records-init
 records-init g c = record {
   room = let l = c.in-Ok.ensures.len in omega arith;
-  listed = starts (g.R.Read.remaining c.args.reader.now) (g.W.Write.contents c.args.out.now);
+  listed = starts c.args.form (g.R.Read.remaining c.args.reader.now) (g.W.Write.contents c.args.out.now);
 }
 
 pub read_part-requires : goal.read_part-requires
@@ -22,17 +22,17 @@ returns-in_default-read_part-clause-fault g c = read_fails (g.R.Read.remaining c
 
 pub returns-in-End-clause-listed : goal.returns-in-End-clause-listed
 returns-in-End-clause-listed g c =
-    end_answered c.print_end.result (g.R.Read.remaining c.args.reader.now) (g.R.Read.remaining c.records.reader) (g.R.Read.remaining c.read_part.new.reader) c.records.number c.records.place c.read_part.new.room c.in-End.end (g.W.Write.contents c.args.out.now) (g.W.Write.contents c.records.out) (g.W.Write.contents c.print_end.new.out)
+    end_answered c.args.form c.print_end.result (g.R.Read.remaining c.args.reader.now) (g.R.Read.remaining c.records.reader) (g.R.Read.remaining c.read_part.new.reader) c.records.number c.records.place c.read_part.new.room c.in-End.end (g.W.Write.contents c.args.out.now) (g.W.Write.contents c.records.out) (g.W.Write.contents c.print_end.new.out)
     c.records.invariant.listed (rw c.in-End.is at c.in-Ok-read_part.ensures.part) c.print_end.ensures.ok
 
 pub returns-in-End-clause-fault : goal.returns-in-End-clause-fault
 returns-in-End-clause-fault g c =
-    all_foreign (g.R.Read.remaining c.args.reader.now) (g.R.Read.remaining c.records.reader) (g.R.Read.remaining c.read_part.new.reader) c.records.number c.records.place c.read_part.new.room c.in-End.end (g.W.Write.contents c.args.out.now) (g.W.Write.contents c.records.out) c.print_end.result
+    all_foreign c.args.form (g.R.Read.remaining c.args.reader.now) (g.R.Read.remaining c.records.reader) (g.R.Read.remaining c.read_part.new.reader) c.records.number c.records.place c.read_part.new.room c.in-End.end (g.W.Write.contents c.args.out.now) (g.W.Write.contents c.records.out) c.print_end.result
     c.records.invariant.listed (rw c.in-End.is at c.in-Ok-read_part.ensures.part) c.print_end.ensures.fault
 
 pub returns-in-Vain-clause-fault : goal.returns-in-Vain-clause-fault
 returns-in-Vain-clause-fault g c =
-    all_vain (g.R.Read.remaining c.args.reader.now) (g.R.Read.remaining c.records.reader) (g.R.Read.remaining c.read_part.new.reader) c.records.number c.records.place c.read_part.new.room (g.W.Write.contents c.args.out.now) (g.W.Write.contents c.records.out)
+    all_vain c.args.form (g.R.Read.remaining c.args.reader.now) (g.R.Read.remaining c.records.reader) (g.R.Read.remaining c.read_part.new.reader) c.records.number c.records.place c.read_part.new.room (g.W.Write.contents c.args.out.now) (g.W.Write.contents c.records.out)
     c.records.invariant.listed (rw c.in-Vain.is at c.in-Ok-read_part.ensures.part)
 
 pub overflow_add-len : goal.overflow_add-len
@@ -53,7 +53,7 @@ block_in-requires-clause-within g c =
 
 pub returns-in_err-print_record-in-Record-clause-listed : goal.returns-in_err-print_record-in-Record-clause-listed
 returns-in_err-print_record-in-Record-clause-listed g c =
-    refused_listed c.from_residual.result (err_from_is_err_and c.from_residual.result c.from_residual.ensures.1) (IfSome (g.R.Read.remaining c.args.reader.now) (λ bytes. PrintsLog bytes (g.W.Write.contents c.args.out.now) (g.W.Write.contents c.print_record.new.out)))
+    refused_listed c.from_residual.result (err_from_is_err_and c.from_residual.result c.from_residual.ensures.1) (IfSome (g.R.Read.remaining c.args.reader.now) (λ bytes. PrintsLog c.args.form bytes (g.W.Write.contents c.args.out.now) (g.W.Write.contents c.print_record.new.out)))
 
 pub returns-in_err-print_record-in-Record-clause-fault : goal.returns-in_err-print_record-in-Record-clause-fault
 returns-in_err-print_record-in-Record-clause-fault g c =
@@ -65,7 +65,7 @@ records-preserved g c =
     let same = room_is c.records.room.len c.read_part.new.room c.records.room.items (c.read_part.ensures.len ∙ (ap length c.deref_mut.ensures.value ∙ sym c.records.room.ok.0)) in
     record {
       room = omega (arith, ap length same, c.read_part.ensures.len, ap length c.deref_mut.ensures.value, c.records.invariant.room);
-      listed = more_listed (g.R.Read.remaining c.args.reader.now) (g.R.Read.remaining c.records.reader) (g.R.Read.remaining c.read_part.new.reader) c.records.number c.records.place c.in-Record.len c.in-Some.next c.read_part.new.room c.block_in.result.now (g.W.Write.contents c.args.out.now) (g.W.Write.contents c.records.out) (g.W.Write.contents c.print_record.new.out)
+      listed = more_listed c.args.form (g.R.Read.remaining c.args.reader.now) (g.R.Read.remaining c.records.reader) (g.R.Read.remaining c.read_part.new.reader) c.records.number c.records.place c.in-Record.len c.in-Some.next c.read_part.new.room c.block_in.result.now (g.W.Write.contents c.args.out.now) (g.W.Write.contents c.records.out) (g.W.Write.contents c.print_record.new.out)
           c.records.invariant.listed (rw c.in-Record.is at c.in-Ok-read_part.ensures.part)
           (λ b held. c.block_in.ensures b (ap (take c.in-Record.len) (c.deref.ensures.value ∙ same) ∙ held))
           c.in-Some.ensures.1 c.in_ok-print_record-in-Record.ensures.ok;

@@ -5,7 +5,7 @@ use Rattle.telling.proofs.Told.{no_transaction, verdict_printed, told_outside}
 use Rattle.telling.proofs.verdict.print_verdict.Goals as goal
 
 pub returns-in-Malformed-clause-fault : goal.returns-in-Malformed-clause-fault
-returns-in-Malformed-clause-fault g c = λ s stands. (refl, no_transaction (network_held c.args.core.now g.S.SigScheme.verifies) s c.args.slot c.args.bytes.now c.in-Ok.evaluation c.in-Malformed.is (c.in-Ok.ensures.told s stands))
+returns-in-Malformed-clause-fault g c = λ s stands. (refl, no_transaction (network_held c.args.core.now g.S.SigScheme.verifies) s c.args.slot c.args.bytes.now c.in-Ok.evaluation c.in-Malformed.is (c.in-Ok.ensures.told s stands), c.misreading_of.ensures)
 
 pub returns : goal.returns
 returns g c =

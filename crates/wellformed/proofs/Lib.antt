@@ -1,0 +1,9 @@
+pub mod Stopping
+pub mod Heads
+pub mod Zeros
+pub mod Firsts
+pub mod Contents
+pub mod Keys
+pub mod Walking
+pub mod Verdicts
+pub mod OneAnswer

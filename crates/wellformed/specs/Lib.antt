@@ -1,0 +1,4 @@
+pub mod Misfits
+pub mod Stops
+pub mod Parts
+pub mod Walks
