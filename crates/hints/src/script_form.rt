@@ -62,6 +62,8 @@ const SPEND: &[Kind] = &[Kind::Place, Kind::Number];
 
 const POINT: &[Kind] = &[Kind::Name, Kind::Place];
 
+const WATCH: &[Kind] = &[Kind::Name, Kind::Name];
+
 const BLOCK: &[Kind] = &[Kind::Name, Kind::Place, Kind::Number];
 
 const PAY: &[Kind] = &[Kind::Owner, Kind::Name, Kind::Number];
@@ -108,6 +110,7 @@ impl Form {
             "forge" => Form::line(SLOT, Rest::Nothing),
             "block" => Form::line(BLOCK, Rest::Each(Kind::Name)),
             "forward" => Form::line(POINT, Rest::Each(Kind::Place)),
+            "watch" => Form::line(WATCH, Rest::Each(Kind::Name)),
             "balance" if behind < 2 => Form::line(NAME, Rest::Nothing),
             "balance" => Form::line(SCRIPT, Rest::Nothing),
             "end" => Form::part(NONE, Rest::Nothing),

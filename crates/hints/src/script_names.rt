@@ -99,7 +99,7 @@ impl<'t> BoundSoFar<'t> {
             "block" => self.bind(Sort::Block, name, true),
             "raw" => self.bind(Sort::Raw, name, true),
             "forge" => self.bind(Sort::Block, name, false),
-            "open" => self.bind(Sort::Follower, name, false),
+            "open" | "watch" => self.bind(Sort::Follower, name, false),
             "tx" => {
                 self.open = Some(name);
                 Ok(())
@@ -138,6 +138,7 @@ pub fn wanted_at(words: &[&str], place: usize) -> Option<Wanted> {
         ("block", 2) | ("discard" | "why", 1) => Sort::Block,
         ("block", _) if place >= 4 => Sort::Tx,
         ("forward", _) if place >= 2 => Sort::Block,
+        ("watch", _) if place >= 2 => Sort::Key,
         ("balance", 1) if words.len() == 2 => Sort::Key,
         ("balance", 2) => Sort::Script,
         _ => return None,

@@ -11,8 +11,9 @@ use Rattle.script.specs.declared.names.Names.{Names}
 use Rattle.script.specs.Meaning.{Meaning, Defines, Definition}
 use Rattle.script.specs.RequestView.{Asks, IsDefined}
 use Rattle.scenario.specs.declared.session.Session.{Session}
+use Rattle.scenario.specs.IndexView.{AreIndexes}
 use Rattle.scenario.specs.Run.{Scene, IsLeftBy}
-use Rattle.scenario.specs.SessionView.{Acted, Done, IsDone, Told, IsTold, IsObeyed}
+use Rattle.scenario.specs.SessionView.{Acted, IsDone, Told, IsTold, IsObeyed}
 use Rattle.scenario.proofs.NoteLines.{IsQuiet, nothing_more}
 
 one_meaning : (a b : Meaning) → ◌≡◌ {A = Result Meaning LineFault} (Ok a) (Ok b) → a ≡ b
@@ -42,16 +43,16 @@ done_so network explain s means late m meaning result new quiet is same never do
     told_so network explain s means late m meaning result new is same never (done_told network explain s meaning result new quiet done)
 
 -- a definition
-pub defined : {S : Type 0} (network : Network) (explain : Bool) (s : Scene) (means : Result Meaning LineFault → Type 0) (m : Meaning) (definition : Definition) (out : List ℕ) (new : Session S) → means (Ok m) → m ≡ Defines definition → IsDefined s.names new.names definition → Stands new.core s.state
+pub defined : {S : Type 0} (network : Network) (explain : Bool) (s : Scene) (means : Result Meaning LineFault → Type 0) (m : Meaning) (definition : Definition) (out : List ℕ) (new : Session S) → means (Ok m) → m ≡ Defines definition → IsDefined s.names new.names definition → AreIndexes new.indexes s.indexes → Stands new.core s.state
     → out ≡ [] → Acted network explain s means out new
-defined network explain s means m what out new is same made stands empty = record {
+defined network explain s means m what out new is same made indexes stands empty = record {
   meaning = m;
   is_meant = is;
   told = subst (λ (x : Meaning). Told network explain s x out new) (sym same) (nothing_more network explain s (Defines what) out new tt (record {
     entries = [];
-    scene = record { state = s.state; names = made.new };
-    acts = (empty, refl, refl, made.after);
-    holds = record { stands = stands; names = made.named };
+    scene = record { state = s.state; names = made.new; indexes = s.indexes };
+    acts = (empty, refl, refl, made.after, refl);
+    holds = record { stands = stands; names = made.named; indexes = indexes };
   }));
 }
 

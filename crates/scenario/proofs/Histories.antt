@@ -4,7 +4,7 @@ use Rattle.model.specs.Ledger.{Network}
 use Rattle.model.specs.History.{State, opening, Event, Reply, Entry, Step, IsRun}
 use Rattle.model.proofs.ToldChains.{theorem_of_legal}
 use Rattle.scenario.specs.declared.options.Options.{Options}
-use Rattle.script.specs.Meaning.{Meaning, Defines, Arrives, SubmitsTx, ForgesBlock, OpensFollower, TellsFollower, ForwardsFollower, ClosesFollower, DiscardsBlock, PrintsTip, PrintsMempool, PrintsUtxo, PrintsWhy, PrintsWhere, PrintsBalance}
+use Rattle.script.specs.Meaning.{Meaning, Defines, Arrives, SubmitsTx, ForgesBlock, OpensFollower, WatchesKeys, TellsFollower, ForwardsFollower, ClosesFollower, DiscardsBlock, PrintsTip, PrintsMempool, PrintsUtxo, PrintsWhy, PrintsWhere, PrintsBalance}
 use Rattle.scenario.specs.Run.{Scene, first_scene, Acts, Prints, AreObeyed, entry}
 
 -- a run, and another from where it ended
@@ -21,12 +21,13 @@ once : (network : Network) (s t : State) (event : Event) (reply : Reply) (entrie
 once network s t event reply entries step is = subst (λ (es : List Entry). IsRun network s es t) (sym is) (t, step, refl)
 
 pub acts_run : (network : Network) (s : Scene) (meaning : Meaning) (out : List ℕ) (entries : List Entry) (t : Scene) → Acts network s meaning out entries t → IsRun network s.state entries t.state
-acts_run network s (Defines what) out entries t (printed, none, same, named) = still network s.state t.state entries none same
+acts_run network s (Defines what) out entries t (printed, none, same, named, stays) = still network s.state t.state entries none same
 acts_run network s (Arrives form name bytes) out entries t (reply, arrived, printed, is) = once network s.state t.state _ reply entries arrived.step is
 acts_run network s (SubmitsTx name tx) out entries t (reply, submitted, printed, is) = once network s.state t.state _ reply entries submitted.step is
 acts_run network s (ForgesBlock name slot) out entries t (answer, forged, printed, none) = still network s.state t.state entries none forged.state
 acts_run network s (OpensFollower name) out entries t (reply, opened, printed, is) = once network s.state t.state _ reply entries opened.step is
-acts_run network s (TellsFollower name id) out entries t (reply, told, printed, is) = once network s.state t.state _ reply entries told.step is
+acts_run network s (WatchesKeys name keys) out entries t (reply, opened, printed, is) = once network s.state t.state _ reply entries opened.step is
+acts_run network s (TellsFollower name id) out entries t (reply, told, line, is_line, more, is_more, printed, is) = once network s.state t.state _ reply entries told.step is
 acts_run network s (ForwardsFollower name id points) out entries t (reply, forwarded, printed, is) = once network s.state t.state _ reply entries forwarded.step is
 acts_run network s (ClosesFollower name id) out entries t (reply, closed, printed, is) = once network s.state t.state _ reply entries closed.step is
 acts_run network s (DiscardsBlock name hash) out entries t (reply, discarded, printed, is) = once network s.state t.state _ reply entries discarded.step is

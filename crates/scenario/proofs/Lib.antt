@@ -6,6 +6,7 @@ pub mod UtxoLines
 pub mod WrittenParts
 pub mod Lines
 pub mod Histories
+pub mod IndexLines
 pub mod Runs
 pub mod SendRuns
 pub mod ForCallers

@@ -7,7 +7,7 @@ use Rattle.model.specs.Rules.{Reason}
 use Rattle.model.specs.Mempool as mempool
 use Rattle.model.specs.Explaining.{Detail}
 use Rattle.model.specs.Asked.{Why, IsWhyOf, ExplainsSubmission}
-use Rattle.model.specs.History.{State, Event, Arrive, Submit, Reply, Kept, Submitted, Step, Takes, Keeps, TooLarge, BodyHashMismatch, Entry, IsBlockWith}
+use Rattle.model.specs.History.{State, Event, Arrive, Submit, Reply, Kept, Submitted, Step, Takes, Keeps, TooLarge, BodyHashMismatch, Entry}
 use Rattle.std.specs.Prelude.{IfErr}
 use Rattle.std.specs.declared.alloc.AllocError.{AllocError}
 use Rattle.block.specs.Read.{IsBadBytes}
@@ -21,7 +21,7 @@ use Rattle.chain_core.specs.declared.arrival.ArriveReply.{ArriveReply as CodeArr
 use Rattle.chain_core.specs.declared.arrival.ArriveReply.TheVariants as arrive
 use Rattle.chain_core.specs.Views.{arrive_reply_of, submit_reply_of}
 use Rattle.script.specs.Names.{Binding}
-use Rattle.script.specs.Meaning.{Meaning, Defines, Arrives, SubmitsTx, ForgesBlock, OpensFollower, TellsFollower, ForwardsFollower, ClosesFollower, DiscardsBlock, PrintsTip, PrintsMempool, PrintsUtxo, PrintsWhy, PrintsWhere, PrintsBalance}
+use Rattle.script.specs.Meaning.{Meaning, Defines, Arrives, SubmitsTx, ForgesBlock, OpensFollower, WatchesKeys, TellsFollower, ForwardsFollower, ClosesFollower, DiscardsBlock, PrintsTip, PrintsMempool, PrintsUtxo, PrintsWhy, PrintsWhere, PrintsBalance}
 use Rattle.scenario.specs.declared.session.Session.{Session}
 use Rattle.scenario.specs.Answers.{why_answer_text}
 use Rattle.scenario.specs.Notes.{note_text, told_text, IsNoteOf, IsNote}
@@ -48,12 +48,13 @@ one_entry : (network : Network) (names : List Binding) (s : State) (entries es :
 one_entry network names s entries es t is none = subst (λ (xs : List Entry). IsNote network true names s xs t []) (sym is) none
 
 quiet_line : (network : Network) (s : Scene) (meaning : Meaning) (out : List ℕ) (entries : List Entry) (t : Scene) → IsQuiet meaning → Acts network s meaning out entries t → IsNote network true t.names.of_bytes s.state entries t.state []
-quiet_line network s (Defines what) out entries t quiet (printed, none, same, named) = no_entry network t.names.of_bytes s.state entries t.state none
+quiet_line network s (Defines what) out entries t quiet (printed, none, same, named, stays) = no_entry network t.names.of_bytes s.state entries t.state none
 quiet_line network s (Arrives form name bytes) out entries t quiet acts = absurd quiet
 quiet_line network s (SubmitsTx name tx) out entries t quiet acts = absurd quiet
 quiet_line network s (ForgesBlock name slot) out entries t quiet (answer, forged, printed, none) = no_entry network t.names.of_bytes s.state entries t.state none
 quiet_line network s (OpensFollower name) out entries t quiet (reply, opened, printed, is) = one_entry network t.names.of_bytes s.state entries _ t.state is refl
-quiet_line network s (TellsFollower name id) out entries t quiet (reply, told, printed, is) = one_entry network t.names.of_bytes s.state entries _ t.state is refl
+quiet_line network s (WatchesKeys name keys) out entries t quiet (reply, opened, printed, is) = one_entry network t.names.of_bytes s.state entries _ t.state is refl
+quiet_line network s (TellsFollower name id) out entries t quiet (reply, told, line, is_line, more, is_more, printed, is) = one_entry network t.names.of_bytes s.state entries _ t.state is refl
 quiet_line network s (ForwardsFollower name id points) out entries t quiet (reply, forwarded, printed, is) = one_entry network t.names.of_bytes s.state entries _ t.state is refl
 quiet_line network s (ClosesFollower name id) out entries t quiet (reply, closed, printed, is) = one_entry network t.names.of_bytes s.state entries _ t.state is refl
 quiet_line network s (DiscardsBlock name hash) out entries t quiet (reply, discarded, printed, is) = one_entry network t.names.of_bytes s.state entries _ t.state is refl

@@ -29,6 +29,8 @@ use Rattle.script.specs.RequestView.{AreNamed}
 use Rattle.script.specs.Meaning.{Meaning, Means, HasNoFault, is_late_line, parse_within}
 use Rattle.scenario.specs.Run.{Scene, first_scene, Obeys, Prints, AreObeyed, IsLeftBy, BreaksOff, EndsWellFrom, EndsByFrom, EndsWell, EndsBy}
 use Rattle.scenario.specs.Run.{fault_of, entry}
+use Rattle.scenario.specs.Indexes.{no_indexes}
+use Rattle.scenario.specs.IndexView.{AreIndexes}
 use Rattle.scenario.specs.SessionView.{Holds, Acted, IsShort, IsObeyed}
 use Rattle.scenario.specs.Handed.{RunsWell, RunsInto, HasRun}
 use Rattle.scenario.specs.Print.{AppendsPart}
@@ -128,8 +130,8 @@ has_bytes [] some = absurd (some refl)
 has_bytes (x ∷ xs) some = omega arith
 
 -- before the first line
-pub opened : {S : Type 0} (options : Options) (verifies : Verifies) (network : Network) (session : Session S) (text out : Option (List ℕ)) → AreNamed session.names (no_names options.scheme network.genesis.params.network) → network_held session.core verifies ≡ network → Appends out out [] → Running options verifies network session.core session 0 1 text text out out
-opened options verifies network session text out named is_network none = record {
+pub opened : {S : Type 0} (options : Options) (verifies : Verifies) (network : Network) (session : Session S) (text out : Option (List ℕ)) → AreNamed session.names (no_names options.scheme network.genesis.params.network) → AreIndexes session.indexes (no_indexes network.genesis) → network_held session.core verifies ≡ network → Appends out out [] → Running options verifies network session.core session 0 1 text text out out
+opened options verifies network session text out named indexes is_network none = record {
   done = [];
   same_network = is_network;
   size = refl;
@@ -142,7 +144,7 @@ opened options verifies network session text out named is_network none = record 
     history = [];
     printed = [];
     prints = (refl, refl, refl);
-    holds = record { stands = stands; names = named };
+    holds = record { stands = stands; names = named; indexes = indexes };
     written = none;
   };
 }

@@ -24,6 +24,7 @@ use Rattle.script.specs.Meaning.{SubmitsTx, ForgesBlock, PrintsMempool, bound_bl
 use Rattle.scenario.specs.declared.session.Session.{Session}
 use Rattle.scenario.specs.Print.{submission_text, ForgedBlock, NoBlock, NoMemory, forging_text, tx_names_text, mempool_text}
 use Rattle.scenario.specs.ForgeView.{code_answer_text}
+use Rattle.scenario.specs.IndexView.{AreIndexes}
 use Rattle.scenario.specs.Run.{Scene, names_forged, entry}
 use Rattle.scenario.specs.Notes.{IsNote}
 use Rattle.scenario.specs.NoteView.{AppendsNote}
@@ -31,17 +32,17 @@ use Rattle.scenario.specs.SessionView.{Holds, Done, Told, Forges}
 
 -- ---- submissions
 
-pub submission_told : {S : Type 0} (network : Network) (explain : Bool) (s : Scene) (name : List ℕ) (tx : Transaction) (reply : Reply) (old out : List ℕ) (new : Session S) → old ≡ [] → AreNamed new.names s.names
+pub submission_told : {S : Type 0} (network : Network) (explain : Bool) (s : Scene) (name : List ℕ) (tx : Transaction) (reply : Reply) (old out : List ℕ) (new : Session S) → old ≡ [] → AreNamed new.names s.names → AreIndexes new.indexes s.indexes
     → (step : (t : State) × Step network s.state (Submit (text_of (item_of_transaction tx))) reply t × Stands new.core t)
     → AppendsNote (old ++ submission_text name reply) out (IsNote network explain s.names.of_bytes s.state (entry (Submit (text_of (item_of_transaction tx))) reply) step.0)
     → Told network explain s (SubmitsTx name tx) out new
-submission_told network explain s name tx reply old out new empty names (t, step, stands) noted = record {
+submission_told network explain s name tx reply old out new empty names indexes (t, step, stands) noted = record {
   text = submission_text name reply;
   done = record {
     entries = entry (Submit (text_of (item_of_transaction tx))) reply;
-    scene = record { state = t; names = s.names };
-    acts = (reply, record { step = step; names = refl }, refl, refl);
-    holds = record { stands = stands; names = names };
+    scene = record { state = t; names = s.names; indexes = s.indexes };
+    acts = (reply, record { step = step; names = refl; indexes = refl }, refl, refl);
+    holds = record { stands = stands; names = names; indexes = indexes };
   };
   note = noted.note;
   is_note = noted.is_note;
@@ -83,13 +84,13 @@ none_forged network s held name slot fault.SlotNotAfterTip names stands why name
 none_forged network s held name slot fault.OutOfRange names stands why named = record { is = NoBlock OutOfRange; is_answer = subst (λ (c : List Block). IsNotForged network c slot OutOfRange) stands.chain why; text = refl; named = named }
 none_forged network s held name slot fault.OutOfMemory names stands why named = record { is = NoMemory; is_answer = subst (λ (c : List Block). IsForgeFault network c slot fault.OutOfMemory) stands.chain why; text = refl; named = named }
 
-pub forging_acted : {S : Type 0} (network : Network) (s : Scene) (name : List ℕ) (slot : ℕ) (answer : Result ℕ CodeFault) (out : List ℕ) (new : Session S) → Forges network s name slot answer new.names → Stands new.core s.state → out ≡ forging_text name (code_answer_text answer)
+pub forging_acted : {S : Type 0} (network : Network) (s : Scene) (name : List ℕ) (slot : ℕ) (answer : Result ℕ CodeFault) (out : List ℕ) (new : Session S) → Forges network s name slot answer new.names → AreIndexes new.indexes s.indexes → Stands new.core s.state → out ≡ forging_text name (code_answer_text answer)
     → Done network s (ForgesBlock name slot) out new
-forging_acted network s name slot answer out new forges stands printed = record {
+forging_acted network s name slot answer out new forges indexes stands printed = record {
   entries = [];
-  scene = record { state = s.state; names = record s.names { of_bytes = names_forged s.names.of_bytes name forges.is } };
-  acts = (forges.is, record { is_answer = forges.is_answer; state = refl; names = refl }, printed ∙ ap (forging_text name) forges.text, refl);
-  holds = record { stands = stands; names = forges.named };
+  scene = record { state = s.state; names = record s.names { of_bytes = names_forged s.names.of_bytes name forges.is }; indexes = s.indexes };
+  acts = (forges.is, record { is_answer = forges.is_answer; state = refl; names = refl; indexes = refl }, printed ∙ ap (forging_text name) forges.text, refl);
+  holds = record { stands = stands; names = forges.named; indexes = indexes };
 }
 
 -- ---- the mempool

@@ -6,6 +6,8 @@ pub mod Notes
 pub mod NoteView
 pub mod Balances
 pub mod Gathered
+pub mod IndexView
+pub mod Indexes
 pub mod Run
 pub mod SessionView
 pub mod Handed

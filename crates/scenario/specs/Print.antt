@@ -67,9 +67,9 @@ open_reply_text OutOfMemory = codes "out of memory"
 -- no opening is answered otherwise
 open_reply_text reply = []
 
--- what the line `open` prints
-abbrev pub open_text : List ℕ → Reply → List ℕ
-open_text name reply = codes "open " ++ name ++ codes ": " ++ open_reply_text reply ++ 10 ∷ []
+-- what the lines `open` and `watch` print, by the line's first word
+abbrev pub opening_text : (word name : List ℕ) → Reply → List ℕ
+opening_text word name reply = word ++ codes " " ++ name ++ codes ": " ++ open_reply_text reply ++ 10 ∷ []
 
 -- the name of a place on a chain
 abbrev pub point_name : List Binding → Point → List ℕ

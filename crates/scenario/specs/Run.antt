@@ -1,6 +1,6 @@
 -- What a script prints, and how its run ends.
 use Rattle.std.specs.Prelude.{◌≡◌, ◌≢◌, ◌⊎◌, ℕ, Bool, ◌+◌, ◌<◌, List, [], ◌∷◌, ◌++◌, length, Option, Some, None}
-use Rattle.std.specs.Prelude.{Result, Ok, Err}
+use Rattle.std.specs.Prelude.{Result, Ok, Err, codes}
 use Rattle.std.specs.List.{concat}
 use Rattle.std.specs.Io.KnownBytes.{Appends}
 use Rattle.model.specs.Cbor.{text_of}
@@ -24,26 +24,35 @@ use Rattle.scenario.specs.declared.fault.ScenarioFault.{ScenarioFault}
 use Rattle.scenario.specs.declared.fault.ScenarioFault.TheVariants as fault
 use Rattle.script.specs.Text.{lines_of}
 use Rattle.script.specs.Names.{Named, Binding, OpenTx, AllNames, no_names}
-use Rattle.script.specs.Meaning.{Meaning, Defines, Arrives, SubmitsTx, ForgesBlock, OpensFollower, TellsFollower}
+use Rattle.script.specs.Meaning.{Meaning, Defines, Arrives, SubmitsTx, ForgesBlock, OpensFollower, WatchesKeys}
+use Rattle.script.specs.Meaning.{TellsFollower}
 use Rattle.script.specs.Meaning.{ForwardsFollower, ClosesFollower, DiscardsBlock, PrintsTip, PrintsMempool, PrintsUtxo}
 use Rattle.script.specs.Meaning.{PrintsWhy, PrintsWhere, PrintsBalance, AreNamesAfter, HasNoFault, Means, formed}
 use Rattle.script.specs.Meaning.{bound_block}
 use Rattle.scenario.specs.Pieces.{IsPiece}
 use Rattle.scenario.specs.Print.{arrival_text, submission_text, ForgeAnswer, ForgedBlock, NoBlock, NoMemory}
-use Rattle.scenario.specs.Print.{forge_answer_text, forging_text, mempool_text, open_text, tip_text, utxo_text}
+use Rattle.scenario.specs.Print.{forge_answer_text, forging_text, mempool_text, opening_text, tip_text, utxo_text}
 use Rattle.scenario.specs.Print.{IsNextText, forwarding_text, closing_text, discarding_text}
 use Rattle.scenario.specs.Answers.{why_text, where_text}
 use Rattle.scenario.specs.Notes.{IsNote}
 use Rattle.scenario.specs.Balances.{outputs_of_address, IsBalanceText}
+use Rattle.scenario.specs.Indexes.{Indexes, KeyIndex, no_indexes, with_index, indexes_opened, IsIndexAfter}
+use Rattle.scenario.specs.Indexes.{indexes_forwarded, indexes_closed, IsIndexText}
 
--- the node's state with the names that are bound
+-- the node's state with the names that are bound, and the indexes beside followers
 pub record Scene : Type 0 where
   pub state : State
   pub names : AllNames
+  pub indexes : Indexes
 
--- a node in this state, and no name is bound. What a script signs it signs by this scheme
+-- a node in this state, where no name is bound and no follower has an index. What a script signs it signs by this scheme
 abbrev pub first_scene : Scheme → Network → State → Scene
-first_scene scheme network s = record { state = s; names = no_names scheme network.genesis.params.network }
+first_scene scheme network s =
+    record {
+      state = s;
+      names = no_names scheme network.genesis.params.network;
+      indexes = no_indexes network.genesis;
+    }
 
 -- nothing has happened either
 abbrev pub opening_scene : Scheme → Network → Scene
@@ -53,11 +62,13 @@ opening_scene scheme network = first_scene scheme network (opening network)
 pub record Arrived (network : Network) (s : Scene) (bytes : List ℕ) (reply : Reply) (t : Scene) : Type 0 where
   pub step : Step network s.state (Arrive bytes) reply t.state
   pub names : t.names ≡ s.names
+  pub indexes : t.indexes ≡ s.indexes
 
 -- the transaction was submitted and answered so, by a step of the definitions
 pub record WasSubmitted (network : Network) (s : Scene) (tx : Transaction) (reply : Reply) (t : Scene) : Type 0 where
   pub step : Step network s.state (Submit (text_of (item_of_transaction tx))) reply t.state
   pub names : t.names ≡ s.names
+  pub indexes : t.indexes ≡ s.indexes
 
 -- a block is forged in this slot, or why there is none. Memory runs out only where there is no other reason
 abbrev pub IsForgeAnswer : Network → State → (slot : ℕ) → ForgeAnswer → Type 0
@@ -76,25 +87,31 @@ pub record WasForged (network : Network) (s : Scene) (name : List ℕ) (slot : �
   pub is_answer : IsForgeAnswer network s.state slot answer
   pub state : t.state ≡ s.state
   pub names : t.names ≡ record s.names { of_bytes = names_forged s.names.of_bytes name answer }
+  pub indexes : t.indexes ≡ s.indexes
 
 -- once an opening was answered, the new follower has the name. Where none was opened, no name is bound
 abbrev pub names_opened : List (Named ℕ) → List ℕ → Reply → List (Named ℕ)
 names_opened names name (Opened id) = names ++ record { name = name; bound = id } ∷ []
 names_opened names name reply = names
 
--- the opening of a follower of this name was answered so, by a step of the definitions. Memory runs out only where a
--- number is free
-pub record WasOpened (network : Network) (s : Scene) (name : List ℕ) (reply : Reply) (t : Scene) : Type 0 where
+-- the opening of a follower of this name was answered so, by a step of the definitions, and the indexes are these.
+-- Memory runs out only where a number is free
+pub record WasOpened (network : Network) (s : Scene) (name : List ℕ) (reply : Reply) (indexes : Indexes) (t : Scene)
+    : Type 0 where
   pub step : Step network s.state Open reply t.state
   pub free : reply ≡ OutOfMemory → free_id s.state.followers < follower_limit
   pub names : t.names ≡ record s.names { of_followers = names_opened s.names.of_followers name reply }
+  pub is_indexes : t.indexes ≡ indexes
 
--- a follower that asked what comes next was answered so, by a step of the definitions. Memory runs out only where a
--- block comes next
+-- a follower that asked what comes next was answered so, by a step of the definitions, and the index beside it, if it
+-- has one, took that, or was given up because it can't. Memory runs out only where a block comes next
 pub record WasInstructed (network : Network) (s : Scene) (id : ℕ) (reply : Reply) (t : Scene) : Type 0 where
   pub step : Step network s.state (Next id) reply t.state
   pub due : reply ≡ OutOfMemory → HasDue s.state id
   pub names : t.names ≡ s.names
+  pub index : Option KeyIndex
+  pub is_after : IsIndexAfter (s.indexes.of_follower id) reply index
+  pub indexes : t.indexes ≡ with_index id index s.indexes
 
 -- a follower that was to be set to one of these points was answered so, by a step of the definitions, for which no
 -- memory is asked
@@ -103,18 +120,21 @@ pub record WasForwarded (network : Network) (s : Scene) (id : ℕ) (points : Lis
   pub step : Step network s.state (Forward id points) reply t.state
   pub enough : reply ≢ OutOfMemory
   pub names : t.names ≡ s.names
+  pub indexes : t.indexes ≡ indexes_forwarded id s.indexes reply
 
 -- the closing of a follower was answered so, by a step of the definitions, for which no memory is asked
 pub record WasClosed (network : Network) (s : Scene) (id : ℕ) (reply : Reply) (t : Scene) : Type 0 where
   pub step : Step network s.state (Close id) reply t.state
   pub enough : reply ≢ OutOfMemory
   pub names : t.names ≡ s.names
+  pub indexes : t.indexes ≡ indexes_closed id s.indexes reply
 
 -- the discarding of a block was answered so, by a step of the definitions, for which no memory is asked
 pub record WasDiscarded (network : Network) (s : Scene) (hash : List ℕ) (reply : Reply) (t : Scene) : Type 0 where
   pub step : Step network s.state (Discard hash) reply t.state
   pub enough : reply ≢ OutOfMemory
   pub names : t.names ≡ s.names
+  pub indexes : t.indexes ≡ s.indexes
 
 -- an event with its reply, as the one entry of a history
 abbrev pub entry : Event → Reply → List Entry
@@ -125,16 +145,22 @@ entry event reply = record { event = event; reply = reply } ∷ []
 abbrev pub Acts : Network → Scene → Meaning → (out : List ℕ) → List Entry → Scene → Type 0
 Acts network s (Defines definition) out entries t =
     (out ≡ []) × (entries ≡ []) × (t.state ≡ s.state) × AreNamesAfter s.names definition t.names
+    × (t.indexes ≡ s.indexes)
 Acts network s (Arrives form name bytes) out entries t = (reply : Reply) × Arrived network s (formed form bytes) reply t
     × (out ≡ arrival_text form name reply) × (entries ≡ entry (Arrive (formed form bytes)) reply)
 Acts network s (SubmitsTx name tx) out entries t = (reply : Reply) × WasSubmitted network s tx reply t
     × (out ≡ submission_text name reply) × (entries ≡ entry (Submit (text_of (item_of_transaction tx))) reply)
 Acts network s (ForgesBlock name slot) out entries t = (answer : ForgeAnswer) × WasForged network s name slot answer t
     × (out ≡ forging_text name (forge_answer_text answer)) × (entries ≡ [])
-Acts network s (OpensFollower name) out entries t = (reply : Reply) × WasOpened network s name reply t
-    × (out ≡ open_text name reply) × (entries ≡ entry Open reply)
-Acts network s (TellsFollower name id) out entries t = (reply : Reply) × WasInstructed network s id reply t
-    × IsNextText s.names.of_bytes name reply out × (entries ≡ entry (Next id) reply)
+Acts network s (OpensFollower name) out entries t = (reply : Reply) × WasOpened network s name reply s.indexes t
+    × (out ≡ opening_text (codes "open") name reply) × (entries ≡ entry Open reply)
+Acts network s (WatchesKeys name keys) out entries t = (reply : Reply)
+    × WasOpened network s name reply (indexes_opened keys s.indexes reply) t
+    × (out ≡ opening_text (codes "watch") name reply) × (entries ≡ entry Open reply)
+Acts network s (TellsFollower name id) out entries t = (reply : Reply) × (told : WasInstructed network s id reply t)
+    × (line : List ℕ) × IsNextText s.names.of_bytes name reply line
+    × (more : List ℕ) × IsIndexText name (s.indexes.of_follower id) told.index more × (out ≡ line ++ more)
+    × (entries ≡ entry (Next id) reply)
 Acts network s (ForwardsFollower name id points) out entries t = (reply : Reply)
     × WasForwarded network s id points reply t
     × (out ≡ forwarding_text s.names.of_bytes name reply) × (entries ≡ entry (Forward id points) reply)
@@ -200,6 +226,7 @@ abbrev pub event_meant : Meaning → Option Event
 event_meant (Arrives form name bytes) = Some (Arrive (formed form bytes))
 event_meant (SubmitsTx name tx) = Some (Submit (text_of (item_of_transaction tx)))
 event_meant (OpensFollower name) = Some Open
+event_meant (WatchesKeys name keys) = Some Open
 event_meant (TellsFollower name id) = Some (Next id)
 event_meant (ForwardsFollower name id points) = Some (Forward id points)
 event_meant (ClosesFollower name id) = Some (Close id)

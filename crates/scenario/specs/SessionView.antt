@@ -15,12 +15,14 @@ use Rattle.chain_core.specs.declared.forging.ForgeFault.{ForgeFault}
 use Rattle.scenario.specs.Print.{ForgeAnswer, forge_answer_text}
 use Rattle.scenario.specs.ForgeView.{code_answer_text}
 use Rattle.scenario.specs.Notes.{IsNote}
+use Rattle.scenario.specs.IndexView.{AreIndexes}
 use Rattle.scenario.specs.Run.{Scene, IsForgeAnswer, names_forged, Acts, IsLeftBy}
 
--- the core stands for the state, and the names for the names
+-- the core stands for the state, the names for the names, and the indexes for the indexes
 pub record Holds {S : Type 0} (session : Session S) (s : Scene) : Type 0 where
   pub stands : Stands session.core s.state
   pub names : AreNamed session.names s.names
+  pub indexes : AreIndexes session.indexes s.indexes
 
 -- forging is answered so by the code, and the block has its name
 pub record Forges (network : Network) (s : Scene) (name : List ℕ) (slot : ℕ) (answer : Result ℕ ForgeFault)

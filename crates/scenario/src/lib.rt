@@ -6,6 +6,8 @@ mod answers;
 mod balance;
 mod fault;
 mod form;
+mod indexes;
+mod key_index;
 mod notes;
 mod options;
 mod output;

@@ -7,7 +7,7 @@ ghost use Rattle.chain_core.specs.Views.{instruction_of, arrive_reply_of, submit
 ghost use Rattle.chain_core.specs.Views.{next_reply_of, forward_reply_of, close_reply_of, discard_reply_of};
 ghost use Rattle.script.specs.Names.{AllNames, printed_name};
 ghost use Rattle.script.specs.RequestView.{AreNamed};
-ghost use Rattle.scenario.specs.Print.{arrival_text, open_reply_text, open_text, point_name, IsInstructionText};
+ghost use Rattle.scenario.specs.Print.{arrival_text, open_reply_text, opening_text, point_name, IsInstructionText};
 ghost use Rattle.scenario.specs.Print.{IsNextReplyText, IsNextText, tip_text, unspent_text};
 ghost use Rattle.scenario.specs.Print.{submission_reply_text, submission_text, forging_text};
 ghost use Rattle.scenario.specs.Print.{tx_names_text, mempool_text, forwarding_reply_text, forwarding_text};
@@ -158,15 +158,17 @@ fn open_reply(reply: Result<FollowerId, OpenFollowerFault>) -> &'static [u8]
     }
 }
 
-/// Appends what the opening of a follower prints.
-pub fn print_open(
+/// Appends what the opening of a follower prints, by a line whose first word this is.
+pub fn print_opening(
     line: &mut Vec<u8>,
+    word: &[u8],
     name: &[u8],
     reply: Result<FollowerId, OpenFollowerFault>,
 ) -> Result<(), AllocError>
-    ensures { OnOk result (line.new.items ≡ line.old.items ++ open_text name.now (open_reply_of reply)) }
+    ensures { OnOk result (line.new.items ≡ line.old.items ++ opening_text word.now name.now (open_reply_of reply)) }
 {
-    line.extend_from_slice(b"open ")?;
+    line.extend_from_slice(word)?;
+    line.extend_from_slice(b" ")?;
     line.extend_from_slice(name)?;
     line.extend_from_slice(b": ")?;
     line.extend_from_slice(open_reply(reply))?;

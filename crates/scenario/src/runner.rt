@@ -4,6 +4,8 @@ ghost use Rattle.std.specs.Prelude.{◌≡◌, ℕ, ◌+◌, ◌≤◌, ◌⊎�
 ghost use Rattle.model.specs.Ledger.{network_of};
 ghost use Rattle.script.specs.Names.{no_names};
 ghost use Rattle.script.specs.RequestView.{AreNamed};
+ghost use Rattle.scenario.specs.Indexes.{no_indexes};
+ghost use Rattle.scenario.specs.IndexView.{AreIndexes};
 ghost use Rattle.scenario.specs.Run.{EndsWell, EndsBy, fault_of};
 ghost use Rattle.chain_core.specs.Held.{network_held};
 ghost use Rattle.chain_core.specs.Steps.{KeepsStart};
@@ -62,11 +64,12 @@ pub fn unended(number: u64) -> ScenarioFault
 fn run_lines<S: SigScheme, R: BufRead, W: Write>(
     alloc: Global,
     options: Options,
-    session: &mut Session<S>,
+    session: &mut Session<'_, S>,
     reader: &mut R,
     writer: &mut W,
 ) -> Result<(), ScenarioFault>
-    requires { AreNamed session.now.names (no_names options.scheme session.now.core.genesis.params.network) }
+    requires names { AreNamed session.now.names (no_names options.scheme session.now.core.genesis.params.network) }
+    requires indexes { AreIndexes session.now.indexes (no_indexes session.now.core.genesis) }
     ensures ok { OnOk result (IfSome (R.remaining reader.old)
         (λ text. RunsWell options S.verifies session.old.core session.new.core text (W.contents writer.old)
         (W.contents writer.new))) }
@@ -139,7 +142,7 @@ pub fn run<S: SigScheme, R: BufRead, W: Write>(
         (λ text. EndsBy options (network_of genesis S.verifies) text (R.remaining reader.new) (W.contents writer.old)
         (W.contents writer.new) why)) }
 {
-    let Ok(mut session) = Session::<S>::new(alloc, genesis, options.scheme) else {
+    let Ok(mut session) = Session::<S>::new(alloc, &genesis, options.scheme) else {
         return Err(ScenarioFault::OutOfMemory);
     };
     run_lines(alloc, options, &mut session, reader, writer)

@@ -1,42 +1,46 @@
 //! The node with the names of a script.
 
-ghost use Rattle.std.specs.Prelude.{◌≡◌, ◌+◌, ◌≤◌, [], ◌++◌, None, Some, IfOk, IfErr, OnOk, length, map, option_map};
+ghost use Rattle.std.specs.Prelude.{◌≡◌, ◌+◌, ◌≤◌, [], ◌++◌, List, None, Some, IfOk, IfErr, OnOk, length, map, option_map};
 ghost use Rattle.model.specs.Cbor.{text_of};
-ghost use Rattle.model.specs.Transaction.{Transaction, item_of_transaction};
+ghost use Rattle.model.specs.Transaction.{Address as PlainAddress, Transaction, item_of_transaction};
 ghost use Rattle.model.specs.History.{State, Arrive, Submit, Step};
 ghost use Rattle.model.specs.Ledger.{network_of};
 ghost use Rattle.chain_core.specs.Held.{Stands, network_held};
 ghost use Rattle.chain_core.specs.Steps.{Steps, KeepsStart};
 ghost use Rattle.ident.specs.PointView.{point_of};
-ghost use Rattle.chain_core.specs.Views.{arrive_reply_of, submit_reply_of};
-ghost use Rattle.script.specs.Names.{AllNames, Bound, bound_to, no_names};
+ghost use Rattle.chain_core.specs.Views.{arrive_reply_of, open_reply_of, submit_reply_of};
+ghost use Rattle.script.specs.Names.{AllNames, Bound, Named, bound_to, no_names};
 ghost use Rattle.script.specs.Meaning.{Arrives, ForgesBlock, OpensFollower, PrintsMempool, PrintsTip, PrintsUtxo};
 ghost use Rattle.script.specs.Meaning.{SubmitsTx, TellsFollower, ForwardsFollower, ClosesFollower, DiscardsBlock};
-ghost use Rattle.script.specs.Meaning.{PrintsWhy, PrintsWhere, PrintsBalance};
+ghost use Rattle.script.specs.Meaning.{PrintsWhy, PrintsWhere, PrintsBalance, WatchesKeys};
 ghost use Rattle.script.specs.PartView.{owner_of};
 ghost use Rattle.tx.specs.View.{address_of};
 ghost use Rattle.script.specs.Meaning.{formed, is_late_line, Means, parse_within};
-ghost use Rattle.script.specs.RequestView.{AreNamed, HasFollowerRoom};
+ghost use Rattle.script.specs.RequestView.{AreNamed, HasFollowerRoom, key_address_of};
 ghost use Rattle.script.specs.Text.{script_size_limit};
 ghost use Rattle.scenario.specs.Print.{arrival_text, submission_text};
 ghost use Rattle.scenario.specs.Notes.{IsNote};
 ghost use Rattle.scenario.specs.NoteView.{AppendsNote};
-ghost use Rattle.scenario.specs.Run.{Scene, entry, opening_scene};
+ghost use Rattle.scenario.specs.Indexes.{Indexes as PlainIndexes, first_index, indexes_opened, no_indexes};
+ghost use Rattle.scenario.specs.IndexView.{AreIndexes, key_index_of};
+ghost use Rattle.scenario.specs.Run.{Scene, entry, names_opened, opening_scene};
 ghost use Rattle.scenario.specs.SessionView.{Forges, Holds, IsDone, IsObeyed, IsTold};
 
 use crate::answers::{print_where, print_why};
 use crate::balance::balance_lines;
 use crate::form::formed;
+use crate::indexes::Indexes;
+use crate::key_index::KeyIndex;
 use crate::notes::{note_arrival, note_submission};
 use crate::print::{
     print_arrival, print_closing, print_discarding, print_forging, print_forwarding, print_mempool,
-    print_next, print_open, print_submission, print_tip, print_utxo,
+    print_next, print_opening, print_submission, print_tip, print_utxo,
 };
-use chain_core::{ArriveReply, Core, FollowerId, ForgeFault};
+use chain_core::{ArriveReply, Core, FollowerId, ForgeFault, OpenFollowerFault};
 use genesis::{Genesis, Scheme};
 use ident::{BlockHash, Point, TxId};
 use mempool::SubmitReply;
-use script::{Form, LinePlace, Name, Names, Owner, Request, Stop};
+use script::{Form, KeyAddress, LinePlace, Name, Names, Owner, Request, Stop};
 use std::alloc::{AllocError, Global};
 use tx::Address;
 use witness_pool::SigScheme;
@@ -46,20 +50,22 @@ use witness_pool::SigScheme;
 const LONGEST_LINE: &[u8] =
     b"arrive-ext : kept back 18446744073709551615 added 18446744073709551615\n";
 
-/// The node, with what names are bound to.
-pub struct Session<S: SigScheme> {
+/// The node, with what names are bound to and the indexes beside its followers.
+pub struct Session<'g, S: SigScheme> {
     alloc: Global,
     core: Core<S>,
     names: Names,
+    indexes: Indexes<'g>,
 }
 
 // By hand, so that each exit calls it: the derived one is copied to each exit of each owner.
-impl<S: SigScheme> Drop for Session<S> {
+impl<'g, S: SigScheme> Drop for Session<'g, S> {
     fn drop(self) {
         let Session {
             alloc: _,
             core: _,
             names: _,
+            indexes: _,
         } = self;
     }
 }
@@ -140,38 +146,47 @@ fn forge<S: SigScheme>(
     }
 }
 
-impl<S: SigScheme> Session<S> {
-    /// A session before the first line. Err where there is no memory for the outputs of the genesis.
-    pub fn new(alloc: Global, genesis: Genesis, scheme: Scheme) -> Result<Session<S>, AllocError>
-        ensures holds { IfOk result (λ session. Holds session (opening_scene scheme (network_of genesis S.verifies))) }
+impl<'g, S: SigScheme> Session<'g, S> {
+    /// A session before the first line. Copies the genesis; err where there is no memory for that and for its outputs.
+    pub fn new(
+        alloc: Global,
+        genesis: &'g Genesis,
+        scheme: Scheme,
+    ) -> Result<Session<'g, S>, AllocError>
+        ensures holds { IfOk result (λ session.
+            Holds session (opening_scene scheme (network_of genesis.now S.verifies))) }
         ensures network { IfOk result (λ session. network_held session.core S.verifies
-            ≡ network_of genesis S.verifies) }
+            ≡ network_of genesis.now S.verifies) }
     {
-        let names = Names::new(alloc, &genesis, scheme);
-        Ok(Session {
-            alloc,
-            core: Core::new(alloc, genesis)?,
-            names,
-        })
+        let core = Core::new(alloc, genesis.try_clone()?)?;
+        Ok(Session::on(alloc, genesis, scheme, core))
     }
 
     /// A session before the first line, on a core of this genesis. Takes no memory.
-    pub fn on(alloc: Global, genesis: &Genesis, scheme: Scheme, core: Core<S>) -> Session<S>
+    pub fn on(alloc: Global, genesis: &'g Genesis, scheme: Scheme, core: Core<S>) -> Session<'g, S>
         ensures core { result.core ≡ core }
         ensures names { AreNamed result.names (no_names scheme genesis.now.params.network) }
+        ensures indexes { AreIndexes result.indexes (no_indexes genesis.now) }
     {
         let names = Names::new(alloc, genesis, scheme);
-        Session { alloc, core, names }
+        let indexes = Indexes::new(alloc, genesis);
+        Session {
+            alloc,
+            core,
+            names,
+            indexes,
+        }
     }
 
     /// The core as the lines left it.
     pub fn into_core(self) -> Core<S>
-        ensures { result ≡ self.core }
+        ensures { result ≡ self.entry.core }
     {
         let Session {
             alloc: _,
             core,
             names: _,
+            indexes: _,
         } = self;
         core
     }
@@ -296,13 +311,61 @@ impl<S: SigScheme> Session<S> {
         if let Ok(id) = reply {
             self.names.bind_follower(name.text, id.number);
         }
-        match print_open(&mut line, name.text, reply) {
+        match print_opening(&mut line, b"open", name.text, reply) {
             Ok(()) => Ok(line),
             Err(AllocError) => Err(Stop::OutOfMemory),
         }
     }
 
-    /// The follower of a number is told what comes next. The room for what it prints is taken first.
+    /// A follower is opened with an index of what these keys have, and gets its name. The index and the room for what
+    /// the line prints are taken first, its place beside the follower after the opening.
+    fn watch(&mut self, name: Name<'_>, keys: Vec<KeyAddress>) -> Result<Vec<u8>, Stop>
+        ensures obeyed { HasFollowerRoom self.old.names name.entry.text.now → (s : Scene) → Holds self.old s
+            → bound_to name.entry.text.now s.names.of_followers ≡ None
+            → IsDone (network_held self.old.core S.verifies) s
+            (WatchesKeys name.entry.text.now (map key_address_of keys.items)) result self.new }
+        ensures start { KeepsStart self.old.core self.new.core }
+    {
+        let mut line = line_room(self.alloc, name)?;
+        let Ok(index) = self.indexes.first_index(self.alloc, keys) else {
+            return Err(Stop::OutOfMemory);
+        };
+        let reply = self.core.open();
+        let Ok(()) = self.stand_beside(name, index, reply) else {
+            return Err(Stop::OutOfMemory);
+        };
+        match print_opening(&mut line, b"watch", name.text, reply) {
+            Ok(()) => Ok(line),
+            Err(AllocError) => Err(Stop::OutOfMemory),
+        }
+    }
+
+    /// Once a follower was opened, it gets its name, and the index stands beside it.
+    fn stand_beside(
+        &mut self,
+        name: Name<'_>,
+        index: KeyIndex,
+        reply: Result<FollowerId, OpenFollowerFault>,
+    ) -> Result<(), AllocError>
+        ensures names { HasFollowerRoom self.old.names name.entry.text.now → (all : AllNames)
+            → AreNamed self.old.names all → bound_to name.entry.text.now all.of_followers ≡ None
+            → AreNamed self.new.names (record all {
+              of_followers = names_opened all.of_followers name.entry.text.now (open_reply_of reply);
+            }) }
+        ensures indexes { OnOk result ((known : PlainIndexes) (keys : List (Named PlainAddress))
+            → AreIndexes self.old.indexes known → key_index_of index ≡ first_index known.genesis keys
+            → AreIndexes self.new.indexes (indexes_opened keys known (open_reply_of reply))) }
+        ensures frame { self.new ≡ record self.old { names = self.new.names; indexes = self.new.indexes } }
+    {
+        let Ok(id) = reply else {
+            return Ok(());
+        };
+        self.names.bind_follower(name.text, id.number);
+        self.indexes.put(id.number, index)
+    }
+
+    /// The follower of a number is told what comes next. The room for what it prints is taken first; what the keys of an
+    /// index beside it have takes its own, behind the event.
     fn next(&mut self, name: Name<'_>, id: u64) -> Result<Vec<u8>, Stop>
         ensures obeyed { (s : Scene) → Holds self.old s → IsDone (network_held self.old.core S.verifies) s
             (TellsFollower name.entry.text.now id) result self.new }
@@ -310,7 +373,13 @@ impl<S: SigScheme> Session<S> {
     {
         let mut line = line_room(self.alloc, name)?;
         let reply = self.core.next(FollowerId { number: id });
-        match print_next(&mut line, &self.names, name.text, &reply) {
+        let Ok(()) = print_next(&mut line, &self.names, name.text, &reply) else {
+            return Err(Stop::OutOfMemory);
+        };
+        match self
+            .indexes
+            .tell(self.alloc, &mut line, name.text, id, &reply)
+        {
             Ok(()) => Ok(line),
             Err(AllocError) => Err(Stop::OutOfMemory),
         }
@@ -325,6 +394,7 @@ impl<S: SigScheme> Session<S> {
     {
         let mut line = line_room(self.alloc, name)?;
         let reply = self.core.forward(FollowerId { number: id }, points);
+        self.indexes.forwarded(id, reply);
         match print_forwarding(&mut line, &self.names, name.text, reply) {
             Ok(()) => Ok(line),
             Err(AllocError) => Err(Stop::OutOfMemory),
@@ -339,6 +409,7 @@ impl<S: SigScheme> Session<S> {
     {
         let mut line = line_room(self.alloc, name)?;
         let reply = self.core.close(FollowerId { number: id });
+        self.indexes.closed(id, reply);
         match print_closing(&mut line, name.text, reply) {
             Ok(()) => Ok(line),
             Err(AllocError) => Err(Stop::OutOfMemory),
@@ -459,6 +530,7 @@ impl<S: SigScheme> Session<S> {
             Ok(Request::Submit { name }) => self.submit(name, explain),
             Ok(Request::Forge { name, slot }) => self.forge(name, slot),
             Ok(Request::Open { name }) => self.open(name),
+            Ok(Request::Watch { name, keys }) => self.watch(name, keys),
             Ok(Request::Next { name, id }) => self.next(name, id),
             Ok(Request::Forward { name, id, points }) => self.forward(name, id, &points),
             Ok(Request::Close { name, id }) => self.close(name, id),

@@ -1,5 +1,5 @@
 -- What is answered to a line: OutOfMemory, and a definition that is made.
-use Rattle.std.proofs.Common.{◌≡◌, ℕ, Bool, true, false, cond, nat_eq, List, length, Option, Some, None, is_some, option_map, Result, Ok, Err, refl, sym}
+use Rattle.std.proofs.Common.{◌≡◌, ℕ, Bool, true, false, List, Option, Some, None, is_some, option_map, Result, Ok, Err, refl, sym}
 use Rattle.std.specs.Prelude.{IsOk}
 use Rattle.std.specs.Result.{IsErrAnd}
 use Rattle.std.proofs.lemmas.Result.{err_from_is_err_and}

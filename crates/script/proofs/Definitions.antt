@@ -1,5 +1,6 @@
 -- What is defined by a line, what comes of a part, and of points that were not found.
-use Rattle.std.proofs.Common.{◌≡◌, ℕ, Bool, true, false, cond, map, IsTrue, List, Option, Some, None, is_some, Result, Ok, Err, refl, sym, ◌∙◌, subst}
+use Rattle.std.proofs.Common.{◌≡◌, ℕ, Bool, true, false, cond, map, IsTrue, List, Option, Some, None, is_some, Result, Ok, Err, refl, sym, ◌∙◌, subst, ap}
+use Rattle.std.specs.Prelude.{IsOk}
 use Rattle.std.proofs.lemmas.Option.{same_Some}
 use Rattle.ident.specs.PointView.{point_of}
 use Rattle.ident.specs.declared.point.Point.{Point as CodePoint}
@@ -13,22 +14,23 @@ use Rattle.draft.specs.Draft.{Draft}
 use Rattle.draft.specs.View.{IsDraftOf}
 use Rattle.draft.specs.declared.draft.Draft.{Draft as CodeDraft}
 use Rattle.script.specs.declared.fault.LineFault.{LineFault}
-use Rattle.script.specs.declared.fault.LineFault.TheVariants.{NotBuilt}
+use Rattle.script.specs.declared.fault.LineFault.TheVariants.{NotBuilt, NameTaken, UnknownName}
 use Rattle.script.specs.declared.stop.Stop.{Stop}
 use Rattle.script.specs.declared.stop.Stop.TheVariants.{Fault, OutOfMemory}
 use Rattle.script.specs.declared.request.Request.{Request}
 use Rattle.script.specs.declared.request.Request.TheVariants.{Nothing}
 use Rattle.script.specs.declared.names.Names.{Names}
 use Rattle.script.specs.declared.open_tx.OpenTx as code
-use Rattle.script.specs.Names.{OpenTx, AllNames, Bound, bound_to}
+use Rattle.script.specs.Names.{Named, OpenTx, AllNames, Bound, bound_to}
 use Rattle.script.specs.Adding.{IsPartAdded, AreGathered, AreFound}
 use Rattle.tx.proofs.ForCallers.{same_list}
 use Rattle.script.specs.Line.{NamedPlace}
-use Rattle.script.specs.Meaning.{Meaning, Defines, ForwardsFollower, BindsScript, Continues, MeansScript, Base, meaning_by, continued, where_known, where_built, binds_bytes}
+use Rattle.script.specs.Meaning.{Meaning, Defines, ForwardsFollower, WatchesKeys, BindsScript, Continues, MeansScript, Base, meaning_by, continued, where_free, where_known, where_built, binds_bytes}
 use Rattle.script.specs.Meaning.{are_some, base_after, block_meaning, block_on, bound_block, built, txs_named}
 use Rattle.script.specs.SignerView.{key_signer_of}
 use Rattle.script.specs.declared.key_signer.KeySigner.{KeySigner}
-use Rattle.script.specs.RequestView.{AreNamed, Asked, AsksFor, IsOpen, IsMaking}
+use Rattle.script.specs.declared.request.KeyAddress.{KeyAddress}
+use Rattle.script.specs.RequestView.{AreNamed, Asked, AsksFor, IsOpen, IsMaking, key_address_of}
 
 -- ---- what is gathered
 
@@ -153,6 +155,34 @@ pub points_refused : (names : AllNames) (c : Names) (name : List ℕ) (id : ℕ)
 points_refused names c name id found wanted (Fault fault) is (unknown, none) named = (rw (is, none, unknown) refl, named)
 points_refused names c name id found None OutOfMemory is some named = cc
 points_refused names c name id found (Some points) OutOfMemory is some named = rw is (λ fault means. cc)
+
+-- a name without a follower is free
+pub unbound : (found wanted : Option ℕ) → found ≡ wanted → is_some found ≡ false → wanted ≡ None
+unbound None wanted is none = sym is
+unbound (Some id) wanted is none = cc
+
+-- what a line means in which a follower is opened with an index
+abbrev pub watch_meaning : (name : List ℕ) → (found : Option ℕ) → (wanted : Option (List (Named Address))) → Result Meaning LineFault
+watch_meaning name found wanted = where_known wanted (λ all. where_free found (Ok (WatchesKeys name all)))
+
+pub watch_unknown : (name : List ℕ) (found : Option ℕ) (wanted : Option (List (Named Address))) → false ≡ is_some wanted → watch_meaning name found wanted ≡ Err UnknownName
+watch_unknown name found None is = refl
+watch_unknown name found (Some keys) is = cc
+
+pub watch_taken : (name : List ℕ) (found : Option ℕ) (wanted : Option (List (Named Address))) → true ≡ is_some wanted → is_some found ≡ true → watch_meaning name found wanted ≡ Err NameTaken
+watch_taken name found None some taken = cc
+watch_taken name found (Some keys) some taken = rw taken refl
+
+pub watch_means : (name : List ℕ) (found : Option ℕ) (wanted : Option (List (Named Address))) → true ≡ is_some wanted → found ≡ None → IsOk (watch_meaning name found wanted)
+watch_means name found None some free = cc
+watch_means name found (Some keys) some free = rw free refl
+
+-- the keys of a follower whose name is free, which are known, were not gathered
+pub keys_refused : (names : AllNames) (c : Names) (name : List ℕ) (found : Option ℕ) (wanted : Option (List (Named Address))) (stop : Stop) → found ≡ None → true ≡ is_some wanted → AreGathered {X = KeyAddress} key_address_of wanted (Err stop)
+    → AsksFor names (watch_meaning name found wanted) false (Err stop) c
+keys_refused names c name found wanted (Fault fault) free some (unknown, none) = let no : true ≡ false = some ∙ ap is_some none in cc
+keys_refused names c name found None OutOfMemory free some gathered = cc
+keys_refused names c name found (Some keys) OutOfMemory free some gathered = rw free (λ fault means. cc)
 
 -- ---- lines that have a meaning
 

@@ -2,7 +2,7 @@
 use Rattle.std.proofs.Common.{◌≡◌, ℕ, List, Option, Some, None, Result, Ok, Err, sym, ◌∙◌}
 use Rattle.model.specs.Script.{Script}
 use Rattle.script.specs.declared.fault.LineFault.{LineFault}
-use Rattle.script.specs.Line.{Line, Nothing, DefineKey, DefineSeed, DefineScript, BeginTx, AddPart, EndTx, DefineBlock, DefineRaw, Arrive, SubmitTx, ForgeBlock, OpenFollower, AskNext, AskForward, CloseFollower, DiscardBlock, AskTip, AskMempool, AskUtxo, AskWhy, AskWhere, AskBalance}
+use Rattle.script.specs.Line.{Line, Nothing, DefineKey, DefineSeed, DefineScript, BeginTx, AddPart, EndTx, DefineBlock, DefineRaw, Arrive, SubmitTx, ForgeBlock, OpenFollower, WatchKeys, AskNext, AskForward, CloseFollower, DiscardBlock, AskTip, AskMempool, AskUtxo, AskWhy, AskWhere, AskBalance}
 use Rattle.script.specs.Names.{AllNames, OpenTx, bound_to}
 use Rattle.script.specs.Meaning.{Meaning, Means, MeansLine, MeansScript, parse_within}
 
@@ -29,6 +29,7 @@ never_line number names None (Some (Arrive form name)) m fault is also = no_both
 never_line number names None (Some (SubmitTx name)) m fault is also = no_both _ m fault is also
 never_line number names None (Some (ForgeBlock name slot)) m fault is also = no_both _ m fault is also
 never_line number names None (Some (OpenFollower name)) m fault is also = no_both _ m fault is also
+never_line number names None (Some (WatchKeys name keys)) m fault is also = no_both _ m fault is also
 never_line number names None (Some (AskNext name)) m fault is also = no_both _ m fault is also
 never_line number names None (Some (AskForward name places)) m fault is also = no_both _ m fault is also
 never_line number names None (Some (CloseFollower name)) m fault is also = no_both _ m fault is also

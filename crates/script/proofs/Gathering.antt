@@ -3,13 +3,13 @@ use Rattle.std.proofs.Common.{◌≡◌, ℕ, ◌<◌, IsTrue, List, [], ◌∷�
 use Rattle.std.proofs.lemmas.Option.{same_Some}
 use Rattle.model.specs.Chain.{Point}
 use Rattle.model.specs.Script.{Script, script_hash_of}
-use Rattle.model.specs.Transaction.{Transaction}
+use Rattle.model.specs.Transaction.{Transaction, Address}
 use Rattle.value.specs.Parts.{AssetQuantity}
 use Rattle.script.specs.Text.{first_word}
-use Rattle.script.specs.Line.{NamedAsset, NamedPlace, said_place, said_places}
+use Rattle.script.specs.Line.{NamedAsset, NamedPlace, OwnedByKey, said_place, said_places}
 use Rattle.script.specs.AssetView.{first_of}
-use Rattle.script.specs.Names.{AllNames, Binding, bound_to}
-use Rattle.script.specs.Meaning.{assets_of, asset_of, are_some, point_at, points_at, with_one, txs_named}
+use Rattle.script.specs.Names.{AllNames, Binding, Named, bound_to}
+use Rattle.script.specs.Meaning.{address_on, assets_of, asset_of, are_some, key_address, key_addresses, point_at, points_at, with_one, txs_named}
 
 -- ---- measures
 
@@ -83,6 +83,37 @@ next_tx_unknown names (x ∷ xs) word is unknown =
 pub no_words_left : (names : AllNames) (words : List (List ℕ)) → first_word words ≡ None → txs_named names words ≡ Some []
 no_words_left names [] none = refl
 no_words_left names (x ∷ xs) none = cc
+
+-- ---- keys
+
+-- where a key's address is known, it stands beside its name
+pub key_named : (names : AllNames) (name : List ℕ) (address : Address) → address_on names (OwnedByKey name) ≡ Some address → key_address names name ≡ Some (record { name = name; bound = address })
+key_named names name address known = ap (option_map (λ (a : Address). record { name = name; bound = a })) known
+
+pub key_unnamed : (names : AllNames) (name : List ℕ) → address_on names (OwnedByKey name) ≡ None → key_address names name ≡ None
+key_unnamed names name unknown = ap (option_map (λ (a : Address). record { name = name; bound = a })) unknown
+
+-- a first key that is known
+pub next_key_known : (names : AllNames) (words : List (List ℕ)) (word : List ℕ) (key : Named Address) → first_word words ≡ Some word → key_address names word ≡ Some key
+    → key_addresses names words ≡ option_map (λ (rest : List (Named Address)). key ∷ rest) (key_addresses names (drop 1 words))
+next_key_known names [] word key is known = cc
+next_key_known names (x ∷ xs) word key is known =
+    let same : x ≡ word = same_Some x word is in
+    let found : key_address names x ≡ Some key = ap (key_address names) same ∙ known in
+    ap (λ (first : Option (Named Address)). with_one first (key_addresses names xs)) found ∙ with_first key (key_addresses names xs)
+
+-- one that isn't
+pub next_key_unknown : (names : AllNames) (words : List (List ℕ)) (word : List ℕ) → first_word words ≡ Some word → key_address names word ≡ None → key_addresses names words ≡ None
+next_key_unknown names [] word is unknown = cc
+next_key_unknown names (x ∷ xs) word is unknown =
+    let same : x ≡ word = same_Some x word is in
+    let none : key_address names x ≡ None = ap (key_address names) same ∙ unknown in
+    ap (λ (first : Option (Named Address)). with_one first (key_addresses names xs)) none
+
+-- no key
+pub no_keys_left : (names : AllNames) (words : List (List ℕ)) → first_word words ≡ None → key_addresses names words ≡ Some []
+no_keys_left names [] none = refl
+no_keys_left names (x ∷ xs) none = cc
 
 -- ---- points
 

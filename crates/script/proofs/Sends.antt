@@ -13,7 +13,7 @@ use Rattle.script.specs.declared.request.Request.TheVariants as request
 use Rattle.script.specs.declared.names.Names.{Names}
 use Rattle.script.specs.declared.open_tx.OpenTx as code
 use Rattle.script.specs.declared.sending.SendRequest.{SendRequest}
-use Rattle.script.specs.Line.{Line, NamedPlace, Nothing, DefineKey, DefineSeed, DefineScript, BeginTx, AddPart, EndTx, DefineBlock, DefineRaw, Arrive, SubmitTx, ForgeBlock, OpenFollower, AskNext, AskForward, CloseFollower, DiscardBlock, AskTip, AskMempool, AskUtxo, AskWhy, AskWhere, AskBalance, parse_line}
+use Rattle.script.specs.Line.{Line, NamedPlace, Nothing, DefineKey, DefineSeed, DefineScript, BeginTx, AddPart, EndTx, DefineBlock, DefineRaw, Arrive, SubmitTx, ForgeBlock, OpenFollower, WatchKeys, AskNext, AskForward, CloseFollower, DiscardBlock, AskTip, AskMempool, AskUtxo, AskWhy, AskWhere, AskBalance, parse_line}
 use Rattle.script.specs.Names.{AllNames, Bound, OpenTx, Named, bound_to}
 use Rattle.script.specs.Text.{script_size_limit}
 use Rattle.script.specs.WordsView.{has_no_words}
@@ -98,6 +98,7 @@ defines number names making (Arrive form name) m so is = cc
 defines number names making (SubmitTx name) m so is = cc
 defines number names making (ForgeBlock name slot) m so is = cc
 defines number names making (OpenFollower name) m so is = cc
+defines number names making (WatchKeys name keys) m so is = cc
 defines number names making (AskNext name) m so is = cc
 defines number names making (AskForward name places) m so is = cc
 defines number names making (CloseFollower name) m so is = cc
@@ -120,6 +121,7 @@ is_defined names c (request.Arrive form name) m d is also = let no = is.2 in cc
 is_defined names c (request.Submit name) m d is also = let no = is.2 in cc
 is_defined names c (request.Forge name slot) m d is also = let no = is.0 in cc
 is_defined names c (request.Open name) m d is also = let no = is.0 in cc
+is_defined names c (request.Watch name keys) m d is also = let no = is.0 in cc
 is_defined names c (request.Next name id) m d is also = let no = is.0 in cc
 is_defined names c (request.Forward name id points) m d is also = let no = is.0 in cc
 is_defined names c (request.Close name id) m d is also = let no = is.0 in cc

@@ -41,10 +41,11 @@ pub data Part : Type 0 where
 
 -- a line: nothing, a key, a secret key or a script of a name, a transaction of a name that begins, a part of it, its
 -- end, a block of a name, on a parent, in a slot, with transactions, bytes of a name, an arrival, a submission, a block
--- of a name to forge in a slot, a follower to open, the question what a follower is told next, a follower to set to the
--- first of some places that is on the selected chain, a follower to close, a block of a name to keep no more, the
--- question where that chain ends, what waits in the mempool, or what is unspent on the chain, why the block of a name
--- isn't selected, where the transaction of a name stands, or how much an owner has
+-- of a name to forge in a slot, a follower to open, one to open with an index of what the keys of these names have, the
+-- question what a follower is told next, a follower to set to the first of some places that is on the selected chain, a
+-- follower to close, a block of a name to keep no more, the question where that chain ends, what waits in the mempool,
+-- or what is unspent on the chain, why the block of a name isn't selected, where the transaction of a name stands, or
+-- how much an owner has
 pub data Line : Type 0 where
   Nothing : Line
   DefineKey : (name bytes : List ℕ) → Line
@@ -59,6 +60,7 @@ pub data Line : Type 0 where
   SubmitTx : (name : List ℕ) → Line
   ForgeBlock : (name : List ℕ) → (slot : ℕ) → Line
   OpenFollower : (name : List ℕ) → Line
+  WatchKeys : (name : List ℕ) → (keys : List (List ℕ)) → Line
   AskNext : (name : List ℕ) → Line
   AskForward : (name : List ℕ) → List NamedPlace → Line
   CloseFollower : (name : List ℕ) → Line
@@ -294,10 +296,20 @@ forward_line [] = None
 forward_line (name ∷ []) = None
 forward_line (name ∷ word ∷ words) = where_name name (option_map (AskForward name) (parse_places (word ∷ words)))
 
+-- what comes after `watch`: a name, and one name or more
+abbrev pub watch_line : List (List ℕ) → Option Line
+watch_line [] = None
+watch_line (name ∷ []) = None
+watch_line (name ∷ word ∷ words) =
+    where_name name (if list_all is_name (word ∷ words) then Some (WatchKeys name (word ∷ words)) else None)
+
 -- what the words of a line say
 abbrev pub said_by : List (List ℕ) → Option Line
 said_by [] = None
-said_by (word ∷ words) = if bytes_eq word (codes "forward") then forward_line words else said_with word words
+said_by (word ∷ words) =
+    if bytes_eq word (codes "forward") then forward_line words
+    else if bytes_eq word (codes "watch") then watch_line words
+    else said_with word words
 
 -- an empty line or a comment says nothing
 abbrev pub line_of_content : List ℕ → Option Line

@@ -21,6 +21,7 @@ line_of (line.Arrive form name) = spec.Arrive form name.text.now
 line_of (line.Submit name) = spec.SubmitTx name.text.now
 line_of (line.Forge name slot) = spec.ForgeBlock name.text.now slot
 line_of (line.Open name) = spec.OpenFollower name.text.now
+line_of (line.Watch name keys) = spec.WatchKeys name.text.now (words_left keys.words)
 line_of (line.Next name) = spec.AskNext name.text.now
 line_of (line.Forward name points) = spec.AskForward name.text.now (spec.said_places (words_left points.words))
 line_of (line.Close name) = spec.CloseFollower name.text.now

@@ -2,7 +2,7 @@
 use Rattle.std.specs.Prelude.{◌≡◌, ℕ, ◌+◌, ◌-◌, ◌&&◌, Bool, true, false, IsTrue, List, [], ◌∷◌, ◌++◌, length}
 use Rattle.std.specs.Prelude.{take, replicate}
 use Rattle.std.specs.Prelude.{Option, Some, None, option_map, option_and_then, Result, Ok, Err, is_some, nat_lt, nat_le}
-use Rattle.std.specs.Prelude.{◌==◌, if◌then◌else◌}
+use Rattle.std.specs.Prelude.{if◌then◌else◌}
 use Rattle.std.specs.List.{list_all}
 use Rattle.model.specs.Limits.{transaction_nesting_limit, hash_size, output_limit, number_limit}
 use Rattle.model.specs.Cbor.{nesting}
@@ -24,7 +24,7 @@ use Rattle.script.specs.Line.{NamedPlace, Genesis, AtBlock, Owner, OwnedByKey, O
 use Rattle.script.specs.Line.{SpendGrant, Spend, Pay}
 use Rattle.script.specs.Line.{SetFee, SetStart, SetEnd, MintAsset, SignBy, Supply, Line, Nothing, DefineKey}
 use Rattle.script.specs.Line.{DefineSeed, DefineScript, BeginTx}
-use Rattle.script.specs.Line.{AddPart, EndTx, DefineBlock, DefineRaw, Arrive, SubmitTx, ForgeBlock, OpenFollower}
+use Rattle.script.specs.Line.{AddPart, EndTx, DefineBlock, DefineRaw, Arrive, SubmitTx, ForgeBlock, OpenFollower, WatchKeys}
 use Rattle.script.specs.Line.{AskNext, AskForward, CloseFollower, DiscardBlock, AskTip, AskMempool, AskUtxo, AskWhy}
 use Rattle.script.specs.Line.{AskWhere, AskBalance}
 use Rattle.script.specs.Line.{parse_line, is_quantity}
@@ -42,16 +42,17 @@ pub data Definition : Type 0 where
   Finishes : OpenTx → Definition
 
 -- what a line does: it defines something, bytes arrive, a transaction is submitted, a block of a name is forged in a
--- slot, a follower is opened, the follower of a number is told what comes next, is set to the first of some points that
--- is on the selected chain, or is closed, the block of a hash is to be kept no more, the tip is printed, what waits in
--- the mempool, what is unspent, why the block of a hash isn't selected, where the transaction of an identifier stands,
--- or how much is unspent at an owner's address
+-- slot, a follower is opened, or is opened with an index of what these keys have, the follower of a number is told what
+-- comes next, is set to the first of some points that is on the selected chain, or is closed, the block of a hash is to
+-- be kept no more, the tip is printed, what waits in the mempool, what is unspent, why the block of a hash isn't
+-- selected, where the transaction of an identifier stands, or how much is unspent at an owner's address
 pub data Meaning : Type 0 where
   Defines : Definition → Meaning
   Arrives : Form → (name bytes : List ℕ) → Meaning
   SubmitsTx : (name : List ℕ) → Transaction → Meaning
   ForgesBlock : (name : List ℕ) → (slot : ℕ) → Meaning
   OpensFollower : (name : List ℕ) → Meaning
+  WatchesKeys : (name : List ℕ) → (keys : List (Named Address)) → Meaning
   TellsFollower : (name : List ℕ) → (id : ℕ) → Meaning
   ForwardsFollower : (name : List ℕ) → (id : ℕ) → (points : List Point) → Meaning
   ClosesFollower : (name : List ℕ) → (id : ℕ) → Meaning
@@ -120,6 +121,16 @@ module _ (names : AllNames) where
   -- the address of an owner
   abbrev pub address_on : Owner → Option Address
   address_on owner = option_map (λ payment. record { network = names.network; payment = payment }) (payment_of owner)
+
+  -- a key by its name, with its address
+  abbrev pub key_address : (name : List ℕ) → Option (Named Address)
+  key_address name =
+      option_map (λ address. record { name = name; bound = address }) (address_on (OwnedByKey name))
+
+  -- the keys of these names with their addresses, in this order
+  abbrev pub key_addresses : List (List ℕ) → Option (List (Named Address))
+  key_addresses [] = Some []
+  key_addresses (name ∷ others) = with_one (key_address name) (key_addresses others)
 
   -- an asset, whose policy is the hash of the script
   abbrev pub asset_of : {Q : Type 0} → NamedAsset Q → Option (AssetQuantity Q)
@@ -270,6 +281,9 @@ meaning_outside number names (ForgeBlock name slot) =
     where_free (bound_to name names.of_bytes) (Ok (ForgesBlock name slot))
 meaning_outside number names (OpenFollower name) =
     where_free (bound_to name names.of_followers) (Ok (OpensFollower name))
+meaning_outside number names (WatchKeys name keys) =
+    where_known (key_addresses names keys)
+    (λ all. where_free (bound_to name names.of_followers) (Ok (WatchesKeys name all)))
 meaning_outside number names (AskNext name) =
     where_known (bound_to name names.of_followers) (λ id. Ok (TellsFollower name id))
 meaning_outside number names (AskForward name places) =

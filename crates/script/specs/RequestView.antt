@@ -1,25 +1,26 @@
 -- What all names of the code stand for, and what a line asks for where they are bound.
 use Rattle.std.specs.Prelude.{◌≡◌, ℕ, Bool, IsTrue, List, map, Option, Some, None, Result, Ok, Err}
 use Rattle.ident.specs.PointView.{point_of}
-use Rattle.model.specs.Transaction.{Transaction}
+use Rattle.model.specs.Transaction.{Transaction, Address}
 use Rattle.tx.specs.View.{address_of}
 use Rattle.draft.specs.View.{IsDraftOf}
 use Rattle.script.specs.declared.fault.LineFault.{LineFault}
 use Rattle.script.specs.declared.fault.LineFault.TheVariants.{NotBuilt}
 use Rattle.script.specs.declared.stop.Stop.{Stop}
 use Rattle.script.specs.declared.stop.Stop.TheVariants.{Fault, OutOfMemory}
+use Rattle.script.specs.declared.request.KeyAddress.{KeyAddress}
 use Rattle.script.specs.declared.request.Request.{Request}
 use Rattle.script.specs.declared.request.Request.TheVariants as request
 use Rattle.script.specs.declared.names.Names.{Names}
 use Rattle.script.specs.declared.open_tx.OpenTx as code
-use Rattle.script.specs.Names.{Bound, OpenTx, AllNames, bound_to}
+use Rattle.script.specs.Names.{Named, Bound, OpenTx, AllNames, bound_to}
 use Rattle.script.specs.NamesView.{AreBound}
 use Rattle.script.specs.TxNamesView.{AreTxsNamed}
 use Rattle.script.specs.FollowerNamesView.{AreFollowersNamed, HasRoom}
 use Rattle.script.specs.KnownView.{AreKnown}
 use Rattle.script.specs.SignerView.{key_signer_of}
 use Rattle.script.specs.Line.{Line}
-use Rattle.script.specs.Meaning.{Meaning, Defines, Definition, Arrives, SubmitsTx, ForgesBlock, OpensFollower}
+use Rattle.script.specs.Meaning.{Meaning, Defines, Definition, Arrives, SubmitsTx, ForgesBlock, OpensFollower, WatchesKeys}
 use Rattle.script.specs.Meaning.{TellsFollower, ForwardsFollower, ClosesFollower, DiscardsBlock, PrintsTip}
 use Rattle.script.specs.Meaning.{PrintsMempool, PrintsUtxo, PrintsWhy, PrintsWhere, PrintsBalance, AreNamesAfter}
 use Rattle.script.specs.Meaning.{MeansLine, is_late}
@@ -55,6 +56,10 @@ pub record IsDefined (names : AllNames) (code : Names) (definition : Definition)
   pub after : AreNamesAfter names definition new
   pub named : AreNamed code new
 
+-- what a key of the code stands for
+abbrev pub key_address_of : KeyAddress → Named Address
+key_address_of key = record { name = key.name.items; bound = address_of key.address }
+
 -- Where these names are bound a line that means this asks for this. Its definition is made, or the names of the code
 -- have room for it.
 abbrev pub IsRequest : AllNames → Names → Request → Meaning → Type 0
@@ -68,6 +73,9 @@ IsRequest names code (request.Submit name) meaning = (tx : Transaction)
 IsRequest names code (request.Forge name slot) meaning = (meaning ≡ ForgesBlock name.text.now slot)
     × (bound_to name.text.now names.of_bytes ≡ None) × AreNamed code names
 IsRequest names code (request.Open name) meaning = (meaning ≡ OpensFollower name.text.now)
+    × (bound_to name.text.now names.of_followers ≡ None) × HasFollowerRoom code name.text.now × AreNamed code names
+IsRequest names code (request.Watch name keys) meaning =
+    (meaning ≡ WatchesKeys name.text.now (map key_address_of keys.items))
     × (bound_to name.text.now names.of_followers ≡ None) × HasFollowerRoom code name.text.now × AreNamed code names
 IsRequest names code (request.Next name id) meaning = (meaning ≡ TellsFollower name.text.now id) × AreNamed code names
 IsRequest names code (request.Forward name id points) meaning =

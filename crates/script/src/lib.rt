@@ -36,6 +36,6 @@ pub use line::Form;
 pub use name::Name;
 pub use names::{LinePlace, MAX_SCRIPT_SIZE, Names};
 pub use part::Owner;
-pub use request::Request;
+pub use request::{KeyAddress, Request};
 pub use sending::SendRequest;
 pub use stop::Stop;

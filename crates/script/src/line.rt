@@ -5,7 +5,7 @@ ghost use Rattle.script.specs.Line.{parse_line, said_by, said_with, form_of, wor
 ghost use Rattle.script.specs.Line.{word_line, arrive_line, named_line, spend_line, pair_line, mint_line, long_line};
 ghost use Rattle.script.specs.Line.{OpenFollower, AskNext, CloseFollower, SubmitTx, BeginTx, AddPart, SignBy, Supply};
 ghost use Rattle.script.specs.Line.{DiscardBlock, AskWhy, AskWhere, AskBalance, OwnedByKey};
-ghost use Rattle.script.specs.Line.{asking_line, balance_line, forge_line, forward_line};
+ghost use Rattle.script.specs.Line.{asking_line, balance_line, forge_line, forward_line, watch_line};
 ghost use Rattle.script.specs.Line.{block_of_parts, pay_of_parts, parse_owner, parse_assets};
 ghost use Rattle.script.specs.Text.{parse_number};
 ghost use Rattle.script.specs.WordsView.{words_left};
@@ -118,6 +118,11 @@ pub enum Line<'a> {
     /// A follower is opened, and gets a name.
     Open {
         name: Name<'a>,
+    },
+    /// A follower is opened with an index of what the keys of these names have, and gets a name.
+    Watch {
+        name: Name<'a>,
+        keys: NameWords<'a>,
     },
     /// What is the follower of a name told next?
     Next {
@@ -494,6 +499,19 @@ fn forward_line(mut words: Words<'_>) -> Option<Line<'_>>
     Some(Line::Forward { name, points })
 }
 
+/// The line in which a follower is opened with an index, of the words that come after the first.
+fn watch_line(mut words: Words<'_>) -> Option<Line<'_>>
+    ensures { option_map line_of result ≡ watch_line (words_left words.entry) }
+{
+    let first = words.next_word()?;
+    if words.is_empty() {
+        return None;
+    }
+    let name = Name::of_word(first)?;
+    let keys = NameWords::of(words)?;
+    Some(Line::Watch { name, keys })
+}
+
 /// What the words of a line say.
 fn said_by(mut words: Words<'_>) -> Option<Line<'_>>
     ensures { option_map line_of result ≡ said_by (words_left words.entry) }
@@ -501,6 +519,8 @@ fn said_by(mut words: Words<'_>) -> Option<Line<'_>>
     let word = words.next_word()?;
     if word == b"forward".as_slice() {
         forward_line(words)
+    } else if word == b"watch".as_slice() {
+        watch_line(words)
     } else {
         said_with(word, words)
     }

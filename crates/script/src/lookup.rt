@@ -6,9 +6,10 @@ ghost use Rattle.tx.specs.View.{address_of, credential_of};
 ghost use Rattle.script.specs.Adding.{AreFound, AreGathered};
 ghost use Rattle.script.specs.KnownView.{AreKnown};
 ghost use Rattle.script.specs.Line.{said_assets};
-ghost use Rattle.script.specs.Meaning.{address_on, are_some, assets_of, payment_of, txs_named};
+ghost use Rattle.script.specs.Meaning.{address_on, are_some, assets_of, key_addresses, payment_of, txs_named};
 ghost use Rattle.script.specs.Names.{AllNames, no_names};
 ghost use Rattle.script.specs.PartView.{owner_of};
+ghost use Rattle.script.specs.RequestView.{key_address_of};
 ghost use Rattle.script.specs.WordsView.{words_left};
 ghost use Rattle.script.specs.declared.stop.Stop.TheVariants.{OutOfMemory};
 
@@ -18,6 +19,7 @@ use crate::known::Known;
 use crate::name_table::NameTable;
 use crate::name_words::NameWords;
 use crate::part::Owner;
+use crate::request::KeyAddress;
 use crate::stop::Stop;
 use genesis::{Genesis, Scheme};
 use ident::KeyHash;
@@ -65,6 +67,37 @@ impl Known {
     {
         let payment = self.payment_of(owner)?;
         Address::new(self.network, payment)
+    }
+
+    /// Whether all keys are known. Takes no memory.
+    pub fn knows_keys(&self, keys: NameWords<'_>) -> bool
+        ensures { (names : AllNames) → AreKnown self.now names
+            → result ≡ is_some (key_addresses names (words_left keys.entry.words)) }
+    {
+        let mut left = keys;
+        while let Some(name) = left.next_name() {
+            if self.address_on(Owner::Key(name)).is_none() {
+                return false;
+            }
+        }
+        true
+    }
+
+    /// The keys of these names with their addresses, in their order.
+    pub fn gather_keys(&self, keys: NameWords<'_>) -> Result<Vec<KeyAddress>, Stop>
+        ensures { (names : AllNames) → AreKnown self.now names
+            → AreGathered key_address_of (key_addresses names (words_left keys.entry.words)) result }
+    {
+        let mut gathered = Vec::new(self.alloc);
+        let mut left = keys;
+        while let Some(name) = left.next_name() {
+            let Some(address) = self.address_on(Owner::Key(name)) else {
+                return Err(Stop::Fault(LineFault::UnknownName));
+            };
+            let name = Vec::from_slice(self.alloc, name.text)?;
+            gathered.push(KeyAddress { name, address })?;
+        }
+        Ok(gathered)
     }
 
     /// Whether the scripts of all assets are known. Takes no memory.

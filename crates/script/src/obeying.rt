@@ -4,8 +4,8 @@ ghost use Rattle.std.specs.Prelude.{◌≡◌, None, Some, false};
 ghost use Rattle.script.specs.LineView.{line_of};
 ghost use Rattle.script.specs.Meaning.{ForgesBlock, OpensFollower, SubmitsTx, TellsFollower, ForwardsFollower};
 ghost use Rattle.script.specs.Meaning.{ClosesFollower, DiscardsBlock, arrival_meaning, is_late, meaning_inside};
-ghost use Rattle.script.specs.Meaning.{points_at, address_on, block_point, where_free, where_known};
-ghost use Rattle.script.specs.Meaning.{PrintsWhy, PrintsWhere, PrintsBalance};
+ghost use Rattle.script.specs.Meaning.{points_at, address_on, block_point, key_addresses, where_free, where_known};
+ghost use Rattle.script.specs.Meaning.{PrintsWhy, PrintsWhere, PrintsBalance, WatchesKeys};
 ghost use Rattle.model.specs.Transaction.{transaction_id_of};
 ghost use Rattle.script.specs.Names.{AllNames, OpenTx, bound_to};
 ghost use Rattle.script.specs.PartView.{owner_of, part_of};
@@ -17,6 +17,7 @@ use crate::fault::LineFault;
 use crate::key::Key;
 use crate::line::{Form, Line};
 use crate::name::Name;
+use crate::name_words::NameWords;
 use crate::names::Names;
 use crate::part::{Owner, Part};
 use crate::place_words::{NamedPlace, PlaceWords};
@@ -74,6 +75,25 @@ impl Names {
         }
         self.followers.take_room(name.text)?;
         Ok(Request::Open { name })
+    }
+
+    /// A line that opens a follower with an index. Its name gets its room. An unknown key is told first, then a name
+    /// that is taken, and both before memory is asked for. Each key is looked up twice.
+    fn ask_watch<'a>(&mut self, name: Name<'a>, keys: NameWords<'_>) -> Result<Request<'a>, Stop>
+        ensures { (names : AllNames) → AreNamed self.old names → AsksFor names
+            (where_known (key_addresses names (words_left keys.entry.words))
+            (λ all. where_free (bound_to name.entry.text.now names.of_followers)
+            (Ok (WatchesKeys name.entry.text.now all)))) false result self.new }
+    {
+        if !self.known.knows_keys(keys) {
+            return Err(Stop::Fault(LineFault::UnknownName));
+        }
+        if self.followers.get(name.text).is_some() {
+            return Err(Stop::Fault(LineFault::NameTaken));
+        }
+        let keys = self.known.gather_keys(keys)?;
+        self.followers.take_room(name.text)?;
+        Ok(Request::Watch { name, keys })
     }
 
     /// The question what a follower is told next.
@@ -226,6 +246,7 @@ impl Names {
             Line::Submit { name } => self.ask_submission(name),
             Line::Forge { name, slot } => self.ask_forging(name, slot),
             Line::Open { name } => self.ask_open(name),
+            Line::Watch { name, keys } => self.ask_watch(name, keys),
             Line::Next { name } => self.ask_next(name),
             Line::Forward { name, points } => self.ask_forward(name, points),
             Line::Close { name } => self.ask_closing(name),

@@ -1,10 +1,21 @@
 //! What a line asks of the node.
 
+ghost use Rattle.std.specs.Prelude.{◌≡◌, true};
+ghost use Rattle.script.specs.Text.{is_name};
+
 use crate::line::Form;
 use crate::name::Name;
 use crate::part::Owner;
 use ident::{BlockHash, Point, TxId};
 use tx::Address;
+
+/// A key by its name, with its address.
+#[derive(Debug, Drop)]
+pub struct KeyAddress {
+    pub name: Vec<u8>,
+    pub address: Address,
+    pub ghost named: { is_name name.items ≡ true },
+}
 
 /// What a line asks of the node, once its definition is made. Its names are parts of the line.
 #[derive(Debug, Drop)]
@@ -28,6 +39,12 @@ pub enum Request<'a> {
     /// A follower is opened. Its name is free, and has its room.
     Open {
         name: Name<'a>,
+    },
+    /// A follower is opened with an index of what these keys have. Its name is free, and has its room. The keys
+    /// stand in the order of the line's words.
+    Watch {
+        name: Name<'a>,
+        keys: Vec<KeyAddress>,
     },
     /// What is the follower of this name and number told next?
     Next {

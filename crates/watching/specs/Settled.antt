@@ -1,14 +1,13 @@
 -- An index beside a node whose follower has nothing left to be told.
-use Rattle.std.specs.Prelude.{◌≡◌, ℕ, List, [], Some}
-use Rattle.model.specs.Value.{Asset}
-use Rattle.model.specs.Transaction.{Address}
-use Rattle.model.specs.Utxo.{sum_of}
+use Rattle.std.specs.Prelude.{◌≡◌, ℕ, IsTrue, List, [], Some}
+use Rattle.std.specs.FinSet as set
+use Rattle.model.specs.Transaction.{Address, address_bytes}
 use Rattle.model.specs.Block.{Block}
 use Rattle.model.specs.Follower.{Follower, follower_of, Stay, IsNext}
 use Rattle.model.specs.Genesis.{opening_utxo}
 use Rattle.model.specs.Ledger.{Network, Ledger, ledger_of}
 use Rattle.model.specs.History.{State, Entry, WasTold, instructions_to, ChainTheorem}
-use Rattle.watching.specs.Which.{All, watched_among}
+use Rattle.watching.specs.Which.{Which, All, Addresses, Policies, watched_among}
 use Rattle.watching.specs.Chains.{Watched, IsIndexOf}
 use Rattle.watching.specs.Ledgers.{AreTaken}
 use Rattle.watching.specs.Balances.{outputs_with}
@@ -30,17 +29,24 @@ pub record IsSettled (network : Network) (history : List Entry) (state : State) 
   pub followed : HasFollowed network history id follower.told w
   pub nothing_left : IsNext state.chain follower Stay follower
 
+-- each output of the address is watched, whatever it holds
+abbrev pub WatchesAddress : Which → Address → Type 0
+WatchesAddress All address = Unit {0}
+WatchesAddress (Addresses addresses) address = IsTrue (set.contains addresses (address_bytes address))
+WatchesAddress (Policies policies) address = ⊥
+
 -- what the selected chain's ledger is to such an index
 pub record IsLedgerFor (network : Network) (state : State) (w : Watched) : Type 0 where
   pub ledger : Ledger
   pub is_ledger : ledger_of network state.chain ≡ Some ledger
   pub outputs : w.last.tables.outputs ≡ watched_among w.which ledger.utxo
-  pub balances : w.which ≡ All → (address : Address) (asset : Asset)
-      → sum_of asset (outputs_with address w.last.tables.outputs) ≡ sum_of asset (outputs_with address ledger.utxo)
+  pub of_address : (address : Address) → WatchesAddress w.which address
+      → outputs_with address w.last.tables.outputs ≡ outputs_with address ledger.utxo
 
 -- AN INDEX BESIDE THE NODE
 -- Once nothing is left to tell its follower, the outputs of an index are those that it watches of the UTXO of the
--- selected chain, which has a ledger. So where it watches all, an address holds by the index what it holds by the node.
+-- selected chain, which has a ledger. So an address of which it watches each output has by the index just the outputs
+-- that it has by the node.
 abbrev pub IndexIsTheNodes : Type 0
 IndexIsTheNodes = (network : Network) (history : List Entry) (state : State) (w : Watched)
     → IsSettled network history state w → IsLedgerFor network state w

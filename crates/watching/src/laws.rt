@@ -51,8 +51,8 @@ pub fn outputs_are_the_tolds()
 
 /// Of a node of which the chain theorem holds, and an index that began where a follower was last set and took each
 /// instruction that it was given since: once nothing is left to tell that follower, the index's outputs are those that
-/// it watches of the UTXO of the selected chain. So where it watches all, [`crate::Watch::balance`] has of each asset
-/// what the node's outputs of the address hold.
+/// it watches of the UTXO of the selected chain. So an address of which it watches each output, as where it watches all
+/// outputs, or this address among others, has by [`crate::Watch::outputs`] just the outputs that it has by the node.
 pub fn index_is_the_nodes()
     ensures { IndexIsTheNodes }
 {}

@@ -12,7 +12,7 @@ pub enum WatchFault {
     NotNext,
     /// The index keeps no version that ends at the point: its chain doesn't pass there, or not yet; or the point lies
     /// before where the index began, or more than k blocks before the furthest block that was put on.
-    #[error("the point isn't tables")]
+    #[error("the index keeps no version that ends at the point")]
     UnknownPoint,
     /// Memory ran out.
     #[error("out of memory")]

@@ -8,8 +8,11 @@ use Rattle.scenario.proofs.runner.run.Goals as goal
 pub returns-in_default-clause-fault : goal.returns-in_default-clause-fault
 returns-in_default-clause-fault g c = none_begun c.args.options (network_of c.args.genesis g.S.SigScheme.verifies) (opens_nothing c.args.genesis g.S.SigScheme.verifies) (g.R.Read.remaining c.args.reader.now) (g.W.Write.contents c.args.writer.now)
 
-pub run_lines-requires : goal.run_lines-requires
-run_lines-requires g c = rw (ap (λ n. n.genesis) c.in-Ok.ensures.network) c.in-Ok.ensures.holds.names
+pub run_lines-requires-clause-names : goal.run_lines-requires-clause-names
+run_lines-requires-clause-names g c = rw (ap (λ n. n.genesis) c.in-Ok.ensures.network) c.in-Ok.ensures.holds.names
+
+pub run_lines-requires-clause-indexes : goal.run_lines-requires-clause-indexes
+run_lines-requires-clause-indexes g c = rw (ap (λ n. n.genesis) c.in-Ok.ensures.network) c.in-Ok.ensures.holds.indexes
 
 pub returns-clause-fault : goal.returns-clause-fault
 returns-clause-fault g c = new_into c.args.options g.S.SigScheme.verifies (network_of c.args.genesis g.S.SigScheme.verifies) (opens_nothing c.args.genesis g.S.SigScheme.verifies) c.in-Ok.session.core c.run_lines.new.session.core c.in-Ok.ensures.network c.in-Ok.ensures.holds.stands

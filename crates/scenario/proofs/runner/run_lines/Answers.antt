@@ -6,7 +6,7 @@ use Rattle.scenario.proofs.WrittenParts.{appends_none}
 use Rattle.scenario.proofs.runner.run_lines.Goals as goal
 
 pub loop-number-init : goal.loop-number-init
-loop-number-init g c = opened c.args.options g.S.SigScheme.verifies (network_held c.args.session.now.core g.S.SigScheme.verifies) c.args.session.now (g.R.Read.remaining c.args.reader.now) (g.W.Write.contents c.args.writer.now) c.requires refl (appends_none (g.W.Write.contents c.args.writer.now))
+loop-number-init g c = opened c.args.options g.S.SigScheme.verifies (network_held c.args.session.now.core g.S.SigScheme.verifies) c.args.session.now (g.R.Read.remaining c.args.reader.now) (g.W.Write.contents c.args.writer.now) c.requires.names c.requires.indexes refl (appends_none (g.W.Write.contents c.args.writer.now))
 
 -- a line that isn't run
 pub returns-in-Err-obey-clause-fault : goal.returns-in-Err-obey-clause-fault

@@ -9,8 +9,16 @@ returns-then-eq c =
     let is : bytes_eq c.in_ok-word.word.now (codes "forward") ≡ true = cc in
     rw (first, is) c.forward_line.ensures
 
-pub returns-else-eq : goal.returns-else-eq
-returns-else-eq c =
+pub returns-then-eq-2 : goal.returns-then-eq-2
+returns-then-eq-2 c =
     let first = read _ _ _ c.in_ok-word.word c.next_word.ensures.word c.next_word.ensures.rest c.in_ok-word.was in
-    let is : bytes_eq c.in_ok-word.word.now (codes "forward") ≡ false = cc in
-    rw (first, is) c.said_with.ensures
+    let not : bytes_eq c.in_ok-word.word.now (codes "forward") ≡ false = cc in
+    let is : bytes_eq c.in_ok-word.word.now (codes "watch") ≡ true = cc in
+    rw (first, not, is) c.watch_line.ensures
+
+pub returns-else-eq-2 : goal.returns-else-eq-2
+returns-else-eq-2 c =
+    let first = read _ _ _ c.in_ok-word.word c.next_word.ensures.word c.next_word.ensures.rest c.in_ok-word.was in
+    let not : bytes_eq c.in_ok-word.word.now (codes "forward") ≡ false = cc in
+    let neither : bytes_eq c.in_ok-word.word.now (codes "watch") ≡ false = cc in
+    rw (first, not, neither) c.said_with.ensures

@@ -17,7 +17,7 @@ returns-in-Ok-clause-obeyed g c = λ s holds bound is.
     let network = network_held c.args.self.now.core g.S.SigScheme.verifies in
     let reply = arrive_reply_of c.arrive-reply.result in
     let step = rw (c.bytes_named-bytes.ensures s.names holds.names bound is) at (c.arrive-reply.ensures.step s.state holds.stands) in
-    arrival_told network c.args.explain s c.args.form c.args.name.text.now bound.bytes reply c.in_ok-line.line.items c.print_arrived.new.line.items _ c.in_ok-line.ensures.empty holds.names step
+    arrival_told network c.args.explain s c.args.form c.args.name.text.now bound.bytes reply c.in_ok-line.line.items c.print_arrived.new.line.items _ c.in_ok-line.ensures.empty holds.names holds.indexes step
     (subst (λ (n : Network). Step n s.state (Arrive (formed c.args.form bound.bytes)) reply step.0
     → AppendsNote (c.in_ok-line.line.items ++ arrival_text c.args.form c.args.name.text.now reply) c.print_arrived.new.line.items (IsNote n c.args.explain s.names.of_bytes s.state (entry (Arrive (formed c.args.form bound.bytes)) reply) step.0))
     (λ j. network_on (c.arrive-reply.ensures.start.genesis j) g.S.SigScheme.verifies (c.arrive-reply.ensures.start.opened j))

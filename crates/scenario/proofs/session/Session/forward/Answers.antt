@@ -13,7 +13,7 @@ pub returns-in-Ok-clause-obeyed : goal.returns-in-Ok-clause-obeyed
 returns-in-Ok-clause-obeyed g c = λ s holds.
     forwarding_acted (network_held c.args.self.now.core g.S.SigScheme.verifies) s c.args.name.text.now c.args.id (map point_of c.args.points.now) (forward_reply_of c.forward-reply.result) c.print_forwarding.new.line.items _
     (behind_nothing c.print_forwarding.new.line.items c.in_ok-line.line.items (forwarding_text s.names.of_bytes c.args.name.text.now (forward_reply_of c.forward-reply.result)) (c.in-Ok.ensures s.names holds.names) c.in_ok-line.ensures.empty)
-    (forward_enough c.forward-reply.result) holds.names (c.forward-reply.ensures.step s.state holds.stands)
+    (forward_enough c.forward-reply.result) holds.names (c.forwarded.ensures s.indexes holds.indexes) (c.forward-reply.ensures.step s.state holds.stands)
 
 pub returns-in-Err-clause-obeyed : goal.returns-in-Err-clause-obeyed
 returns-in-Err-clause-obeyed g c = λ s holds.

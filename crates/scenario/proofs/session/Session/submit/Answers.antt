@@ -19,7 +19,7 @@ returns-in-Ok-clause-obeyed g c = λ s holds tx is.
     let network = network_held c.args.self.now.core g.S.SigScheme.verifies in
     let reply = submit_reply_of c.submit-reply.result in
     let step = c.submit-reply.ensures.step s.names holds.names tx is s.state holds.stands in
-    submission_told network c.args.explain s c.args.name.text.now tx reply c.in_ok-line.line.items c.print_submitted.new.line.items _ c.in_ok-line.ensures.empty holds.names step
+    submission_told network c.args.explain s c.args.name.text.now tx reply c.in_ok-line.line.items c.print_submitted.new.line.items _ c.in_ok-line.ensures.empty holds.names holds.indexes step
     (subst (λ (n : Network). Step n s.state (Submit (text_of (item_of_transaction tx))) reply step.0
     → AppendsNote (c.in_ok-line.line.items ++ submission_text c.args.name.text.now reply) c.print_submitted.new.line.items (IsNote n c.args.explain s.names.of_bytes s.state (entry (Submit (text_of (item_of_transaction tx))) reply) step.0))
     (λ j. network_on (c.submit-reply.ensures.start.genesis j) g.S.SigScheme.verifies (c.submit-reply.ensures.start.opened j))
