@@ -11,8 +11,8 @@ use Rattle.chain.specs.declared.chain.Chain.TheInside.{Inside}
 abbrev pub held : {S : Type 0} → Inside S → Chained
 held a = record { gone = noted a.gone.items; resident = a.resident.items; room = vec_capacity a.resident }
 
--- The blocks that left memory are linked from genesis on, and the hash of each is kept, at its place. Where any left, one
--- is in memory.
+-- The blocks that left memory are linked from genesis on, and the hash of each is kept, at its place. Where any left,
+-- one is in memory.
 pub record IsHeld {S : Type 0} (a : Inside S) : Type 0 where
   pub hashes : map bytes_of a.hashes.items ≡ map block_hash_of (noted a.gone.items)
   pub linked : IsLinked genesis_tip (noted a.gone.items)

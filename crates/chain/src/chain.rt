@@ -259,8 +259,8 @@ impl<S: SigScheme> Chain<S> {
     }
 
     /// The blocks 1 to `up_to` leave memory, except those that did already; their hashes stay, and so does the chain.
-    /// `up_to` is less than how many blocks there are, or 0, and the blocks are linked from genesis on. Where memory runs
-    /// out nothing changes.
+    /// `up_to` is less than how many blocks there are, or 0, and the blocks are linked from genesis on. Where memory
+    /// runs out nothing changes.
     ///
     /// Takes 32 bytes for each block that leaves, up to twice that since the list of hashes grows by doubling; the slots
     /// of the blocks that left stay, for blocks to come. Takes time in proportion to how many leave and how many stay.

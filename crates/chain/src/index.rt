@@ -180,8 +180,8 @@ impl HashIndex {
         self.nodes.reserve(more)
     }
 
-    /// Indexes the next block of the chain, of which the first ones are indexed, and for which there is room. A look-up;
-    /// takes no memory.
+    /// Indexes the next block of the chain, of which the first ones are indexed, and for which there is room. A
+    /// look-up; takes no memory.
     pub fn push<S: SigScheme>(&mut self, chain: &Chain<S>)
         requires noted { self.old.hashes ≡ first_hashes (length self.old.hashes) (chain_of chain.now) }
         requires next { length self.old.hashes < length (chain_of chain.now) }

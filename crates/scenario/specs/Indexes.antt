@@ -55,8 +55,8 @@ abbrev pub indexes_opened : List (Named Address) → Indexes → Reply → Index
 indexes_opened keys indexes (Opened id) = with_index id (Some (first_index indexes.genesis keys)) indexes
 indexes_opened keys indexes reply = indexes
 
--- Once a follower was told what comes next, the index beside it has taken that, or it can't and is given up. At any other
--- answer it stays as it was.
+-- Once a follower was told what comes next, the index beside it has taken that, or it can't and is given up. At any
+-- other answer it stays as it was.
 abbrev pub IsIndexAfter : (old : Option KeyIndex) → Reply → (new : Option KeyIndex) → Type 0
 IsIndexAfter None reply new = new ≡ None
 IsIndexAfter (Some old) (Instructed instruction) (Some new) =

@@ -45,7 +45,8 @@ pub record Scene : Type 0 where
   pub names : AllNames
   pub indexes : Indexes
 
--- a node in this state, where no name is bound and no follower has an index. What a script signs it signs by this scheme
+-- A node in this state, where no name is bound and no follower has an index. What a script signs it signs by this
+-- scheme.
 abbrev pub first_scene : Scheme → Network → State → Scene
 first_scene scheme network s =
     record {
