@@ -5,8 +5,10 @@ pub mod AskedLines
 pub mod UtxoLines
 pub mod WrittenParts
 pub mod Lines
+pub mod ToldIndexes
 pub mod Histories
 pub mod IndexLines
+mod NodeBalances
 pub mod Runs
 pub mod SendRuns
 pub mod ForCallers

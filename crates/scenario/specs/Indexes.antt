@@ -1,14 +1,19 @@
--- Indexes beside followers: how they begin and go on, and what is printed of them.
-use Rattle.std.specs.Prelude.{◌≡◌, ℕ, List, [], ◌∷◌, ◌++◌, map, Option, Some, None, codes, ◌==◌, if◌then◌else◌}
+-- Indexes beside followers: how they begin and go on, what is printed of them, and what they are to the node.
+use Rattle.std.specs.Prelude.{◌≡◌, ℕ, List, [], ◌∷◌, ◌++◌, map, Contains, Option, Some, None, codes, ◌==◌}
+use Rattle.std.specs.Prelude.{if◌then◌else◌}
 use Rattle.std.specs.FinSet as set
 use Rattle.model.specs.Transaction.{Address, address_bytes}
 use Rattle.model.specs.Utxo.{Utxo}
 use Rattle.model.specs.Genesis.{Genesis, opening_utxo}
-use Rattle.model.specs.Chain.{genesis_tip}
-use Rattle.model.specs.History.{Reply, Opened, Instructed, Forwarded, Closed}
+use Rattle.model.specs.Ledger.{Network, Ledger, ledger_of}
+use Rattle.model.specs.Chain.{genesis_tip, IsOpening}
+use Rattle.model.specs.Follower.{Follower, follower_of, Instruction, Stay, IsNext}
+use Rattle.model.specs.History.{State, Entry, Reply, Opened, Instructed, Forwarded, Closed, IsLegal}
+use Rattle.model.specs.History.{ChainTheorem}
 use Rattle.watching.specs.Which.{Which, Addresses, watched_among}
 use Rattle.watching.specs.Chains.{Watched, only_outputs}
 use Rattle.watching.specs.Ledgers.{IsTaken}
+use Rattle.watching.specs.Settled.{HasFollowed}
 use Rattle.script.specs.Names.{Named}
 use Rattle.script.specs.Line.{OwnedByKey}
 use Rattle.scenario.specs.Balances.{outputs_of_address, IsBalanceText}
@@ -89,3 +94,46 @@ abbrev pub IsIndexText : (name : List ℕ) → (old new : Option KeyIndex) → L
 IsIndexText name None new out = out ≡ []
 IsIndexText name (Some old) (Some new) out = AreBalancesText new.index.last.tables.outputs new.keys out
 IsIndexText name (Some old) None out = out ≡ codes "watch " ++ (name ++ (codes ": lost" ++ 10 ∷ []))
+
+-- ---- what an index is to the node
+
+-- After this history the follower of the number is open. The index beside it began when the follower was opened, with
+-- the network's k, has taken each instruction that the follower was given since, and watches the outputs of its keys.
+pub record IsBeside (network : Network) (history : List Entry) (state : State) (id : ℕ) (at : KeyIndex)
+    : Type 0 where
+  pub follower : Follower
+  pub is_open : follower_of state.followers id ≡ Some follower
+  pub followed : HasFollowed network history id follower.told at.index
+  pub from_genesis : followed.was_told.start ≡ []
+  pub k : at.index.k ≡ network.genesis.k
+  pub of_keys : at.index.which ≡ outputs_of_keys at.keys
+
+-- so each of these indexes
+abbrev pub AreBeside : Network → List Entry → State → Indexes → Type 0
+AreBeside network history state indexes = (id : ℕ) (at : KeyIndex) → indexes.of_follower id ≡ Some at
+    → IsBeside network history state id at
+
+-- The selected chain has a ledger, and by the index each of its keys has just the outputs that it has in that ledger:
+-- what is printed of the index is what `balance` prints of each key.
+pub record IsLedgerOfKeys (network : Network) (state : State) (at : KeyIndex) : Type 0 where
+  pub ledger : Ledger
+  pub is_ledger : ledger_of network state.chain ≡ Some ledger
+  pub of_key : (key : Named Address) → Contains at.keys key
+      → outputs_of_address key.bound at.index.last.tables.outputs ≡ outputs_of_address key.bound ledger.utxo
+  pub printed : (out : List ℕ) → AreBalancesText at.index.last.tables.outputs at.keys out
+      → AreBalancesText ledger.utxo at.keys out
+
+-- BALANCES BY AN INDEX
+-- Once nothing is left to tell its follower, what an index tells of its keys is what the node tells of them.
+abbrev pub BalancesAreTheNodes : Type 0
+BalancesAreTheNodes = (network : Network) (history : List Entry) (state : State) (id : ℕ) (at : KeyIndex)
+    → ChainTheorem network history state → (beside : IsBeside network history state id at)
+    → IsNext state.chain beside.follower Stay beside.follower → IsLedgerOfKeys network state at
+
+-- NO INDEX IS LOST
+-- Of a node that was opened on a valid chain, an index beside a follower can take whatever that is told next.
+abbrev pub IndexesGoOn : Type 0
+IndexesGoOn = (network : Network) (history : List Entry) (state : State) (id : ℕ) (at : KeyIndex)
+    → IsOpening network → IsLegal network history state → (beside : IsBeside network history state id at)
+    → (instruction : Instruction) (next : Follower) → IsNext state.chain beside.follower instruction next
+    → (new : Watched) × IsTaken at.index instruction new

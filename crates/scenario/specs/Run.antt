@@ -37,7 +37,7 @@ use Rattle.scenario.specs.Answers.{why_text, where_text}
 use Rattle.scenario.specs.Notes.{IsNote}
 use Rattle.scenario.specs.Balances.{outputs_of_address, IsBalanceText}
 use Rattle.scenario.specs.Indexes.{Indexes, KeyIndex, no_indexes, with_index, indexes_opened, IsIndexAfter}
-use Rattle.scenario.specs.Indexes.{indexes_forwarded, indexes_closed, IsIndexText}
+use Rattle.scenario.specs.Indexes.{indexes_forwarded, indexes_closed, IsIndexText, AreBeside}
 
 -- the node's state with the names that are bound, and the indexes beside followers
 pub record Scene : Type 0 where
@@ -210,7 +210,7 @@ Prints network explain number before s (line ∷ lines) out history t =
 -- the replies that are printed are a run from that state to the one whose tip, mempool and followers are printed. Where
 -- the node was opened on a valid chain, the chain theorem holds of every legal history that led to the state with these
 -- behind it: that is a legal history, the selected chain is valid, and none is longer, the mempool is valid on it, and
--- each follower follows it.
+-- each follower follows it. Then each index has followed what its follower was told by that history.
 pub record AreObeyed (options : Options) (network : Network) (start : State) (lines : List (List ℕ)) (out : List ℕ)
     : Type 0 where
   pub scene : Scene
@@ -219,6 +219,8 @@ pub record AreObeyed (options : Options) (network : Network) (start : State) (li
   pub run : IsRun network start history scene.state
   pub theorem : IsOpening network → (past : List Entry) → IsLegal network past start
       → ChainTheorem network (past ++ history) scene.state
+  pub indexes : IsOpening network → (past : List Entry) → IsLegal network past start
+      → AreBeside network (past ++ history) scene.state scene.indexes
 
 -- ---- what a line leaves where memory runs out
 

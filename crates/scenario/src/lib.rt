@@ -8,6 +8,7 @@ mod fault;
 mod form;
 mod indexes;
 mod key_index;
+mod laws;
 mod notes;
 mod options;
 mod output;
@@ -18,6 +19,7 @@ mod sending;
 mod session;
 
 pub use fault::ScenarioFault;
+pub use laws::{balances_are_the_nodes, indexes_go_on};
 pub use options::Options;
 pub use runner::{run, run_from};
 pub use script::{LineFault, MAX_SCRIPT_SIZE};

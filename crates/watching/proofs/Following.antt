@@ -212,10 +212,20 @@ follows_told granted past since told (i ∷ is) old new of taken replayed =
     follows_told granted past one.since told is taken.0 new one.index taken.2 (subst (λ (c : List Block). AreReplayed c is told) one.goes_on replayed.2)
 
 -- what is watched stays
-which_after : (i : Instruction) (old new : Watched) → IsTaken old i new → new.which ≡ old.which
+pub which_after : (i : Instruction) (old new : Watched) → IsTaken old i new → new.which ≡ old.which
 which_after Stay old new taken = ap (λ (w : Watched). w.which) taken
 which_after (AddBlock bytes) old new taken = ap (λ (w : Watched). w.which) taken.3
 which_after (RollBack point) old new taken = ap (λ (w : Watched). w.which) taken.is ∙ rolled_which taken.back old.k old.which old.last old.older
+
+pub rolled_k : (back k : ℕ) (which : Which) (v : Version) (vs : List Version) → (rolled_back back k which v vs).k ≡ k
+rolled_k zero k which v vs = refl
+rolled_k (suc back) k which v [] = refl
+rolled_k (suc back) k which v (x ∷ vs) = rolled_k back k which x vs
+
+pub k_after : (i : Instruction) (old new : Watched) → IsTaken old i new → new.k ≡ old.k
+k_after Stay old new taken = ap (λ (w : Watched). w.k) taken
+k_after (AddBlock bytes) old new taken = ap (λ (w : Watched). w.k) taken.3
+k_after (RollBack point) old new taken = ap (λ (w : Watched). w.k) taken.is ∙ rolled_k taken.back old.k old.which old.last old.older
 
 pub which_stays : WhichStays
 which_stays [] old new taken = ap (λ (w : Watched). w.which) taken

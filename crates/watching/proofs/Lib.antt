@@ -16,3 +16,5 @@ mod Summed
 mod Holding
 mod OneList
 mod Settled
+pub mod FollowerEntries
+mod Lasting

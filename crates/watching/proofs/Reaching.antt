@@ -10,7 +10,7 @@ use Rattle.watching.specs.Which.{Which}
 use Rattle.watching.specs.Chains.{Version, Watched, with_block, first_version, rolled_back, back_by, point_at, IsIndexOf}
 use Rattle.watching.specs.Ledgers.{IsTaken}
 use Rattle.watching.specs.Due.{NextAreTaken, PointsAreKept, ReachesBack, AreWithin, ReachStays}
-use Rattle.watching.proofs.Following.{ends_at, version_tip, blocks_left, taken_front, taken_linked, rolled_to, rolled_since, taken_one}
+use Rattle.watching.proofs.Following.{ends_at, version_tip, blocks_left, taken_front, taken_linked, rolled_to, rolled_since, taken_one, rolled_k}
 
 pub next_taken : NextAreTaken
 next_taken granted past since w b of linked =
@@ -57,11 +57,6 @@ left_older zero k which v vs within = omega arith
 left_older (suc back) k which v [] within = absurd (omega (arith, within))
 left_older (suc back) k which v (x ∷ vs) within = let rest = left_older back k which x vs (omega (arith, within)) in omega (arith, rest)
 
-same_k : (back k : ℕ) (which : Which) (v : Version) (vs : List Version) → (rolled_back back k which v vs).k ≡ k
-same_k zero k which v vs = refl
-same_k (suc back) k which v [] = refl
-same_k (suc back) k which v (x ∷ vs) = same_k back k which x vs
-
 reach_with : (furthest begun height next : ℕ) (w new : Watched) (b : Block) → new ≡ with_block w b → next ≡ height + 1 → next ≤ furthest → ReachesBack furthest begun height w → ReachesBack furthest begun next new
 reach_with furthest begun height next w new b is more few reach =
     subst (ReachesBack furthest begun next) (sym is)
@@ -73,7 +68,7 @@ reach_with furthest begun height next w new b is more few reach =
 reach_back : (furthest begun height next back : ℕ) (w new : Watched) → new ≡ back_by back w → back ≤ length w.older → next + back ≡ height → ReachesBack furthest begun height w → ReachesBack furthest begun next new
 reach_back furthest begun height next back w new is within less reach =
     let older = left_older back w.k w.which w.last w.older within in
-    let k = same_k back w.k w.which w.last w.older in
+    let k = rolled_k back w.k w.which w.last w.older in
     subst (ReachesBack furthest begun next) (sym is)
     (elim reach [
       | inl near ↦ inl (omega (arith, older, less, near))

@@ -3,13 +3,14 @@ use Rattle.std.specs.Prelude.{◌≡◌, ℕ, IsTrue, List, [], Some}
 use Rattle.std.specs.FinSet as set
 use Rattle.model.specs.Transaction.{Address, address_bytes}
 use Rattle.model.specs.Block.{Block}
-use Rattle.model.specs.Follower.{Follower, follower_of, Stay, IsNext}
+use Rattle.model.specs.Chain.{IsOpening}
+use Rattle.model.specs.Follower.{Follower, follower_of, Instruction, Stay, IsNext}
 use Rattle.model.specs.Genesis.{opening_utxo}
 use Rattle.model.specs.Ledger.{Network, Ledger, ledger_of}
-use Rattle.model.specs.History.{State, Entry, WasTold, instructions_to, ChainTheorem}
+use Rattle.model.specs.History.{State, Entry, IsLegal, WasTold, instructions_to, ChainTheorem}
 use Rattle.watching.specs.Which.{Which, All, Addresses, Policies, watched_among}
 use Rattle.watching.specs.Chains.{Watched, IsIndexOf}
-use Rattle.watching.specs.Ledgers.{AreTaken}
+use Rattle.watching.specs.Ledgers.{IsTaken, AreTaken}
 use Rattle.watching.specs.Balances.{outputs_with}
 
 -- the index began where the follower of this number was last set, and took each instruction that it was given since
@@ -50,3 +51,14 @@ pub record IsLedgerFor (network : Network) (state : State) (w : Watched) : Type 
 abbrev pub IndexIsTheNodes : Type 0
 IndexIsTheNodes = (network : Network) (history : List Entry) (state : State) (w : Watched)
     → IsSettled network history state w → IsLedgerFor network state w
+
+-- WHAT IS TOLD IS TAKEN
+-- Of a node that was opened on a valid chain: an index that began when a follower was opened, with the network's k, and
+-- took each instruction that the follower was given since, can take whatever it is told next.
+abbrev pub ToldAreTaken : Type 0
+ToldAreTaken = (network : Network) (history : List Entry) (state : State) (id : ℕ) (follower : Follower) (w : Watched)
+    → IsOpening network → IsLegal network history state → follower_of state.followers id ≡ Some follower
+    → (followed : HasFollowed network history id follower.told w) → followed.was_told.start ≡ []
+    → w.k ≡ network.genesis.k
+    → (instruction : Instruction) (next : Follower) → IsNext state.chain follower instruction next
+    → (new : Watched) × IsTaken w instruction new

@@ -10,6 +10,7 @@ use crate::balance::balance;
 use crate::owners::Owners;
 use ident::ScriptHash;
 use std::alloc::{AllocError, Global};
+use std::fmt;
 use tx::Address;
 use utxo_rules::Utxo;
 
@@ -20,6 +21,22 @@ pub struct Holder {
     /// How much of the asset its unspent outputs hold together, counted as their quantities are: at least 1, and below
     /// 2^126.
     pub amount: u128,
+}
+
+impl fmt::Display for Holder {
+    ghost use Rattle.std.specs.Prelude.{Some, ◌++◌, codes, decimal};
+    ghost use Rattle.tx.specs.View.{address_of};
+    ghost use Rattle.tx.specs.AddressText.{address_text};
+
+    ghost output = { λ holder. Some (address_text (address_of holder.address) ++ (codes " "
+        ++ decimal holder.amount)) };
+
+    /// Writes the address in 66 lower case hexadecimal digits, a space and the amount.
+    fn fmt<W: fmt::Write>(&self, f: &mut fmt::Formatter<W>) -> fmt::Result {
+        let address = self.address;
+        let amount = self.amount;
+        write!(f, "{address} {amount}")
+    }
 }
 
 /// The holder that has these outputs, all of one address, if they hold some of the asset. Adds up all that they hold.

@@ -4,6 +4,7 @@ ghost use Rattle.std.specs.Prelude.{◌≡◌};
 ghost use Rattle.watching.specs.View.{inclusion_of};
 
 use std::cmp::Reverse;
+use std::fmt;
 use std::marker::Model;
 
 /// Where a transaction was put onto a chain.
@@ -15,6 +16,21 @@ pub struct Inclusion {
     pub slot: u64,
     /// Its place in the block, counted from 0.
     pub index: u64,
+}
+
+impl fmt::Display for Inclusion {
+    ghost use Rattle.std.specs.Prelude.{Some, ◌++◌, codes, decimal};
+
+    ghost output = { λ at. Some (codes "block " ++ (decimal at.number ++ (codes " in slot " ++ (decimal at.slot
+        ++ (codes " at " ++ decimal at.index))))) };
+
+    /// Writes `block 7 in slot 70 at 2`: the block's number and slot, and the transaction's place in it.
+    fn fmt<W: fmt::Write>(&self, f: &mut fmt::Formatter<W>) -> fmt::Result {
+        let number = self.number;
+        let slot = self.slot;
+        let index = self.index;
+        write!(f, "block {number} in slot {slot} at {index}")
+    }
 }
 
 /// An inclusion as maps hold it: the later one comes first.

@@ -4,7 +4,7 @@ ghost use Rattle.watching.specs.Ledgers.{OutputsAreTheLedgers, OutputsAreTheChai
 ghost use Rattle.watching.specs.Ledgers.{WhichStays};
 ghost use Rattle.watching.specs.Due.{NextAreTaken, PointsAreKept, ReachStays};
 ghost use Rattle.watching.specs.Holders.{HoldersAreOne};
-ghost use Rattle.watching.specs.Settled.{IndexIsTheNodes};
+ghost use Rattle.watching.specs.Settled.{IndexIsTheNodes, ToldAreTaken};
 ghost use Rattle.watching.specs.Told.{HistoriesAreTheChains, InclusionsAreTheChains};
 ghost use Rattle.watching.specs.Which.{WatchedAreMeant, WatchedAreLeft, NoneIsLeftOut};
 
@@ -89,4 +89,10 @@ pub fn reach_stays()
 /// One list alone is that of the holders of an asset.
 pub fn holders_are_one()
     ensures { HoldersAreOne }
+{}
+
+/// Of a node that was opened on a valid chain: an index that began when a follower was opened, with the network's k,
+/// and took each instruction that the follower was given since, can take whatever the follower is told next.
+pub fn told_are_taken()
+    ensures { ToldAreTaken }
 {}

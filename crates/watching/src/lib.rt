@@ -31,6 +31,7 @@ mod index;
 mod laws;
 mod owner;
 mod owners;
+mod shown;
 mod tables;
 mod tx_key;
 mod watch;
@@ -43,8 +44,8 @@ pub use inclusion::Inclusion;
 pub use laws::{
     follows_the_told, histories_are_the_chains, holders_are_one, inclusions_are_the_chains,
     index_is_the_nodes, next_are_taken, none_is_left_out, outputs_are_the_chains,
-    outputs_are_the_ledgers, outputs_are_the_tolds, points_are_kept, reach_stays, watched_are_left,
-    watched_are_meant, which_stays,
+    outputs_are_the_ledgers, outputs_are_the_tolds, points_are_kept, reach_stays, told_are_taken,
+    watched_are_left, watched_are_meant, which_stays,
 };
 pub use watch::Watch;
 pub use watch_fault::WatchFault;

@@ -4,7 +4,9 @@ use super::fixture::boxed;
 use super::library_tests::GENESIS;
 use super::wallet::{Wallet, payment, signed, submit};
 use chaindb::wallet::{Address, Credential, Draft, Input, KeyWitness};
-use chaindb::{ArriveReply, Core, Ed25519, Genesis, KeyHash, TxId};
+use chaindb::{
+    ArriveReply, Core, Ed25519, Genesis, Holder, Inclusion, KeyHash, Tip, TxId, Watch, Which,
+};
 use std::process::Abort;
 
 /// The Ed25519 public key of the genesis, whose secret has 32 bytes 01.
@@ -93,4 +95,39 @@ fn signed_elsewhere(rt: HostRuntime) {
     let id = draft(&rt).id().expect(&rt, "memory");
     assert!(&rt; id.as_bytes() == ID);
     assert!(&rt; signed(draft(&rt), [1; 32], *SIGNATURE).is_err());
+}
+
+// An address of a key begins with 60 and has the key's hash behind it.
+#[test]
+fn answers_of_an_index_are_shown(rt: HostRuntime) {
+    let at = Inclusion {
+        number: 7,
+        slot: 70,
+        index: 2,
+    };
+    let shown = at.to_string(rt.alloc()).expect(&rt, "memory");
+    assert!(&rt; shown.as_str() == "block 7 in slot 70 at 2");
+
+    let owner = Credential::Key(KeyHash::from_bytes([1; 32]));
+    let holder = Holder {
+        address: Address::new(0, owner).expect(&rt, "a network"),
+        amount: 18_446_744_073_709_551_616,
+    };
+    let shown = holder.to_string(rt.alloc()).expect(&rt, "memory");
+    let wanted =
+        "600101010101010101010101010101010101010101010101010101010101010101 18446744073709551616";
+    assert!(&rt; shown.as_str() == wanted);
+}
+
+// How much there is of it, and not what.
+#[test]
+fn index_is_shown_short(rt: HostRuntime) {
+    let core = new_core(&rt);
+    let watch = Watch::new(rt.alloc(), Tip::genesis(), core.utxo(), 2, Which::all()).expect(
+        &rt, "an index",
+    );
+    let shown = format!(in rt.alloc(); "{watch:?} {:?}", watch.which()).expect(&rt, "memory");
+    assert!(&rt;
+        shown.as_str() == "Watch { height: 0, depth: 0, outputs: 1, .. } Which { all: true, .. }"
+    );
 }
