@@ -97,8 +97,9 @@ IsIndexText name (Some old) None out = out ≡ codes "watch " ++ (name ++ (codes
 
 -- ---- what an index is to the node
 
--- After this history the follower of the number is open. The index beside it began when the follower was opened, with
--- the network's k, has taken each instruction that the follower was given since, and watches the outputs of its keys.
+-- After this history the follower of the number is open. The index beside it began at genesis, where the follower was
+-- last set, with the network's k, has taken each instruction that the follower was given since, and watches the outputs
+-- of its keys.
 pub record IsBeside (network : Network) (history : List Entry) (state : State) (id : ℕ) (at : KeyIndex)
     : Type 0 where
   pub follower : Follower
@@ -131,7 +132,7 @@ BalancesAreTheNodes = (network : Network) (history : List Entry) (state : State)
     → IsNext state.chain beside.follower Stay beside.follower → IsLedgerOfKeys network state at
 
 -- NO INDEX IS LOST
--- Of a node that was opened on a valid chain, an index beside a follower can take whatever that is told next.
+-- Of a node that was opened on a valid chain, an index beside a follower can take whatever that follower is told next.
 abbrev pub IndexesGoOn : Type 0
 IndexesGoOn = (network : Network) (history : List Entry) (state : State) (id : ℕ) (at : KeyIndex)
     → IsOpening network → IsLegal network history state → (beside : IsBeside network history state id at)

@@ -222,6 +222,15 @@ pub record AreObeyed (options : Options) (network : Network) (start : State) (li
   pub indexes : IsOpening network → (past : List Entry) → IsLegal network past start
       → AreBeside network (past ++ history) scene.state scene.indexes
 
+-- INDEXES OF A SCRIPT
+-- After whatever first lines of a script, on a node that was opened on a valid chain, each index has followed what its
+-- follower was told, by whatever legal history led to the state in which the script found the node.
+abbrev pub IndexesFollow : Type 0
+IndexesFollow = (scheme : Scheme) (network : Network) (start : State) (explain : Bool) (lines : List (List ℕ))
+    (out : List ℕ) (past history : List Entry) (scene : Scene) → IsOpening network → IsLegal network past start
+    → Prints network explain 1 0 (first_scene scheme network start) lines out history scene
+    → AreBeside network (past ++ history) scene.state scene.indexes
+
 -- ---- what a line leaves where memory runs out
 
 -- the event of a line that means this, if it has one

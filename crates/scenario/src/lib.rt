@@ -19,7 +19,7 @@ mod sending;
 mod session;
 
 pub use fault::ScenarioFault;
-pub use laws::{balances_are_the_nodes, indexes_go_on};
+pub use laws::{balances_are_the_nodes, indexes_follow, indexes_go_on};
 pub use options::Options;
 pub use runner::{run, run_from};
 pub use script::{LineFault, MAX_SCRIPT_SIZE};

@@ -1,0 +1,11 @@
+pub mod Filling
+pub mod Apart
+pub mod StateTexts
+pub mod HeadTexts
+pub mod PairTexts
+pub mod RisingLemmas
+pub mod Resuming
+pub mod Stepping
+pub mod Refusing
+pub mod Ending
+pub mod Writing

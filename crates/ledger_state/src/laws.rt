@@ -1,0 +1,18 @@
+//! What is said of the texts of states, as a whole.
+
+ghost use Rattle.ledger_state.specs.Laws.{EachHasOneText, EachIsOneState, EachHasAText};
+
+/// A state has no more than one list of parts.
+pub fn each_has_one_text()
+    ensures { EachHasOneText }
+{}
+
+/// Parts are those of one state: where it ends, the fees, the digest and each output at its input are told by them.
+pub fn each_is_one_state()
+    ensures { EachIsOneState }
+{}
+
+/// A state whose numbers are in range, of which no output is longer than a part may be, has a list of parts.
+pub fn each_has_a_text()
+    ensures { EachHasAText }
+{}
