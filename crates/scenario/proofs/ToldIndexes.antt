@@ -10,7 +10,7 @@ use Rattle.model.specs.Follower.{standing_at, follower_of, with_opened, Instruct
 use Rattle.model.specs.History.{State, Event, Open, Next, Forward, Close, Reply, Opened, TooManyFollowers, Instructed, Forwarded, Closed, UnknownFollower, OutOfMemory, Step, Entry, IsLegal}
 use Rattle.model.proofs.LegalHistories.{IsSoundState}
 use Rattle.watching.specs.Ledgers.{IsTaken, AreTaken}
-use Rattle.watching.proofs.FollowerEntries.{opened_here, IsOwn, same_told, step_stays, followed_on, told_on}
+use Rattle.watching.proofs.ForCallers.{opened_here, IsOwn, same_told, step_stays, followed_on, told_on}
 use Rattle.script.specs.Names.{Named}
 use Rattle.scenario.specs.Indexes.{KeyIndex, Indexes, outputs_of_keys, with_index, first_index, indexes_opened, IsIndexAfter, indexes_forwarded, indexes_closed, IsBeside, AreBeside}
 

@@ -20,7 +20,7 @@ use Rattle.watching.specs.Due.{AreWithin, ReachesBack}
 use Rattle.watching.specs.Settled.{HasFollowed, ToldAreTaken}
 use Rattle.watching.proofs.Following.{follows_told, taken_linked}
 use Rattle.watching.proofs.Reaching.{next_taken, points_kept, reach_stays}
-use Rattle.watching.proofs.FollowerEntries.{nobody, set_here, opened_here, IsOwn, Stays, same_told, step_stays, chain_spelled}
+use Rattle.watching.proofs.ForCallers.{nobody, set_here, opened_here, IsOwn, Stays, same_told, step_stays, chain_spelled}
 
 -- ---- the furthest that a follower was told
 

@@ -16,5 +16,5 @@ mod Summed
 mod Holding
 mod OneList
 mod Settled
-pub mod FollowerEntries
+pub mod ForCallers
 mod Lasting

@@ -1,4 +1,5 @@
--- What the entries of a history are to one follower, and to an index that takes what it is told.
+-- What callers cite of this crate's proofs: what the entries of a history are to one follower, and to an index that takes
+-- what it is told.
 use Rattle.std.proofs.Common.{◌≡◌, ◌≢◌, ℕ, zero, suc, Bool, true, false, List, [], ◌∷◌, ◌++◌, Contains, Option, Some, None, ◌⊎◌, inl, inr, refl, sym, ap, subst, ◌∙◌, append_assoc, append-nil, eq-eqb, ne_eqb, eqb-true, arith}
 use Rattle.std.specs.Prelude.{slice_set, slice_get, ◌==◌}
 use Rattle.std.specs.List.{AllByRecursion}
