@@ -11,6 +11,7 @@ mod header;
 mod laws;
 mod reading;
 mod seen;
+mod shown;
 mod tip;
 mod writing;
 

@@ -18,6 +18,7 @@ mod live_block;
 mod placed_block;
 mod reach;
 mod shelf;
+mod shown;
 mod store;
 mod stored_block;
 mod unconnected;

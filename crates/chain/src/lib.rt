@@ -18,6 +18,7 @@
 
 mod chain;
 mod index;
+mod shown;
 
 pub use chain::Chain;
 pub use index::HashIndex;

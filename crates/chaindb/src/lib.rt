@@ -35,7 +35,7 @@ pub use chain_core::{
     OpenFollowerFault, Place, RawEvent, Refusal, ReopenFault, Reopening, Reply, TxPlace,
     Unconnected, UnknownFollower, Why,
 };
-pub use genesis::{Genesis, GenesisDocument, GenesisFault, Grant, Scheme, SecondEra};
+pub use genesis::{Genesis, GenesisDocument, GenesisFault, Grant, Params, Scheme, SecondEra};
 pub use ident::{BlockHash, KeyHash, Point, ScriptHash, TxId};
 pub use ledger::BlockFault;
 pub use mempool::{Evaluation, Mempool, SubmitReply};

@@ -28,6 +28,7 @@ mod reply;
 mod request;
 mod request_fault;
 mod request_id;
+mod shown;
 mod source;
 mod station;
 mod texts;

@@ -28,6 +28,7 @@ mod draft;
 mod draft_fault;
 mod keyed;
 mod laws;
+mod shown;
 mod signer;
 mod unsigned;
 mod values;

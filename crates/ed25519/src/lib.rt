@@ -11,6 +11,7 @@ mod field_element;
 mod point;
 mod scalar;
 mod secret_key;
+mod shown;
 mod verification;
 
 pub use constants::curve_constants;

@@ -8,6 +8,7 @@
 
 mod file_disk;
 mod giving;
+mod shown;
 mod step;
 
 pub use file_disk::FileDisk;

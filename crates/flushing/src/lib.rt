@@ -22,6 +22,7 @@ mod fault;
 pub mod laws;
 mod restart;
 mod sharing;
+mod shown;
 
 pub use copying::flush;
 pub use fault::SharedOnFault;

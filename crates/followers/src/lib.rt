@@ -17,6 +17,7 @@ mod follower_id;
 mod followers;
 mod laws;
 mod place;
+mod shown;
 
 pub use fault::{OpenFollowerFault, UnknownFollower};
 pub use follower_id::{FollowerId, MAX_FOLLOWERS};

@@ -2,9 +2,9 @@
 use Rattle.std.specs.Prelude.{ℕ, List, map, Vec, option_map}
 use Rattle.std.specs.declared.alloc.Global.{Global}
 use Rattle.std.specs.Borrow.{Bor}
-use Rattle.model.specs.Rules.{SecondEra}
 use Rattle.model.specs.Genesis.{Grant}
 use Rattle.tx.specs.View.{address_of}
+pub use Rattle.utxo_rules.specs.View.{params_of, second_era_of}
 use Rattle.genesis.specs.Document.{EraNumbers, Numbers, Lock, ByAddress, ByKey, Entry, Written}
 use Rattle.genesis.specs.Judgement.{Settings, Placed}
 use Rattle.genesis.specs.declared.document.EraNumbers.{EraNumbers as CodeEraNumbers}
@@ -13,7 +13,6 @@ use Rattle.genesis.specs.declared.document.Lock.{Lock as CodeLock}
 use Rattle.genesis.specs.declared.document.Lock.TheVariants.{Address, Key}
 use Rattle.genesis.specs.declared.document.Entry.{Entry as CodeEntry}
 use Rattle.genesis.specs.declared.document.Written.{Written as CodeWritten}
-use Rattle.genesis.specs.declared.settings.SecondEra.{SecondEra as CodeSecondEra}
 use Rattle.genesis.specs.declared.settings.Settings.{Settings as CodeSettings}
 use Rattle.genesis.specs.declared.placing.Placed.{Placed as CodePlaced}
 use Rattle.genesis.specs.declared.grants.Grant.{Grant as CodeGrant}
@@ -58,21 +57,10 @@ written_view w = record { numbers = numbers_view w.numbers; scheme = w.scheme; o
 
 -- ---- what is judged
 
-abbrev pub era_view : CodeSecondEra → SecondEra
-era_view e = record { first_slot = e.first_slot; per_asset = e.per_asset }
-
 abbrev pub settings_view : CodeSettings → Settings
 settings_view s =
     record {
-      params = record {
-        network = s.network;
-        min_fee_a = s.min_fee_a;
-        min_fee_b = s.min_fee_b;
-        min_utxo = s.min_utxo;
-        max_tx_size = s.max_tx_size;
-        max_body_size = s.max_body_size;
-        second_era = option_map era_view s.second_era;
-      };
+      params = params_of s.params;
       k = s.k;
       max_volatile = s.max_volatile;
       max_volatile_bytes = s.max_volatile_bytes;

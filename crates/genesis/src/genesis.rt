@@ -7,16 +7,17 @@ ghost use Rattle.model.specs.Genesis.{supply_of, IsGenesis, IsSecondEra, IsWithi
 ghost use Rattle.genesis.specs.Steps.{Gives};
 ghost use Rattle.genesis.specs.Judgement.{judged, genesis_of};
 ghost use Rattle.genesis.specs.Meaning.{IsAnswer};
-ghost use Rattle.genesis.specs.View.{era_view, grant_view, written_view};
+ghost use Rattle.genesis.specs.View.{grant_view, params_of, second_era_of, written_view};
 
 use crate::document::Written;
 use crate::genesis_document::GenesisDocument;
 use crate::genesis_fault::GenesisFault;
 use crate::grants::{self, Grant};
 use crate::placing;
-use crate::settings::{SecondEra, Settings};
+use crate::settings::Settings;
 use std::alloc::{AllocError, Global};
 use std::marker::Model;
+use utxo_rules::{Params, SecondEra};
 
 /// The most outputs of a genesis.
 const MAX_OUTPUTS: usize = 10_000;
@@ -53,7 +54,7 @@ impl Genesis {
         ensures { Gives (λ genesis. genesis) result (judged (written_view written.now)) }
     {
         let settings = Settings::of_numbers(&written.numbers).ok_or(GenesisFault::OutOfRange)?;
-        let placed = placing::place(alloc, settings.network, &written.outputs)?;
+        let placed = placing::place(alloc, settings.params.network, &written.outputs)?;
         let (grants, supply) = grants::grant_all(alloc, &placed)?;
         if grants.is_empty() || grants.len() > MAX_OUTPUTS {
             return Err(GenesisFault::BadOutputs);
@@ -87,7 +88,15 @@ impl Genesis {
         ensures is { result ≡ self.now.params.network }
         ensures range { IsWithin 0 greatest_network result }
     {
-        self.settings.network
+        self.settings.params.network
+    }
+
+    /// What it asks of each transaction, and of each block's body: each number in the range that the method of its name
+    /// tells.
+    pub fn params(&self) -> &Params
+        ensures { params_of result.now ≡ self.now.params }
+    {
+        &self.settings.params
     }
 
     /// How many blocks of the selected chain may be rolled back, 1 to 10,000.
@@ -102,14 +111,14 @@ impl Genesis {
     pub fn min_fee_a(&self) -> u64
         ensures { result ≡ self.now.params.min_fee_a }
     {
-        self.settings.min_fee_a
+        self.settings.params.min_fee_a
     }
 
     /// The least fee of a transaction, whatever its size, in lovelace, at most 1,000,000,000,000.
     pub fn min_fee_b(&self) -> u64
         ensures { result ≡ self.now.params.min_fee_b }
     {
-        self.settings.min_fee_b
+        self.settings.params.min_fee_b
     }
 
     /// How much lovelace an output holds at least, whatever its assets, at most 1,000,000,000,000. Those of the genesis
@@ -117,7 +126,7 @@ impl Genesis {
     pub fn min_utxo(&self) -> u64
         ensures { result ≡ self.now.params.min_utxo }
     {
-        self.settings.min_utxo
+        self.settings.params.min_utxo
     }
 
     /// How many bytes a transaction has at most, 1 to 65,536.
@@ -125,7 +134,7 @@ impl Genesis {
         ensures size { result ≡ self.now.params.max_tx_size }
         ensures range { IsWithin 1 tx_size_limit result }
     {
-        self.settings.max_tx_size
+        u64::from(self.settings.params.max_tx_size)
     }
 
     /// How many bytes the body of a block has at most, 1 to 1,048,000.
@@ -133,15 +142,15 @@ impl Genesis {
         ensures size { result ≡ self.now.params.max_body_size }
         ensures range { IsWithin 1 body_size_limit result }
     {
-        self.settings.max_body_size
+        u64::from(self.settings.params.max_body_size)
     }
 
     /// When outputs have to hold more for their assets, and how much: none where they never do.
     pub fn second_era(&self) -> Option<SecondEra>
-        ensures is { option_map era_view result ≡ self.now.params.second_era }
-        ensures ranges { IfSome result (λ era. IsSecondEra (era_view era)) }
+        ensures is { option_map second_era_of result ≡ self.now.params.second_era }
+        ensures ranges { IfSome result (λ era. IsSecondEra (second_era_of era)) }
     {
-        self.settings.second_era
+        self.settings.params.second_era
     }
 
     /// How many live blocks are kept at most, 1 to 100,000.

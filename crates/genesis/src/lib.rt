@@ -22,4 +22,4 @@ pub use genesis_document::GenesisDocument;
 pub use genesis_fault::GenesisFault;
 pub use grants::Grant;
 pub use scheme::Scheme;
-pub use settings::SecondEra;
+pub use utxo_rules::{Params, SecondEra};

@@ -24,6 +24,7 @@ mod part;
 mod put;
 mod records;
 mod recover;
+mod shown;
 mod sink;
 
 pub use blocks::{Blocks, note_bytes};

@@ -19,6 +19,7 @@ mod mailroom;
 mod opened;
 mod passes;
 mod peer_end;
+mod shown;
 mod telling;
 
 pub use adder_end::AdderEnd;

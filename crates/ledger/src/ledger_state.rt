@@ -12,7 +12,7 @@ ghost use Rattle.model.specs.Chain.{Follows};
 ghost use Rattle.model.specs.Applying.{opening_state, IsStateOf};
 ghost use Rattle.utxo_rules.specs.View.{params_of};
 
-use crate::opening::{open_params, open_utxo};
+use crate::opening::open_utxo;
 use block::{Block, Tip};
 use genesis::Genesis;
 use ident::Point;
@@ -58,7 +58,7 @@ impl LedgerState {
     {
         Ok(LedgerState {
             alloc,
-            params: open_params(genesis),
+            params: *genesis.params(),
             utxo: open_utxo(alloc, genesis)?,
             fees: 0,
             tip: Tip::genesis(),

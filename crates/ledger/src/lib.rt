@@ -14,6 +14,7 @@ mod block_diff;
 mod block_fault;
 mod ledger_state;
 mod opening;
+mod shown;
 mod transactions;
 
 pub use applying::{apply_block, apply_block_diff, misfit_before};

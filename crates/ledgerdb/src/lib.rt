@@ -16,6 +16,7 @@ mod diffs;
 mod fork_fault;
 mod ledger_db;
 mod prepared;
+mod shown;
 
 pub use fork_fault::ForkFault;
 pub use ledger_db::LedgerDb;

@@ -18,6 +18,7 @@ mod evaluation;
 mod mempool;
 mod picking;
 mod reply;
+mod shown;
 mod waiting;
 
 pub use evaluation::Evaluation;

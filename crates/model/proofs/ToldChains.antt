@@ -19,11 +19,11 @@ run_on network s (x ∷ xs) m e t run step = (run.0, run.1, run_on network run.0
 
 -- ---- replayed instructions
 
-replay_on : (a b c : List Block) (xs ys : List Instruction) → AreReplayed a xs b → AreReplayed b ys c → AreReplayed a (xs ++ ys) c
+pub replay_on : (a b c : List Block) (xs ys : List Instruction) → AreReplayed a xs b → AreReplayed b ys c → AreReplayed a (xs ++ ys) c
 replay_on a b c [] ys first second = subst (λ (d : List Block). AreReplayed d ys c) first second
 replay_on a b c (x ∷ xs) ys first second = (first.0, first.1, replay_on first.0 b c xs ys first.2 second)
 
-instructions_push : (id : ℕ) (es : List Entry) (e : Entry) → instructions_to id (es ++ e ∷ []) ≡ instructions_to id es ++ told_to id e.event e.reply
+pub instructions_push : (id : ℕ) (es : List Entry) (e : Entry) → instructions_to id (es ++ e ∷ []) ≡ instructions_to id es ++ told_to id e.event e.reply
 instructions_push id [] e = append-nil (told_to id e.event e.reply)
 instructions_push id (x ∷ xs) e =
     ap (λ (is : List Instruction). told_to id x.event x.reply ++ is) (instructions_push id xs e)
@@ -88,7 +88,7 @@ all_still network history s e t never silent same known id f is =
     known_on network history id f.told f.told e (never id) (subst (λ (is : List Instruction). AreReplayed f.told is f.told) (sym (silent id)) refl) refl (known id f (ap (λ (fs : Followers). follower_of fs id) (sym same) ∙ is))
 
 -- each block of the chain is the one of its text
-chain_spelled : (network : Network) (s : State) → IsSoundState network s → (n : ℕ) (b : Block) → slice_get s.chain n ≡ Some b → SpellsBlock b (block_text b)
+pub chain_spelled : (network : Network) (s : State) → IsSoundState network s → (n : ℕ) (b : Block) → slice_get s.chain n ≡ Some b → SpellsBlock b (block_text b)
 chain_spelled network s sound n b is = at s.chain n b is sound.members
   where
     at : (chain : List Block) (m : ℕ) (c : Block) → slice_get chain m ≡ Some c → AllByRecursion (Contains s.kept) chain → SpellsBlock c (block_text c)

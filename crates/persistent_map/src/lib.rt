@@ -27,6 +27,7 @@
 mod iter;
 mod node;
 mod persistent_map;
+mod shown;
 mod tree;
 
 pub use iter::Iter;

@@ -8,6 +8,7 @@
 
 mod keeper;
 mod reception;
+mod shown;
 
 pub use keeper::{Keeper, Places, WhenFull};
 pub use reception::Reception;

@@ -27,6 +27,7 @@ mod place_words;
 mod points;
 mod request;
 mod sending;
+mod shown;
 mod stop;
 mod tx_names;
 mod words;

@@ -15,6 +15,7 @@ mod host;
 mod node;
 mod pending_reply;
 mod reasons;
+mod shown;
 mod submitting;
 mod unspent;
 mod utxo_telling;

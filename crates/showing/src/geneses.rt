@@ -1,7 +1,7 @@
 //! What a network agrees on before its first block.
 
 ghost use Rattle.std.specs.Prelude.{◌≡◌, ◌++◌, IfOk, OnOk, map, option_map, string_bytes};
-ghost use Rattle.genesis.specs.View.{era_view, grant_view};
+ghost use Rattle.genesis.specs.View.{grant_view, second_era_of};
 ghost use Rattle.showing.specs.Geneses.{given_line, lines_of_era, lines_of_genesis, lines_of_grant, lines_of_grants};
 ghost use Rattle.showing.specs.Geneses.{lines_of_limits, lines_of_params};
 
@@ -22,7 +22,7 @@ fn put_given(out: &mut String, word: &str, number: Option<u64>) -> Result<(), Al
 
 /// Appends the lines of a second era, where there is one.
 fn put_era(out: &mut String, era: Option<SecondEra>) -> Result<(), AllocError>
-    ensures { OnOk result (string_bytes out.new ≡ string_bytes out.old ++ lines_of_era (option_map era_view era)) }
+    ensures { OnOk result (string_bytes out.new ≡ string_bytes out.old ++ lines_of_era (option_map second_era_of era)) }
 {
     match era {
         Some(era) => {

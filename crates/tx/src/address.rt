@@ -20,7 +20,7 @@ const SCRIPT_KIND: u8 = 7;
 pub const ADDRESS_SIZE: usize = 33;
 
 /// What unlocks an output.
-#[derive(Clone, Copy, Debug, PartialEq, Eq)]
+#[derive(Clone, Copy, Debug, PartialEq, Eq, Hash)]
 pub enum Credential {
     /// A signature by the key of this hash.
     Key(KeyHash),
@@ -29,7 +29,7 @@ pub enum Credential {
 }
 
 /// An address: a network, 0 to 15, and what unlocks an output there.
-#[derive(Clone, Copy, Debug, PartialEq, Eq)]
+#[derive(Clone, Copy, Debug, PartialEq, Eq, Hash)]
 pub struct Address {
     network: u8,
     payment: Credential,

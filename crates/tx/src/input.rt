@@ -12,7 +12,7 @@ use ident::TxId;
 use std::alloc::{AllocError, Global};
 
 /// One output of an earlier transaction. Ordered by the bytes of the transaction's identifier, then by the index.
-#[derive(Clone, Copy, Debug, PartialEq, Eq, PartialOrd, Ord, Drop)]
+#[derive(Clone, Copy, Debug, PartialEq, Eq, PartialOrd, Ord, Hash, Drop)]
 pub struct Input {
     /// The transaction that has the output.
     pub transaction: TxId,

@@ -17,7 +17,7 @@ use std::alloc::{AllocError, Global};
 use value::Value;
 
 /// Who may spend, and what there is to spend.
-#[derive(Debug, Drop)]
+#[derive(Debug, PartialEq, Drop)]
 pub struct Output {
     pub address: Address,
     pub value: Value,

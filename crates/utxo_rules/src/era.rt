@@ -3,9 +3,9 @@
 /// When a second era begins, and what is new in it (this project's own).
 #[derive(Clone, Copy, Debug, PartialEq, Eq)]
 pub struct SecondEra {
-    /// The first slot that is judged by it.
+    /// The first slot that is judged by it: in a genesis 1 to 2^63 - 1.
     pub first_slot: u64,
-    /// How much more lovelace an output holds at least for each of its assets.
+    /// How much more lovelace an output holds at least for each of its assets: in a genesis at most 1,000,000,000,000.
     pub per_asset: u64,
 }
 

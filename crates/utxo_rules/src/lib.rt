@@ -29,6 +29,7 @@ mod params;
 mod reason;
 mod rules;
 mod showing;
+mod shown;
 mod spent;
 mod undoing;
 mod utxo;

@@ -13,6 +13,7 @@ mod mint;
 mod quantity;
 mod reader;
 mod showing;
+mod shown;
 mod side;
 mod totals;
 mod value;

@@ -1,17 +1,17 @@
 -- What callers cite of this crate's proofs: what the entries of a history are to one follower, and to an index that takes
 -- what it is told.
-use Rattle.std.proofs.Common.{◌≡◌, ◌≢◌, ℕ, zero, suc, Bool, true, false, List, [], ◌∷◌, ◌++◌, Contains, Option, Some, None, ◌⊎◌, inl, inr, refl, sym, ap, subst, ◌∙◌, append_assoc, append-nil, eq-eqb, ne_eqb, eqb-true, arith}
-use Rattle.std.specs.Prelude.{slice_set, slice_get, ◌==◌}
-use Rattle.std.specs.List.{AllByRecursion}
+use Rattle.std.proofs.Common.{◌≡◌, ◌≢◌, ℕ, zero, suc, List, [], ◌∷◌, ◌++◌, Option, Some, None, ◌⊎◌, inl, inr, refl, sym, ap, subst, ◌∙◌, append_assoc, eq-eqb, ne_eqb, arith}
+use Rattle.std.specs.Prelude.{slice_set}
 use Rattle.std.proofs.lemmas.Option.{same_Some}
-use Rattle.model.specs.Block.{Block, SpellsBlock, block_text}
+use Rattle.model.specs.Block.{Block}
 use Rattle.model.specs.Ledger.{Network}
-use Rattle.model.specs.Follower.{Follower, Followers, standing_at, follower_of, free_id, with_opened, IsMoved, AreMoved, Instruction, Stay, AddBlock, RollBack, IsNext, IsReplayed, AreReplayed}
+use Rattle.model.specs.Follower.{Follower, Followers, standing_at, follower_of, free_id, with_opened, IsMoved, AreMoved, Instruction, IsReplayed, AreReplayed}
 use Rattle.model.specs.History.{State, Event, Arrive, Submit, Open, Next, Forward, Close, Discard, Reply, Kept, Refused, Submitted, Opened, TooManyFollowers, Instructed, Forwarded, Closed, UnknownFollower, Discarded, NotBeside, OutOfMemory, Step, Entry, SetsFollower, told_to, instructions_to}
-use Rattle.model.proofs.Lists.{all_of_member, all_push}
-use Rattle.model.proofs.LegalHistories.{HasItsText, IsSoundState}
+use Rattle.model.proofs.Lists.{all_push}
+use Rattle.model.proofs.LegalHistories.{IsSoundState}
 use Rattle.model.proofs.FollowerSteps.{next_replayed}
-use Rattle.watching.specs.Chains.{Watched, Version, rolled_back}
+use Rattle.model.proofs.ToldChains.{replay_on, instructions_push, chain_spelled}
+use Rattle.watching.specs.Chains.{Watched}
 use Rattle.watching.specs.Ledgers.{IsTaken, AreTaken}
 use Rattle.watching.specs.Settled.{HasFollowed}
 use Rattle.watching.proofs.Following.{which_after, k_after}
@@ -145,19 +145,9 @@ step_stays network s event reply t id f step is other = absurd step
 
 -- ---- what an index took, with one entry more
 
-replay_on : (a b c : List Block) (xs ys : List Instruction) → AreReplayed a xs b → AreReplayed b ys c → AreReplayed a (xs ++ ys) c
-replay_on a b c [] ys first second = subst (λ (d : List Block). AreReplayed d ys c) first second
-replay_on a b c (x ∷ xs) ys first second = (first.0, first.1, replay_on first.0 b c xs ys first.2 second)
-
 taken_on : (a b c : Watched) (xs ys : List Instruction) → AreTaken a xs b → AreTaken b ys c → AreTaken a (xs ++ ys) c
 taken_on a b c [] ys first second = subst (λ (d : Watched). AreTaken d ys c) first second
 taken_on a b c (x ∷ xs) ys first second = (first.0, first.1, taken_on first.0 b c xs ys first.2 second)
-
-instructions_push : (id : ℕ) (es : List Entry) (e : Entry) → instructions_to id (es ++ e ∷ []) ≡ instructions_to id es ++ told_to id e.event e.reply
-instructions_push id [] e = append-nil (told_to id e.event e.reply)
-instructions_push id (x ∷ xs) e =
-    ap (λ (is : List Instruction). told_to id x.event x.reply ++ is) (instructions_push id xs e)
-    ∙ sym (append_assoc (told_to id x.event x.reply) (instructions_to id xs) (told_to id e.event e.reply))
 
 pub followed_on : (network : Network) (past : List Entry) (id : ℕ) (old new : List Block) (before after : Watched) (e : Entry) → ((u : State) (chain : List Block) → SetsFollower u id e.event e.reply chain → ⊥)
     → AreReplayed old (told_to id e.event e.reply) new → AreTaken before (told_to id e.event e.reply) after → (followed : HasFollowed network past id old before) → (now : HasFollowed network (past ++ e ∷ []) id new after) × (now.was_told.start ≡ followed.was_told.start)
@@ -182,16 +172,6 @@ followed_on network past id old new before after e never replayed taken followed
       },
   refl,
 )
-
--- each block of the chain is the one of its text
-pub chain_spelled : (network : Network) (s : State) → IsSoundState network s → (n : ℕ) (b : Block) → slice_get s.chain n ≡ Some b → SpellsBlock b (block_text b)
-chain_spelled network s sound n b is = at s.chain n b is sound.members
-  where
-    at : (chain : List Block) (m : ℕ) (c : Block) → slice_get chain m ≡ Some c → AllByRecursion (Contains s.kept) chain → SpellsBlock c (block_text c)
-    at [] zero c there members = absurd (let e : None ≡ Some c = there in cc)
-    at [] (suc m) c there members = absurd (let e : None ≡ Some c = there in cc)
-    at (x ∷ xs) zero c there members = subst HasItsText (same_Some x c there) (all_of_member HasItsText s.kept x sound.spelled members.0)
-    at (x ∷ xs) (suc m) c there members = at xs m c there members.1
 
 -- ---- what an index took, where its follower was told something
 

@@ -14,13 +14,14 @@ use Rattle.model.specs.History.{State, opening, Event, Arrive, Submit, Open, Nex
 use Rattle.model.proofs.BlockTexts.{one_block}
 use Rattle.model.proofs.LegalHistories.{IsSoundState, opening_sound, step_sound, run_sound, run_one, legal_sound, GoesOn, step_goes_on}
 use Rattle.model.proofs.FollowerSteps.{IsSoundFollower, begins_not_longer, begins_take, begins_through, begins_less, begins_fewer, next_begins, next_replayed, tip_of_part, moved_at, opened_at, set_at}
+use Rattle.model.proofs.ToldChains.{chain_spelled}
 use Rattle.watching.specs.Chains.{Watched, with_block, back_by, IsIndexOf}
 use Rattle.watching.specs.Ledgers.{IsTaken, AreTaken, IsIndexOfTold}
 use Rattle.watching.specs.Due.{AreWithin, ReachesBack}
 use Rattle.watching.specs.Settled.{HasFollowed, ToldAreTaken}
 use Rattle.watching.proofs.Following.{follows_told, taken_linked}
 use Rattle.watching.proofs.Reaching.{next_taken, points_kept, reach_stays}
-use Rattle.watching.proofs.ForCallers.{nobody, set_here, opened_here, IsOwn, Stays, same_told, step_stays, chain_spelled}
+use Rattle.watching.proofs.ForCallers.{nobody, set_here, opened_here, IsOwn, Stays, same_told, step_stays}
 
 -- ---- the furthest that a follower was told
 

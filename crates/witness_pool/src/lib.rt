@@ -15,6 +15,7 @@ mod gate;
 mod pool;
 mod pool_fault;
 mod scheme;
+mod shown;
 mod test_scheme;
 mod verdicts;
 
