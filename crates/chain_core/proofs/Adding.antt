@@ -1,21 +1,19 @@
 -- A block that is kept: the chain, the store and the states are settled again.
 use Rattle.std.proofs.Common.{◌≡◌, ℕ, ◌+◌, ◌-◌, ◌<◌, ◌≤◌, true, false, List, [], ◌∷◌, ◌++◌, length, take, drop, Contains, refl, sym, ap, subst, ◌∙◌, arith, inl, inr}
-use Rattle.std.specs.Prelude.{min, max, Option, Result, Ok, Err, IfOk, IfSome, OnOk, OnErr}
+use Rattle.std.specs.Prelude.{min, max, Option, Result, Ok, Err, IfOk, IfSome, OnErr}
 use Rattle.std.specs.declared.alloc.AllocError.{AllocError}
 use Rattle.std.specs.List.{AllByRecursion}
-use Rattle.std.proofs.lemmas.Bool.{cases_lt}
-use Rattle.std.proofs.lemmas.List.{length-append, length-take, take-take, take-append-le, take-append-drop}
+use Rattle.std.proofs.lemmas.List.{length-append, length-take, take-append-drop}
 use Rattle.model.proofs.FollowerSteps.{begins_not_longer}
 use Rattle.std.proofs.lemmas.List.Elements.{Contains-append_left, Contains-append_right, Contains-append_cases}
-use Rattle.model.specs.Block.{Block, block_hash_of}
+use Rattle.model.specs.Block.{Block}
 use Rattle.model.specs.Ledger.{Network}
-use Rattle.std.specs.BTreeMap.{BTreeMap}
 use Rattle.model.specs.Chain.{Tip, HaveDistinctHashes, IsLinked, genesis_tip, tip_after, immutable_length, immutable_part}
 use Rattle.model.specs.Rules.{Params}
 use Rattle.model.specs.Applying.{LedgerState, IsStateOf}
 use Rattle.model.specs.Mempool.{SubmitReply}
 use Rattle.model.specs.History.{IsChange}
-use Rattle.model.proofs.Lists.{all_of_member, all_from_members, all_weaker, all_take, all_drop, all_push, contains_first, contains_later, contains_cases}
+use Rattle.model.proofs.Lists.{all_of_member, all_from_members, all_drop, all_push, contains_first, contains_later, contains_cases}
 use Rattle.model.proofs.MappedLists.{contains_map, contains_before}
 use Rattle.model.proofs.Chains.{one_with_hash, linked_front, length_immutable, tip_number}
 use Rattle.model.proofs.Selections.{selection_not_shorter}
@@ -30,6 +28,8 @@ use Rattle.chainsel.specs.Ready.{IsSettled, IsReady}
 use Rattle.chainsel.specs.Choices.{IsSelected, IsFoundDead, IsSwitch}
 use Rattle.chainsel.specs.declared.selection.Switch.{Switch}
 use Rattle.chainsel.proofs.ForCallers.{at_hand, dead_with, sides_among, selection_at_hand, IsNextStore, settled_again, switched_at_hand, depth_next}
+use Rattle.chain.specs.Chained.{chain_of}
+use Rattle.chain.specs.Indexed.{first_hashes}
 use Rattle.chain_core.specs.declared.chain_db.ChainDb.{ChainDb}
 use Rattle.chain_core.specs.declared.chain_db.Change.{Change}
 use Rattle.mempool.specs.Contents.{Mempool, Waiting}
@@ -38,8 +38,7 @@ use Rattle.mempool.specs.View.{reply_of}
 use Rattle.mempool.specs.declared.reply.SubmitReply.{SubmitReply as CodeReply}
 use Rattle.chain_core.specs.Mempools.{IsMempoolOf, IsResynced}
 use Rattle.chain_core.proofs.Mempools.{mempool_resynced, stay_resynced, submits, mempool_after}
-use Rattle.chain_core.specs.PastHashes.{IsBlockNotedIn, AreAmong, KeepsNotes, AreNotedAtSwitch}
-use Rattle.chain_core.proofs.PastHashes.{all_in_more, among_longer, part_linked, part_is}
+use Rattle.chain_core.proofs.PastHashes.{indexed_long}
 use Rattle.chain_core.specs.ChainDbs.{IsWhole, IsAdded, IsTakenIn, IsCutBack, IsCommitted, IsBeside, IsTaken}
 
 -- where ways begin after a switch
@@ -156,44 +155,38 @@ beside_all P old new side is all one =
           (all_drop P (length (old.sides ++ s ∷ []) - most_sides) (old.sides ++ s ∷ []) (all_push P old.sides s all (subst (λ (o : Option LedgerState). IfSome o P) kept.1 one)))
     ]
 
--- what is noted of the part of the chain that is never rolled back is so still
-part_keeps : {S : Type 0} (network : Network) (old : ChainDb S) → IsWhole network old → (noted : BTreeMap (List ℕ) ℕ) → KeepsNotes old.past noted (take (length old.chain.items - depth old.db) old.chain.items)
-    → AllByRecursion (IsBlockNotedIn noted (immutable_part network old.chain.items)) (immutable_part network old.chain.items)
-part_keeps network old whole noted grows =
-    let part = immutable_part network old.chain.items in
-    let keeps : KeepsNotes old.past noted part = subst (KeepsNotes old.past noted) (part_is network old whole) grows in
-    all_weaker (IsBlockNotedIn old.past part) (IsBlockNotedIn noted part) part (λ b. keeps (part_linked network old whole) (block_hash_of b)) whole.past
-
 -- where the chain, the store and the states stay it is settled still
-settled_same : {S : Type 0} (network : Network) (old new : ChainDb S) → new.chain.items ≡ old.chain.items → new.store ≡ old.store → new.db ≡ old.db → IsWhole network old → IsSettled network new.chain.items new.store new.db
+settled_same : {S : Type 0} (network : Network) (old new : ChainDb S) → (chain_of new.chain) ≡ (chain_of old.chain) → new.store ≡ old.store → new.db ≡ old.db → IsWhole network old → IsSettled network (chain_of new.chain) new.store new.db
 settled_same network old new chain store db whole =
     subst (λ (c : List Block). IsSettled network c new.store new.db) (sym chain)
-    (subst (λ (x : Store). IsSettled network old.chain.items x new.db) (sym store) (subst (λ (d : Database). IsSettled network old.chain.items old.store d) (sym db) whole.settled))
+    (subst (λ (x : Store). IsSettled network (chain_of old.chain) x new.db) (sym store) (subst (λ (d : Database). IsSettled network (chain_of old.chain) old.store d) (sym db) whole.settled))
 
--- and whole, where the mempool stays and no hash is forgotten
-pub whole_same : {S : Type 0} (network : Network) (old new : ChainDb S) → new.opened ≡ old.opened → new.chain.items ≡ old.chain.items → new.store ≡ old.store → new.db ≡ old.db → new.mempool ≡ old.mempool
-    → KeepsNotes old.past new.past (take (length old.chain.items - depth old.db) old.chain.items) → IsWhole network old → IsWhole network new
-whole_same network old new opened chain store db mempool grows whole = record {
+-- and whole, where the mempool stays and what is indexed
+pub whole_same : {S : Type 0} (network : Network) (old new : ChainDb S) → new.opened ≡ old.opened → (chain_of new.chain) ≡ (chain_of old.chain) → new.chain.gone ≡ old.chain.gone → new.store ≡ old.store → new.db ≡ old.db → new.mempool ≡ old.mempool
+    → new.past.hashes ≡ old.past.hashes → IsWhole network old → IsWhole network new
+whole_same network old new opened chain gone store db mempool indexed whole = record {
+  gone = gone ∙ whole.gone;
   opened = opened ∙ whole.opened;
   settled = settled_same network old new chain store db whole;
   k = ap (λ (d : Database). d.k) db ∙ whole.k;
   capacity = ap (λ (x : Store). x.capacity) store ∙ whole.capacity;
-  mempool = subst (λ (c : List Block). IsMempoolOf network c new.mempool) (sym chain) (subst (IsMempoolOf network old.chain.items) (sym mempool) whole.mempool);
-  past = subst (λ (c : List Block). AllByRecursion (IsBlockNotedIn new.past (immutable_part network c)) (immutable_part network c)) (sym chain) (part_keeps network old whole new.past grows);
+  mempool = subst (λ (c : List Block). IsMempoolOf network c new.mempool) (sym chain) (subst (IsMempoolOf network (chain_of old.chain)) (sym mempool) whole.mempool);
+  past = indexed ∙ (whole.past ∙ ap (λ (c : List Block). first_hashes (immutable_length network c) c) (sym chain));
 }
 
 -- ---- a submission, which leaves another mempool and nothing else
 
-pub taken : {S : Type 0} (network : Network) (old : ChainDb S) (mempool : Mempool) (state : LedgerState) (params : Params) (slot : ℕ) (bytes : List ℕ) (reply : SubmitReply) → IsWhole network old → IsStateOf network old.chain.items state → params ≡ state.params → slot ≡ state.tip.slot
+pub taken : {S : Type 0} (network : Network) (old : ChainDb S) (mempool : Mempool) (state : LedgerState) (params : Params) (slot : ℕ) (bytes : List ℕ) (reply : SubmitReply) → IsWhole network old → IsStateOf network (chain_of old.chain) state → params ≡ state.params → slot ≡ state.tip.slot
     → IsSubmission network.verifies params (slot + 1) old.mempool bytes reply mempool → IsTaken network old bytes reply (record old { mempool = mempool })
 taken network old mempool state params slot bytes reply whole is params_is slot_is submission = record {
-  submits = submits network old.chain.items state is old.mempool mempool whole.mempool params slot bytes reply params_is slot_is submission;
+  submits = submits network (chain_of old.chain) state is old.mempool mempool whole.mempool params slot bytes reply params_is slot_is submission;
   whole = record {
+    gone = whole.gone;
     opened = whole.opened;
     settled = whole.settled;
     k = whole.k;
     capacity = whole.capacity;
-    mempool = mempool_after network old.chain.items state is old.mempool mempool whole.mempool params slot bytes reply params_is slot_is submission;
+    mempool = mempool_after network (chain_of old.chain) state is old.mempool mempool whole.mempool params slot bytes reply params_is slot_is submission;
     past = whole.past;
   };
 }
@@ -204,80 +197,43 @@ pub whole_after : {S : Type 0} (network : Network) (old : ChainDb S) (mempool : 
 whole_after network old mempool bytes (Ok reply) ok err whole = ok.whole
 whole_after network old mempool bytes (Err e) ok err whole = subst (λ (p : Mempool). IsWhole network (record old { mempool = p })) (sym err) whole
 
--- ---- hashes that are noted at a switch
+-- ---- the index at a switch
 
-module _ {S : Type 0} (network : Network) (old : ChainDb S) (whole : IsWhole network old) (switch : Switch S) (noted : BTreeMap (List ℕ) ℕ) (k : ℕ) (within : switch.back ≤ depth old.db) (k_is : k ≡ network.genesis.k)
-    (not_shorter : length old.chain.items ≤ length (without_last switch.back old.chain.items ++ switch.blocks.items)) (grows : KeepsNotes old.past noted (take (length old.chain.items - depth old.db) old.chain.items)) where
-  abbrev after : List Block
-  after = without_last switch.back old.chain.items ++ switch.blocks.items
+-- What is indexed isn't rolled back, and where there is room for as many blocks more as are put on, there is for what no
+-- rollback reaches behind them.
+pub indexed_stays : {S : Type 0} (network : Network) (old : ChainDb S) → IsWhole network old → (back : ℕ) → back ≤ depth old.db → length old.past.hashes ≤ length (chain_of old.chain) - back
+indexed_stays network old whole back within =
+    let n = indexed_long network old whole in
+    let d = whole.settled.depth in
+    omega (arith, n, d, within)
 
-  abbrev stays : ℕ
-  stays = length old.chain.items - switch.back
-
-  long : length after ≡ stays + length switch.blocks.items
-  long = omega (arith, length-append (without_last switch.back old.chain.items) switch.blocks.items, length-take stays old.chain.items)
-
-  -- what stays of the chain begins the next one
-  same : (n : ℕ) → n ≤ stays → take n after ≡ take n old.chain.items
-  same n le = take-append-le n (take stays old.chain.items) switch.blocks.items (omega (arith, length-take stays old.chain.items, le)) ∙ take-take n stays old.chain.items le
-
-  -- the part that is never rolled back is among the next one
-  part_in : AreAmong (immutable_part network old.chain.items) (immutable_part network after)
-  part_in b member =
-      let m = immutable_length network old.chain.items in
-      let d = whole.settled.depth in
-      let le : m ≤ stays = omega (arith, d, within) in
-      among_longer m (immutable_length network after) after (omega (arith, not_shorter)) b (subst (λ (bs : List Block). Contains bs b) (sym (same m le)) member)
-
-  -- the blocks that were opened on are noted still
-  opened_noted : AllByRecursion (IsBlockNotedIn noted (immutable_part network after)) (take (length network.opened) after)
-  opened_noted =
-      let items = old.chain.items in
-      let o = length network.opened in
-      let part = immutable_part network items in
-      let begins = begins_not_longer items network.opened whole.settled.opened in
-      let d = whole.settled.depth in
-      let first : AllByRecursion (IsBlockNotedIn noted part) (take o items) = subst (AllByRecursion (IsBlockNotedIn noted part)) (take-take o (immutable_length network items) items (omega (arith, begins))) (all_take (IsBlockNotedIn noted part) o part (part_keeps network old whole noted grows)) in
-      all_in_more noted part (immutable_part network after) (take o after) part_in (subst (AllByRecursion (IsBlockNotedIn noted part)) (sym (same o (omega (arith, begins, within, d)))) first)
-
-  pub switch_noted : (next : BTreeMap (List ℕ) ℕ) → next ≡ noted
-      → AreNotedAtSwitch old.past noted (take (length old.chain.items - depth old.db) old.chain.items) (take (length old.chain.items - switch.back + length switch.blocks.items - k) (without_last switch.back old.chain.items ++ switch.blocks.items))
-      → AllByRecursion (IsBlockNotedIn next (immutable_part network (without_last switch.back old.chain.items ++ switch.blocks.items))) (immutable_part network (without_last switch.back old.chain.items ++ switch.blocks.items))
-  switch_noted next is told =
-      let part = immutable_part network old.chain.items in
-      let n = immutable_length network after in
-      let a = stays + length switch.blocks.items - k in
-      let said : AreNotedAtSwitch old.past noted part (take a after) = subst (λ (bs : List Block). AreNotedAtSwitch old.past noted bs (take a after)) (part_is network old whole) told in
-      let begins = begins_not_longer old.chain.items network.opened whole.settled.opened in
-      let d = whole.settled.depth in
-      let here : AllByRecursion (IsBlockNotedIn noted (immutable_part network after)) (take a after) =
-      all_in_more noted (part ++ take a after) (immutable_part network after) (take a after)
-      (λ b member. elim (Contains-append_cases part (take a after) b member) [ inl first ↦ part_in b first | inr later ↦ among_longer a n after (omega (arith, k_is, long)) b later ])
-      (said (part_linked network old whole) whole.past) in
-      subst (λ (p : BTreeMap (List ℕ) ℕ). AllByRecursion (IsBlockNotedIn p (immutable_part network after)) (immutable_part network after)) (sym is)
-      (elim (cases_lt a (length network.opened)) [
-        | inl fewer ↦ subst (λ (m : ℕ). AllByRecursion (IsBlockNotedIn noted (immutable_part network after)) (take m after)) (let e : length network.opened ≡ n = omega (arith, k_is, long, begins, within, d, fewer) in e) opened_noted
-        | inr more ↦ subst (λ (m : ℕ). AllByRecursion (IsBlockNotedIn noted (immutable_part network after)) (take m after)) (let e : a ≡ n = omega (arith, k_is, long, more) in e) here
-      ])
+pub room_at_switch : {S : Type 0} (network : Network) (old : ChainDb S) → IsWhole network old → (back prepared_back counted added k room : ℕ) → back ≤ depth old.db → prepared_back ≡ back → counted ≡ added → k ≡ old.db.k → length old.past.hashes + added ≤ room
+    → length (chain_of old.chain) - back + added - min k (depth old.db - prepared_back + counted) ≤ room
+room_at_switch network old whole back prepared_back counted added k room within back_is counted_is k_is room_is =
+    let n = indexed_long network old whole in
+    let d = whole.settled.depth in
+    let kk = whole.k in
+    omega (arith, n, d, kk, within, back_is, counted_is, k_is, room_is)
 
 -- ---- all that is kept
 
-module _ {S : Type 0} (network : Network) (old : ChainDb S) (new : Block) (whole : IsWhole network old) (ready : IsReady network old.chain.items old.store old.db new) (invalid : List BlockHash)
-    (found : AllByRecursion (IsFoundDead network old.chain.items (new ∷ blocks_of old.store)) invalid) where
+module _ {S : Type 0} (network : Network) (old : ChainDb S) (new : Block) (whole : IsWhole network old) (ready : IsReady network (chain_of old.chain) old.store old.db new) (invalid : List BlockHash)
+    (found : AllByRecursion (IsFoundDead network (chain_of old.chain) (new ∷ blocks_of old.store)) invalid) where
   -- the chain stays
   pub added_kept : (next : ChainDb S) (told : Change) (side : Option LedgerState) → IsTakenIn old.store new invalid next.store → next ≡ record old { store = next.store; db = next.db } → told.back ≡ 0 → told.added ≡ 0
-      → IsSelected network old.store old.chain.items new old.chain.items → IsBeside old.db side next.db → IfSome side (IsSide network (at_hand old.chain.items old.store new)) → IsAdded network old new next told
+      → IsSelected network old.store (chain_of old.chain) new (chain_of old.chain) → IsBeside old.db side next.db → IfSome side (IsSide network (at_hand (chain_of old.chain) old.store new)) → IsAdded network old new next told
   added_kept next told side taken frame no_back none_added selected beside one = subst (λ (a : ChainDb S). IsAdded network old new a told) (sym frame) (record {
     selected = selected;
-    change = no_change old.chain.items told.back told.added no_back none_added;
-    live = λ kept holds. taken.marked.live network (new ∷ kept) old.chain.items (taken.gains network kept old.chain.items holds ready.past);
+    change = no_change (chain_of old.chain) told.back told.added no_back none_added;
+    live = λ kept holds. taken.marked.live network (new ∷ kept) (chain_of old.chain) (taken.gains network kept (chain_of old.chain) holds ready.past);
     mempool = sym whole.mempool.valid;
     whole = record {
+      gone = whole.gone;
       opened = whole.opened;
-      settled = settled_again network old.chain.items old.store old.db new ready old.chain.items next.store next.db selected
-          (all_from_members (Contains (at_hand old.chain.items old.store new)) old.chain.items (λ b member. Contains-append_right (new ∷ blocks_of old.store) old.chain.items b member))
-          (kept_store network old.chain.items old.store old.db new ready invalid found next.store taken)
-          (subst (IsDatabaseOf network old.chain.items) (sym alone) (beside_any network old.chain.items old.db next.db.sides ready.settled.database))
+      settled = settled_again network (chain_of old.chain) old.store old.db new ready (chain_of old.chain) next.store next.db selected
+          (all_from_members (Contains (at_hand (chain_of old.chain) old.store new)) (chain_of old.chain) (λ b member. Contains-append_right (new ∷ blocks_of old.store) (chain_of old.chain) b member))
+          (kept_store network (chain_of old.chain) old.store old.db new ready invalid found next.store taken)
+          (subst (IsDatabaseOf network (chain_of old.chain)) (sym alone) (beside_any network (chain_of old.chain) old.db next.db.sides ready.settled.database))
           (ap depth alone ∙ ready.settled.depth) sides;
       k = ap (λ (d : Database). d.k) alone ∙ whole.k;
       capacity = taken.marked.capacity ∙ (taken.inserted.capacity ∙ whole.capacity);
@@ -289,21 +245,21 @@ module _ {S : Type 0} (network : Network) (old : ChainDb S) (new : Block) (whole
       alone : next.db ≡ record old.db { sides = next.db.sides }
       alone = beside_alone old.db next.db side beside
 
-      live_still : (b : Block) → Contains (new ∷ blocks_of old.store) b → Contains (blocks_of next.store ++ old.chain.items) b
-      live_still b member = Contains-append_left (blocks_of next.store) old.chain.items b (still network old.chain.items old.store old.db new ready invalid found next.store taken b member)
+      live_still : (b : Block) → Contains (new ∷ blocks_of old.store) b → Contains (blocks_of next.store ++ (chain_of old.chain)) b
+      live_still b member = Contains-append_left (blocks_of next.store) (chain_of old.chain) b (still network (chain_of old.chain) old.store old.db new ready invalid found next.store taken b member)
 
-      still_at_hand : (b : Block) → Contains (at_hand old.chain.items old.store new) b → Contains (blocks_of next.store ++ old.chain.items) b
+      still_at_hand : (b : Block) → Contains (at_hand (chain_of old.chain) old.store new) b → Contains (blocks_of next.store ++ (chain_of old.chain)) b
       still_at_hand b member =
-          elim (Contains-append_cases (new ∷ blocks_of old.store) old.chain.items b member) [
+          elim (Contains-append_cases (new ∷ blocks_of old.store) (chain_of old.chain) b member) [
             | inl live ↦ live_still b live
-            | inr on_chain ↦ Contains-append_right (blocks_of next.store) old.chain.items b on_chain
+            | inr on_chain ↦ Contains-append_right (blocks_of next.store) (chain_of old.chain) b on_chain
           ]
 
-      sides : AllByRecursion (IsSide network (blocks_of next.store ++ old.chain.items)) next.db.sides
+      sides : AllByRecursion (IsSide network (blocks_of next.store ++ (chain_of old.chain))) next.db.sides
       sides =
-          sides_among network (at_hand old.chain.items old.store new) (blocks_of next.store ++ old.chain.items) next.db.sides still_at_hand
-          (beside_all (IsSide network (at_hand old.chain.items old.store new)) old.db next.db side beside
-          (sides_among network (blocks_of old.store ++ old.chain.items) (at_hand old.chain.items old.store new) old.db.sides (λ b member. contains_later new (blocks_of old.store ++ old.chain.items) b member) ready.settled.sides) one)
+          sides_among network (at_hand (chain_of old.chain) old.store new) (blocks_of next.store ++ (chain_of old.chain)) next.db.sides still_at_hand
+          (beside_all (IsSide network (at_hand (chain_of old.chain) old.store new)) old.db next.db side beside
+          (sides_among network (blocks_of old.store ++ (chain_of old.chain)) (at_hand (chain_of old.chain) old.store new) old.db.sides (λ b member. contains_later new (blocks_of old.store ++ (chain_of old.chain)) b member) ready.settled.sides) one)
 
       no_change : (c : List Block) (back added : ℕ) → back ≡ 0 → added ≡ 0 → IsChange c c back added
       no_change c back added b a = record {
@@ -314,84 +270,87 @@ module _ {S : Type 0} (network : Network) (old : ChainDb S) (new : Block) (whole
       }
 
   -- or changes
-  pub added_switched : (switch : Switch S) (mid : Store) (next : ChainDb S) (told : Change) → IsSwitch network old.chain.items old.store old.db new switch → IsTakenIn old.store new invalid mid
-      → next.chain.items ≡ without_last switch.back old.chain.items ++ switch.blocks.items → IsCommitted old.db switch.prepared next.db → IsCutBack mid next.chain.items (length next.chain.items - depth next.db) next.store
-      → (waiting : Waiting) → IsResynced network (without_last switch.back old.chain.items ++ switch.blocks.items) old.mempool.waiting.txs waiting → next.mempool ≡ record old.mempool { waiting = waiting }
-      → AllByRecursion (IsBlockNotedIn next.past (immutable_part network (without_last switch.back old.chain.items ++ switch.blocks.items))) (immutable_part network (without_last switch.back old.chain.items ++ switch.blocks.items)) → next.opened ≡ old.opened → told.back ≡ switch.back → told.added ≡ length switch.blocks.items → IsAdded network old new next told
-  added_switched switch mid next told is taken chain_is committed cut waiting resynced mempool_is noted same_opened back_is added_is = record {
+  pub added_switched : (switch : Switch S) (mid : Store) (next : ChainDb S) (told : Change) → IsSwitch network (chain_of old.chain) old.store old.db new switch → IsTakenIn old.store new invalid mid
+      → next.chain.gone ≡ [] → (chain_of next.chain) ≡ without_last switch.back (chain_of old.chain) ++ switch.blocks.items → IsCommitted old.db switch.prepared next.db → IsCutBack mid (chain_of next.chain) (length (chain_of next.chain) - depth next.db) next.store
+      → (waiting : Waiting) → IsResynced network (without_last switch.back (chain_of old.chain) ++ switch.blocks.items) old.mempool.waiting.txs waiting → next.mempool ≡ record old.mempool { waiting = waiting }
+      → next.past.hashes ≡ first_hashes (max (length old.past.hashes) (length (chain_of next.chain) - depth next.db)) (chain_of next.chain) → next.opened ≡ old.opened → told.back ≡ switch.back → told.added ≡ length switch.blocks.items → IsAdded network old new next told
+  added_switched switch mid next told is taken none chain_is committed cut waiting resynced mempool_is indexed same_opened back_is added_is = record {
     selected = selected;
-    change = subst (λ (n : ℕ). IsChange old.chain.items next.chain.items told.back n) (sym added_is)
-        (subst (λ (n : ℕ). IsChange old.chain.items next.chain.items n (length switch.blocks.items)) (sym back_is)
-        (subst (λ (c : List Block). IsChange old.chain.items c switch.back (length switch.blocks.items)) (sym chain_is) is.change));
-    live = λ kept holds. cut.live network (new ∷ kept) old.chain.items next.chain.items
-        (taken.marked.live network (new ∷ kept) old.chain.items (taken.gains network kept old.chain.items holds ready.past)) further number;
-    mempool = stay_resynced network next.chain.items old.mempool next.mempool waiting resynced_here mempool_is;
+    change = subst (λ (n : ℕ). IsChange (chain_of old.chain) (chain_of next.chain) told.back n) (sym added_is)
+        (subst (λ (n : ℕ). IsChange (chain_of old.chain) (chain_of next.chain) n (length switch.blocks.items)) (sym back_is)
+        (subst (λ (c : List Block). IsChange (chain_of old.chain) c switch.back (length switch.blocks.items)) (sym chain_is) is.change));
+    live = λ kept holds. cut.live network (new ∷ kept) (chain_of old.chain) (chain_of next.chain)
+        (taken.marked.live network (new ∷ kept) (chain_of old.chain) (taken.gains network kept (chain_of old.chain) holds ready.past)) further number;
+    mempool = stay_resynced network (chain_of next.chain) old.mempool next.mempool waiting resynced_here mempool_is;
     whole = record {
+      gone = none;
       opened = same_opened ∙ whole.opened;
-      settled = settled_again network old.chain.items old.store old.db new ready next.chain.items next.store next.db selected
-          (subst (AllByRecursion (Contains (at_hand old.chain.items old.store new))) (sym chain_is) (switched_at_hand old.chain.items old.store new switch.back switch.blocks.items is.members))
-          (cut_store network old.chain.items old.store old.db new ready invalid found mid taken next.chain.items (length next.chain.items - depth next.db) next.store number (database_valid network next.chain.items next.db database).linked cut)
-          database deep (subst (AllByRecursion (IsSide network (blocks_of next.store ++ next.chain.items))) (sym committed.sides) tt);
+      settled = settled_again network (chain_of old.chain) old.store old.db new ready (chain_of next.chain) next.store next.db selected
+          (subst (AllByRecursion (Contains (at_hand (chain_of old.chain) old.store new))) (sym chain_is) (switched_at_hand (chain_of old.chain) old.store new switch.back switch.blocks.items is.members))
+          (cut_store network (chain_of old.chain) old.store old.db new ready invalid found mid taken (chain_of next.chain) (length (chain_of next.chain) - depth next.db) next.store number (database_valid network (chain_of next.chain) next.db database).linked cut)
+          database deep (subst (AllByRecursion (IsSide network (blocks_of next.store ++ (chain_of next.chain)))) (sym committed.sides) tt);
       k = committed.k ∙ whole.k;
       capacity = cut.cut.capacity ∙ (taken.marked.capacity ∙ (taken.inserted.capacity ∙ whole.capacity));
-      mempool = mempool_resynced network next.chain.items old.mempool next.mempool waiting whole.mempool.capacity resynced_here mempool_is;
-      past = subst (λ (c : List Block). AllByRecursion (IsBlockNotedIn next.past (immutable_part network c)) (immutable_part network c)) (sym chain_is) noted;
+      mempool = mempool_resynced network (chain_of next.chain) old.mempool next.mempool waiting whole.mempool.capacity resynced_here mempool_is;
+      past = indexed ∙ ap (λ (n : ℕ). first_hashes n (chain_of next.chain)) first_ones;
     };
   }
     where
-      resynced_here : IsResynced network next.chain.items old.mempool.waiting.txs waiting
+      resynced_here : IsResynced network (chain_of next.chain) old.mempool.waiting.txs waiting
       resynced_here = subst (λ (c : List Block). IsResynced network c old.mempool.waiting.txs waiting) (sym chain_is) resynced
 
-      selected : IsSelected network old.store old.chain.items new next.chain.items
-      selected = subst (IsSelected network old.store old.chain.items new) (sym chain_is) is.selected
+      selected : IsSelected network old.store (chain_of old.chain) new (chain_of next.chain)
+      selected = subst (IsSelected network old.store (chain_of old.chain) new) (sym chain_is) is.selected
 
-      longer : length old.chain.items ≤ length next.chain.items
-      longer = selection_not_shorter network (at_hand old.chain.items old.store new) old.chain.items next.chain.items (selection_at_hand network old.chain.items old.store old.db new ready next.chain.items selected)
+      longer : length (chain_of old.chain) ≤ length (chain_of next.chain)
+      longer = selection_not_shorter network (at_hand (chain_of old.chain) old.store new) (chain_of old.chain) (chain_of next.chain) (selection_at_hand network (chain_of old.chain) old.store old.db new ready (chain_of next.chain) selected)
 
-      further : immutable_length network old.chain.items ≤ immutable_length network next.chain.items
+      further : immutable_length network (chain_of old.chain) ≤ immutable_length network (chain_of next.chain)
       further = let le = longer in omega (arith, le)
 
-      prepared_is : IsPreparedOf network (without_last switch.prepared.back old.chain.items) switch.blocks.items switch.prepared
-      prepared_is = subst (λ (n : ℕ). IsPreparedOf network (without_last n old.chain.items) switch.blocks.items switch.prepared) (sym is.back) is.prepared
+      prepared_is : IsPreparedOf network (without_last switch.prepared.back (chain_of old.chain)) switch.blocks.items switch.prepared
+      prepared_is = subst (λ (n : ℕ). IsPreparedOf network (without_last n (chain_of old.chain)) switch.blocks.items switch.prepared) (sym is.back) is.prepared
 
-      database : IsDatabaseOf network next.chain.items next.db
+      database : IsDatabaseOf network (chain_of next.chain) next.db
       database =
-          subst (λ (c : List Block). IsDatabaseOf network c next.db) (ap (λ (n : ℕ). without_last n old.chain.items ++ switch.blocks.items) is.back ∙ sym chain_is)
-          (committed.chain network old.chain.items switch.blocks.items ready.settled.database prepared_is)
+          subst (λ (c : List Block). IsDatabaseOf network c next.db) (ap (λ (n : ℕ). without_last n (chain_of old.chain) ++ switch.blocks.items) is.back ∙ sym chain_is)
+          (committed.chain network (chain_of old.chain) switch.blocks.items ready.settled.database prepared_is)
 
       within : switch.back ≤ depth old.db
       within = is.within
 
       counted : count switch.prepared ≡ length switch.blocks.items
-      counted = prepared_count network (without_last switch.prepared.back old.chain.items) switch.blocks.items switch.prepared prepared_is
+      counted = prepared_count network (without_last switch.prepared.back (chain_of old.chain)) switch.blocks.items switch.prepared prepared_is
 
-      long : length next.chain.items ≡ length old.chain.items - switch.back + length switch.blocks.items
+      long : length (chain_of next.chain) ≡ length (chain_of old.chain) - switch.back + length switch.blocks.items
       long =
           let e = ap length chain_is in
           let d = ready.settled.depth in
           let w = within in
-          omega (arith, e, length-append (without_last switch.back old.chain.items) switch.blocks.items, length-take (length old.chain.items - switch.back) old.chain.items)
+          omega (arith, e, length-append (without_last switch.back (chain_of old.chain)) switch.blocks.items, length-take (length (chain_of old.chain) - switch.back) (chain_of old.chain))
 
-      deep : depth next.db ≡ length next.chain.items - immutable_length network next.chain.items
+      deep : depth next.db ≡ length (chain_of next.chain) - immutable_length network (chain_of next.chain)
       deep =
           committed.depth
           ∙ (ap (λ (n : ℕ). min n (depth old.db - switch.prepared.back + count switch.prepared)) whole.k
           ∙ (ap (λ (n : ℕ). min network.genesis.k (depth old.db - n + count switch.prepared)) is.back
           ∙ (ap (λ (n : ℕ). min network.genesis.k (depth old.db - switch.back + n)) counted
-          ∙ (depth_next network.genesis.k (length network.opened) (length old.chain.items) (depth old.db) switch.back (length switch.blocks.items) ready.settled.depth (begins_not_longer old.chain.items network.opened ready.settled.opened) within
+          ∙ (depth_next network.genesis.k (length network.opened) (length (chain_of old.chain)) (depth old.db) switch.back (length switch.blocks.items) ready.settled.depth (begins_not_longer (chain_of old.chain) network.opened ready.settled.opened) within
           (let l = long in let le = longer in let d = ready.settled.depth in let w = within in omega (arith, l, le, d, w))
           ∙ ap (λ (n : ℕ). n - min n (max (n - network.genesis.k) (length network.opened))) (sym long)))))
 
-      number : length next.chain.items - depth next.db ≡ immutable_length network next.chain.items
+      number : length (chain_of next.chain) - depth next.db ≡ immutable_length network (chain_of next.chain)
       number = let d = deep in omega (arith, d)
 
-  pub added_at_switch : (switch : Switch S) (mid next : ChainDb S) (result : Result Change AllocError) → IsSwitch network old.chain.items old.store old.db new switch → IsTakenIn old.store new invalid mid.store
-      → mid.chain.items ≡ old.chain.items → mid.db ≡ old.db → OnOk result (next.chain.items ≡ without_last switch.back mid.chain.items ++ switch.blocks.items) → OnOk result (IsCommitted mid.db switch.prepared next.db)
-      → OnOk result (IsCutBack mid.store next.chain.items (length next.chain.items - depth next.db) next.store)
-      → (waiting : Waiting) → IsResynced network (without_last switch.prepared.back old.chain.items ++ switch.blocks.items) old.mempool.waiting.txs waiting → next.mempool ≡ record old.mempool { waiting = waiting }
-      → AllByRecursion (IsBlockNotedIn next.past (immutable_part network (without_last switch.back old.chain.items ++ switch.blocks.items))) (immutable_part network (without_last switch.back old.chain.items ++ switch.blocks.items)) → next.opened ≡ old.opened → IfOk result (λ told. (told.back ≡ switch.back) × (told.added ≡ length switch.blocks.items)) → IfOk result (IsAdded network old new next)
-  added_at_switch switch mid next (Err e) is taken same_chain same_db chain_is committed cut waiting resynced mempool_is noted same_opened told_is = tt
-  added_at_switch switch mid next (Ok told) is taken same_chain same_db chain_is committed cut waiting resynced mempool_is noted same_opened told_is =
-      added_switched switch mid.store next told is taken (chain_is ∙ ap (λ (c : List Block). without_last switch.back c ++ switch.blocks.items) same_chain)
+      first_ones : max (length old.past.hashes) (length (chain_of next.chain) - depth next.db) ≡ immutable_length network (chain_of next.chain)
+      first_ones = let n = indexed_long network old whole in let f = further in let m = number in omega (arith, n, f, m)
+
+  pub added_at_switch : (switch : Switch S) (mid next : ChainDb S) (told : Change) → IsSwitch network (chain_of old.chain) old.store old.db new switch → IsTakenIn old.store new invalid mid.store
+      → (chain_of mid.chain) ≡ (chain_of old.chain) → mid.db ≡ old.db → next.chain.gone ≡ [] → (chain_of next.chain) ≡ without_last switch.back (chain_of mid.chain) ++ switch.blocks.items → IsCommitted mid.db switch.prepared next.db
+      → IsCutBack mid.store (chain_of next.chain) (length (chain_of next.chain) - depth next.db) next.store
+      → (waiting : Waiting) → IsResynced network (without_last switch.prepared.back (chain_of old.chain) ++ switch.blocks.items) old.mempool.waiting.txs waiting → next.mempool ≡ record old.mempool { waiting = waiting }
+      → next.past.hashes ≡ first_hashes (max (length old.past.hashes) (length (chain_of next.chain) - depth next.db)) (chain_of next.chain) → next.opened ≡ old.opened → (told.back ≡ switch.back) × (told.added ≡ length switch.blocks.items) → IsAdded network old new next told
+  added_at_switch switch mid next told is taken same_chain same_db none chain_is committed cut waiting resynced mempool_is indexed same_opened told_is =
+      added_switched switch mid.store next told is taken none (chain_is ∙ ap (λ (c : List Block). without_last switch.back c ++ switch.blocks.items) same_chain)
       (subst (λ (d : Database). IsCommitted d switch.prepared next.db) same_db committed) cut waiting
-      (subst (λ (n : ℕ). IsResynced network (without_last n old.chain.items ++ switch.blocks.items) old.mempool.waiting.txs waiting) is.back resynced) mempool_is noted same_opened told_is.0 told_is.1
+      (subst (λ (n : ℕ). IsResynced network (without_last n (chain_of old.chain) ++ switch.blocks.items) old.mempool.waiting.txs waiting) is.back resynced) mempool_is indexed same_opened told_is.0 told_is.1

@@ -8,6 +8,7 @@ use Rattle.model.proofs.MappedLists.{contains_map}
 use Rattle.model.proofs.Chains.{one_with_hash}
 use Rattle.blockstore.specs.Stored.{Stored, Store, IsSet, HasBlock, blocks_of}
 use Rattle.blockstore.specs.Answers.{HasNoneAt, IsAt}
+use Rattle.chain.specs.Chained.{chain_of}
 use Rattle.chain_core.specs.declared.chain_db.ChainDb.{ChainDb}
 use Rattle.chain_core.specs.ChainDbs.{HasState}
 use Rattle.model.specs.Chain.{NoneHas}
@@ -25,10 +26,10 @@ module _ {S : Type 0} (network : Network) (a : ChainDb S) (s : State) (has : Has
   pub live_there : (b : Block) → HasBlock a.store b → Contains (live_of network s) b
   live_there b live = (has.live.members b).0 live
 
-  pub chain_there : (b : Block) → Contains a.chain.items b → Contains s.chain b
+  pub chain_there : (b : Block) → Contains (chain_of a.chain) b → Contains s.chain b
   chain_there b member = subst (λ (bs : List Block). Contains bs b) has.chain member
 
-  pub on_chain : (hash : List ℕ) → NoneHas a.chain.items hash → NoneHas s.chain hash
+  pub on_chain : (hash : List ℕ) → NoneHas (chain_of a.chain) hash → NoneHas s.chain hash
   on_chain hash none = subst (λ (bs : List Block). NoneHas bs hash) has.chain none
 
   -- no live block has the hash

@@ -20,6 +20,7 @@ use Rattle.ledger.specs.contracts.block_diff.BlockDiff as BlockDiff
 use Rattle.ledgerdb.specs.contracts.ledger_db.LedgerDb as LedgerDb
 use Rattle.witness_pool.specs.declared.scheme.SigScheme.{Ghosts}
 use Rattle.block.proofs.ForCallers.{CheckedBlock-send}
+use Rattle.chain.proofs.ForCallers.{Chain-send, HashIndex-send}
 use Rattle.blockstore.specs.contracts.live_block.LiveBlock as LiveBlock
 use Rattle.blockstore.specs.contracts.stored_block.StoredBlock as StoredBlock
 use Rattle.blockstore.specs.contracts.shelf.Shelf as Shelf
@@ -77,11 +78,12 @@ module _ (S : RattleType) (scheme : Ghosts S.Denot) where
 
   chain_db_send : IsSend (ChainDb.the_field S scheme).row
   chain_db_send =
-      let b = CheckedBlock-send S scheme in
+      let c = Chain-send S scheme in
+      let i = HashIndex-send in
       let s = store_send in
       let d = db_send in
       let m = Mempool-send S scheme in
-      search (map.the_send, crosses, sendable) depth 20
+      search (crosses, sendable) depth 20
 
   pub Core-send : IsSend (Core.the_field S scheme).row
   Core-send =

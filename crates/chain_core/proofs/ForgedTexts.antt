@@ -31,6 +31,7 @@ use Rattle.model.proofs.ForgedArrivals.{IsReadyForOne, arrives_next}
 use Rattle.blockstore.specs.Stored.{Stored, blocks_of}
 use Rattle.ledgerdb.proofs.ForCallers.{database_valid}
 use Rattle.chainsel.specs.Ready.{IsSettled}
+use Rattle.chain.specs.Chained.{chain_of}
 use Rattle.chain_core.specs.declared.chain_db.ChainDb.{ChainDb}
 use Rattle.chain_core.specs.ChainDbs.{IsWhole}
 use Rattle.chain_core.specs.Held.{Held, Stands, held_of, network_held}
@@ -45,14 +46,14 @@ AreRead blocks = AllByRecursion (λ x. IsRead x.block (block_text x.block)) bloc
 
 -- every state that the core stands for
 pub ready_for_one : {S : Type 0} (network : Network) (a : ChainDb S) (followers : Places) (s : State) → IsWhole network a → AreRead a.store.blocks
-    → Stands (held_of network.genesis network.opened (blocks_of a.store) a.chain.items a.mempool.waiting.txs followers) s → IsReadyForOne network s
+    → Stands (held_of network.genesis network.opened (blocks_of a.store) (chain_of a.chain) a.mempool.waiting.txs followers) s → IsReadyForOne network s
 ready_for_one network a followers s whole read stands =
     let has = state_of network a followers s stands in
     let settled = subst (λ (c : List Block). IsSettled network c a.store a.db) has.chain whole.settled in
     let live = has.live in
     let all : List Block = blocks_of a.store ++ s.chain in
     record {
-      valid = subst (IsValidChain network) has.chain (database_valid network a.chain.items a.db whole.settled.database);
+      valid = subst (IsValidChain network) has.chain (database_valid network (chain_of a.chain) a.db whole.settled.database);
       longest = λ c candidate. settled.longest c (candidate_over network s.kept all s.chain c
           (λ b member. Contains-append_left (blocks_of a.store) s.chain b ((live.members b).1 member))
           (all_from_members (Contains all) s.chain (λ b member. Contains-append_right (blocks_of a.store) s.chain b member)) candidate);
@@ -67,7 +68,7 @@ ready_for_one network a followers s whole read stands =
 
 -- so where the bytes arrive next the block is put on
 pub put_on_next : {S : Type 0} (network : Network) (a : ChainDb S) (followers : Places) (now : Held) (slot : ℕ) (bytes : List ℕ) (point : Point) → IsGenesis network.genesis → IsWhole network a → AreRead a.store.blocks
-    → held_of network.genesis network.opened (blocks_of a.store) a.chain.items a.mempool.waiting.txs followers ≡ now → IsForgedAs network a.chain.items a.mempool.waiting.txs slot bytes point
+    → held_of network.genesis network.opened (blocks_of a.store) (chain_of a.chain) a.mempool.waiting.txs followers ≡ now → IsForgedAs network (chain_of a.chain) a.mempool.waiting.txs slot bytes point
     → (s : State) → Stands now s → (b : Block) → SpellsBlock b bytes → ArrivesNext (network_held now network.verifies) s b bytes
 put_on_next network a followers now slot bytes point genesis whole read view forged =
     subst (λ (h : Held). (s : State) → Stands h s → (b : Block) → SpellsBlock b bytes → ArrivesNext (network_held h network.verifies) s b bytes) view

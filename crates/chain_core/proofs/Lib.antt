@@ -2,7 +2,6 @@ pub mod NextStores
 pub mod Mempools
 pub mod PastHashes
 pub mod Adding
-pub mod Tips
 pub mod Refusals
 pub mod Arrivals
 pub mod Discards
@@ -13,6 +12,7 @@ pub mod ReadAgain
 pub mod ForgedTexts
 pub mod CopiedTexts
 pub mod Points
+pub mod InMemory
 pub mod FollowerCalls
 pub mod Crossing
 pub mod ForCallers

@@ -10,18 +10,19 @@ use Rattle.model.proofs.MappedLists.{contains_map, contains_before}
 use Rattle.blockstore.specs.Stored.{Stored, HasBlock, unmarked}
 use Rattle.blockstore.specs.OffWays.{IsOnWay, AreOffWays}
 use Rattle.chainsel.proofs.ForCallers.{candidate_on_ways, chain_on_ways}
+use Rattle.chain.specs.Chained.{chain_of}
 use Rattle.chain_core.specs.declared.chain_db.ChainDb.{ChainDb}
 use Rattle.chain_core.specs.ChainDbs.{IsWhole, HasState}
 
 module _ {S : Type 0} (network : Network) (a : ChainDb S) (s : State) (whole : IsWhole network a) (has : HasState network a s) (found : List Block) (are : AreOffWays a.store found) where
   -- live blocks of the state are those of the store
-  held : (b : Block) → Contains (live_blocks network s.kept a.chain.items) b → HasBlock a.store b
+  held : (b : Block) → Contains (live_blocks network s.kept (chain_of a.chain)) b → HasBlock a.store b
   held b live = (has.live.members b).1 (subst (λ (bs : List Block). Contains (live_blocks network s.kept bs) b) has.chain live)
 
   barred : (b : Block) → Contains found b → IsInNoCandidate network s b
   barred b member c candidate there =
       let x = (are.members b).0 member in
-      x.3 (candidate_on_ways network a.chain.items a.store a.db whole.settled s.kept held c
+      x.3 (candidate_on_ways network (chain_of a.chain) a.store a.db whole.settled s.kept held c
       (subst (λ (bs : List Block). IsCandidate network s.kept bs c) (sym has.chain) candidate) x.0 x.1 (subst (Contains c) (sym x.2) there))
 
   beside : (b : Block) → Contains found b → IsBeside network s b
@@ -29,8 +30,8 @@ module _ {S : Type 0} (network : Network) (a : ChainDb S) (s : State) (whole : I
       let x = (are.members b).0 member in
       record {
         live = (has.live.members b).0 (subst (HasBlock a.store) x.2 (contains_map (λ (y : Stored). y.block) a.store.blocks x.0 x.1));
-        apart = λ on_chain. x.3 (chain_on_ways network a.chain.items a.store a.db whole.settled x.0 x.1
-            (subst (Contains a.chain.items) (sym x.2) (subst (λ (bs : List Block). Contains bs b) (sym has.chain) on_chain)));
+        apart = λ on_chain. x.3 (chain_on_ways network (chain_of a.chain) a.store a.db whole.settled x.0 x.1
+            (subst (Contains (chain_of a.chain)) (sym x.2) (subst (λ (bs : List Block). Contains bs b) (sym has.chain) on_chain)));
       }
 
   -- a block on a way of the store is connected

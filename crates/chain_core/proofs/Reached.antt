@@ -17,6 +17,7 @@ use Rattle.model.proofs.LedgerSteps.{supply_kept}
 use Rattle.model.proofs.ToldChains.{run_on, theorem_of_legal}
 use Rattle.blockstore.specs.Stored.{Stored, blocks_of}
 use Rattle.followers.specs.Places.{Places}
+use Rattle.chain.specs.Chained.{chain_of}
 use Rattle.chain_core.specs.declared.chain_db.ChainDb.{ChainDb}
 use Rattle.chain_core.specs.ChainDbs.{IsWhole}
 use Rattle.chain_core.specs.Held.{Held, Stands, opening_held, held_of, network_held}
@@ -29,17 +30,17 @@ reached_at_start network opens = record { history = []; state = opening network;
 -- ---- a core that is opened
 
 -- what it holds
-pub held_open : {S : Type 0} (genesis : Genesis) (chain : List Block) (a : ChainDb S) (followers : Places) → a.opened ≡ length chain → a.chain.items ≡ chain → a.store.blocks ≡ [] → a.mempool.waiting.txs ≡ [] → followers ≡ []
-    → opening_held genesis chain ≡ held_of genesis (take a.opened a.chain.items) (blocks_of a.store) a.chain.items a.mempool.waiting.txs followers
+pub held_open : {S : Type 0} (genesis : Genesis) (chain : List Block) (a : ChainDb S) (followers : Places) → a.opened ≡ length chain → (chain_of a.chain) ≡ chain → a.store.blocks ≡ [] → a.mempool.waiting.txs ≡ [] → followers ≡ []
+    → opening_held genesis chain ≡ held_of genesis (take a.opened (chain_of a.chain)) (blocks_of a.store) (chain_of a.chain) a.mempool.waiting.txs followers
 held_open genesis chain a followers opened is blocks mempool nobody =
-    let whole : chain ≡ take a.opened a.chain.items = sym (ap (λ (n : ℕ). take n a.chain.items) opened ∙ (ap (λ (bs : List Block). take (length chain) bs) is ∙ take_all (length chain) chain (omega arith))) in
+    let whole : chain ≡ take a.opened (chain_of a.chain) = sym (ap (λ (n : ℕ). take n (chain_of a.chain)) opened ∙ (ap (λ (bs : List Block). take (length chain) bs) is ∙ take_all (length chain) chain (omega arith))) in
     λ i. held_of genesis (whole i) (map (λ (x : Stored). x.block) (sym blocks i)) (sym is i) (sym mempool i) (sym nobody i)
 
 -- ---- a core of another chain
 
 -- the chain that was opened on is the beginning of the chain
-pub opened_is : {S : Type 0} (network : Network) (a : ChainDb S) → IsWhole network a → network.opened ≡ take a.opened a.chain.items
-opened_is network a whole = sym (ap (λ n. take n a.chain.items) whole.opened ∙ whole.settled.opened)
+pub opened_is : {S : Type 0} (network : Network) (a : ChainDb S) → IsWhole network a → network.opened ≡ take a.opened (chain_of a.chain)
+opened_is network a whole = sym (ap (λ n. take n (chain_of a.chain)) whole.opened ∙ whole.settled.opened)
 
 -- so a step leads to what is held then
 pub steps_on : (verifies : Verifies) (now : Held) (event : Event) (reply : Reply) (genesis : Genesis) (was opened live chain : List Block) (txs : List Transaction) (followers : Places) → was ≡ opened
@@ -59,8 +60,8 @@ reached_on verifies old now new event reply view reached steps =
     }
 
 -- where nothing changed
-pub reached_still : {S : Type 0} (network : Network) (old new : ChainDb S) (followers : Places) → new.chain.items ≡ old.chain.items → new.store ≡ old.store → new.mempool ≡ old.mempool
-    → IsReached network (held_of network.genesis network.opened (blocks_of old.store) old.chain.items old.mempool.waiting.txs followers) → IsReached network (held_of network.genesis network.opened (blocks_of new.store) new.chain.items new.mempool.waiting.txs followers)
+pub reached_still : {S : Type 0} (network : Network) (old new : ChainDb S) (followers : Places) → (chain_of new.chain) ≡ (chain_of old.chain) → new.store ≡ old.store → new.mempool ≡ old.mempool
+    → IsReached network (held_of network.genesis network.opened (blocks_of old.store) (chain_of old.chain) old.mempool.waiting.txs followers) → IsReached network (held_of network.genesis network.opened (blocks_of new.store) (chain_of new.chain) new.mempool.waiting.txs followers)
 reached_still network old new followers chain store mempool =
     subst (IsReached network) (λ i. held_of network.genesis network.opened (blocks_of (sym store i)) (sym chain i) ((sym mempool i).waiting.txs) followers)
 

@@ -1,26 +1,30 @@
 -- From what is found among the blocks to the first refusal that applies.
-use Rattle.std.proofs.Common.{◌≡◌, ℕ, ◌<◌, ◌≤◌, ◌↔◌, List, length, Contains, refl, sym, ap, subst, ◌∙◌, arith, inl, inr, ◌⊎◌, lit<}
+use Rattle.std.proofs.Common.{◌≡◌, ℕ, ◌<◌, ◌≤◌, ◌↔◌, ◌^◌, List, [], ◌∷◌, ◌++◌, length, Contains, refl, sym, ap, subst, ◌∙◌, arith, inl, inr, ◌⊎◌, lit<, append_assoc}
 use Rattle.std.specs.Prelude.{Any, Some, None}
 use Rattle.block.specs.declared.fault.BadBytes.{BadBytes}
 use Rattle.block.specs.declared.fault.BadBytes.TheVariants as bad
 use Rattle.block.specs.Read.{IsRead, IsBadBytes}
 use Rattle.model.specs.Limits.{block_size_limit}
-use Rattle.model.specs.Block.{Block, SpellsBlock, block_hash_of, block_text, body_hash_of}
+use Rattle.model.specs.Block.{Block, SpellsBlock, block_hash_of, block_text, body_hash_of, item_of_previous, item_of_transactions}
+use Rattle.model.specs.Cbor.{Unsigned, Bytes, head, items_of, items_text}
 use Rattle.model.specs.Ledger.{Network}
-use Rattle.model.specs.Chain.{immutable_length}
+use Rattle.model.specs.Chain.{immutable_length, immutable_part}
 use Rattle.model.specs.History.{State, Refusal, TooLarge, Malformed, BodyHashMismatch, TooOld, Known, Clash, VolatileFull, refusal_number, Applies, IsRefused}
 use Rattle.model.proofs.First.{NoneBelow, none_below_next, none_at_all, one_number}
 use Rattle.model.proofs.BlockTexts.{one_block, block_text_is}
+use Rattle.model.proofs.HeadLemmas.{same_heads}
 use Rattle.model.proofs.Chains.{one_with_hash}
 use Rattle.model.proofs.MappedLists.{contains_map}
 use Rattle.blockstore.specs.Stored.{Stored, Store, HasBlock, IsSet, blocks_of}
 use Rattle.blockstore.specs.Insertion.{IsKnown, IsClash, IsFull}
 use Rattle.blockstore.specs.Answers.{HasNoneAt, IsAt}
 use Rattle.blockstore.proofs.ForCallers.{HoldsState, IsChainClash, known_over, clash_over, full_over}
+use Rattle.chain.specs.Chained.{chain_of}
 use Rattle.chain_core.specs.declared.chain_db.ChainDb.{ChainDb}
 use Rattle.chain_core.specs.ChainDbs.{IsWhole, HasState}
 use Rattle.chain_core.specs.Views.{refusal_of, bad_refusal}
-use Rattle.chain_core.specs.Judgements.{IsClashWith, IsFirstRefusal}
+use Rattle.chain_core.specs.Judgements.{IsFirstRefusal}
+use Rattle.chain_core.proofs.PastHashes.{past_number, past_on_chain, past_without_live}
 
 pub refused_by : (network : Network) (s : State) (bytes : List ℕ) (r : Refusal) → NoneBelow refusal_number (Applies network s bytes) (refusal_number r) → Applies network s bytes r → IsRefused network s bytes r
 refused_by network s bytes r below applies = record { applies = applies; first = below }
@@ -81,23 +85,23 @@ old_applies network s b bytes read = (
 module _ {S : Type 0} (network : Network) (a : ChainDb S) (s : State) (whole : IsWhole network a) (has : HasState network a s) (b : Block) where
   -- the number is past the immutable part
   abbrev IsYoung : Type 0
-  IsYoung = immutable_length network a.chain.items < b.header.number
+  IsYoung = immutable_length network (chain_of a.chain) < b.header.number
 
   -- the state's live blocks are held, as many as may be
   holds : HoldsState network s a.store
   holds = record { live = has.live; capacity = whole.capacity; distinct = whole.settled.distinct }
 
-  at_chain : (n : ℕ) → n ≡ immutable_length network a.chain.items → n ≡ immutable_length network s.chain
+  at_chain : (n : ℕ) → n ≡ immutable_length network (chain_of a.chain) → n ≡ immutable_length network s.chain
   at_chain n is = is ∙ ap (immutable_length network) has.chain
 
-  pub judged_old : (n : ℕ) → n ≡ immutable_length network a.chain.items → b.header.number ≤ n → IsFirstRefusal network s b (Some TooOld)
+  pub judged_old : (n : ℕ) → n ≡ immutable_length network (chain_of a.chain) → b.header.number ≤ n → IsFirstRefusal network s b (Some TooOld)
   judged_old n is old bytes read =
       refused_by network s bytes TooOld (none_of_reading network s b bytes read) ((old_applies network s b bytes read).1 (let e = at_chain n is in omega (arith, e, old)))
 
   below_known : IsYoung → (bytes : List ℕ) → IsRead b bytes → NoneBelow refusal_number (Applies network s bytes) 5
   below_known young bytes read =
       none_below_next refusal_number (Applies network s bytes) one_number TooOld (none_of_reading network s b bytes read)
-      (λ applies. let le = (old_applies network s b bytes read).0 applies in let e = at_chain (immutable_length network a.chain.items) refl in omega (arith, le, e, young))
+      (λ applies. let le = (old_applies network s b bytes read).0 applies in let e = at_chain (immutable_length network (chain_of a.chain)) refl in omega (arith, le, e, young))
 
   pub judged_known : IsYoung → IsKnown a.store b → IsFirstRefusal network s b (Some Known)
   judged_known young known bytes read =
@@ -148,17 +152,46 @@ other_at store b found hash is_set one at is other =
 pub none_at : (store : Store) (b : Block) (hash : List ℕ) → IsKnown store b ↔ HasBlock store b → HasNoneAt store hash → hash ≡ block_hash_of b → (IsKnown store b → ⊥) × (IsClash store b → ⊥)
 none_at store b hash one none is = ((λ known. none b (one.0 known) (sym is)), (λ clash. none clash.0 clash.1 (clash.2 ∙ sym is)))
 
--- a block of the chain has the hash and another text
-pub clash_in : (s : State) (b : Block) (hash bytes : List ℕ) (shown : List Block) → shown ≡ s.chain → IsRead b bytes → hash ≡ block_hash_of b → Any (λ c. IsClashWith hash bytes c) shown ↔ IsChainClash s b
-clash_in s b hash bytes shown same read is = (to, back)
+-- ---- blocks with equal texts have one number
+
+same_numbers : (n k : ℕ) (m1 m2 r1 r2 : List ℕ) → n < 2 ^ 64 → k < 2 ^ 64 → head 4 2 ++ ((head 4 4 ++ (head 0 n ++ m1)) ++ r1) ≡ head 4 2 ++ ((head 4 4 ++ (head 0 k ++ m2)) ++ r2) → n ≡ k
+same_numbers n k m1 m2 r1 r2 ln lk e =
+    let two = same_heads 4 4 2 2 ((head 4 4 ++ (head 0 n ++ m1)) ++ r1) ((head 4 4 ++ (head 0 k ++ m2)) ++ r2) (lit< tt) (lit< tt) e in
+    let four = same_heads 4 4 4 4 ((head 0 n ++ m1) ++ r1) ((head 0 k ++ m2) ++ r2) (lit< tt) (lit< tt) (sym (append_assoc (head 4 4) (head 0 n ++ m1) r1) ∙ two.rest ∙ append_assoc (head 4 4) (head 0 k ++ m2) r2) in
+    let number = same_heads 0 0 n k (m1 ++ r1) (m2 ++ r2) ln lk (sym (append_assoc (head 0 n) m1 r1) ∙ four.rest ∙ append_assoc (head 0 k) m2 r2) in
+    number.argument
+
+-- what follows the number in the text of a header
+abbrev after_number : Block → List ℕ
+after_number c = items_text (items_of (Unsigned c.header.slot ∷ item_of_previous c.header.previous ∷ Bytes c.header.body_hash ∷ []))
+
+text_number : (c b : Block) → c.header.number < 2 ^ 64 → b.header.number < 2 ^ 64 → block_text c ≡ block_text b → c.header.number ≡ b.header.number
+unfolding block_text
+text_number c b lc lb e =
+    same_numbers c.header.number b.header.number (after_number c) (after_number b) (items_text (items_of (item_of_transactions c.transactions ∷ []))) (items_text (items_of (item_of_transactions b.transactions ∷ []))) lc lb e
+
+-- A block that is never rolled back, which has the hash of one past it, has another text, since it has another number.
+-- Where no live block has the hash, no other block of the chain has it.
+pub clash_past : {S : Type 0} (network : Network) (a : ChainDb S) (s : State) → IsWhole network a → HasState network a s → (b : Block) → immutable_length network (chain_of a.chain) < b.header.number → (hash bytes : List ℕ) → IsRead b bytes → hash ≡ block_hash_of b → HasNoneAt a.store hash
+    → Any (λ c. block_hash_of c ≡ hash) (immutable_part network (chain_of a.chain)) ↔ IsChainClash s b
+clash_past network a s whole has b young hash bytes read is none = (to, back)
   where
-    text : block_text b ≡ bytes
-    text = block_text_is b bytes read.read
+    to : Any (λ c. block_hash_of c ≡ hash) (immutable_part network (chain_of a.chain)) → IsChainClash s b
+    to any =
+        let c : Block = any.1 in
+        let first : Contains (immutable_part network (chain_of a.chain)) c = (any.0, any.2, any.3) in
+        let low = past_number network a whole c first in
+        let limit = read.read.shape.header.number in (
+          c,
+          subst (λ (bs : List Block). Contains bs c) has.chain (past_on_chain network a c first),
+          any.4 ∙ is,
+          λ texts.
+              let same = text_number c b (omega (arith, low, young, limit)) (omega (arith, limit)) texts in
+              omega (arith, same, low, young),
+        )
 
-    to : Any (λ c. IsClashWith hash bytes c) shown → IsChainClash s b
-    to any = (any.1, subst (λ (bs : List Block). Contains bs any.1) same (any.0, any.2, any.3), any.4.0 ∙ is, λ texts. any.4.1 (texts ∙ text))
-
-    back : IsChainClash s b → Any (λ c. IsClashWith hash bytes c) shown
+    back : IsChainClash s b → Any (λ c. block_hash_of c ≡ hash) (immutable_part network (chain_of a.chain))
     back clash =
-        let there : Contains shown clash.0 = subst (λ (bs : List Block). Contains bs clash.0) (sym same) clash.1 in
-        (there.0, clash.0, there.1, there.2, (clash.2 ∙ sym is, λ texts. clash.3 (texts ∙ sym text)))
+        let there : Contains (chain_of a.chain) clash.0 = subst (λ (bs : List Block). Contains bs clash.0) (sym has.chain) clash.1 in
+        let first = past_without_live network a whole hash none clash.0 there (clash.2 ∙ sym is) in
+        (first.0, clash.0, first.1, first.2, clash.2 ∙ sym is)

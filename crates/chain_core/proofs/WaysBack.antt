@@ -21,6 +21,7 @@ use Rattle.ledger.specs.declared.block_fault.ApplyFault.TheVariants.{Refused}
 use Rattle.ledgerdb.specs.Faults.{StopsOnChain}
 use Rattle.ledgerdb.specs.Values.{depth}
 use Rattle.ledgerdb.specs.Chains.{without_last}
+use Rattle.chain.specs.Chained.{chain_of}
 use Rattle.chain_core.specs.declared.chain_db.ChainDb.{ChainDb}
 use Rattle.chain_core.specs.ChainDbs.{IsWhole, HasState}
 use Rattle.chain_core.specs.Numbers.{block_numbered}
@@ -81,8 +82,8 @@ none_other_live store hash found b block at named refused distinct live follows 
     refused (subst (λ (c : Block). Follows (tip_at c) block) same follows)
 
 module _ {S : Type 0} (network : Network) (a : ChainDb S) (s : State) (whole : IsWhole network a) (has : HasState network a s) (b : Block)
-    (not_on : IsLinked genesis_tip a.chain.items → (keep : ℕ) → keep ≤ length a.chain.items → Follows (tip_after genesis_tip (take keep a.chain.items)) b → ⊥) where
-  none_kept : (keep : ℕ) → keep ≤ length a.chain.items → Follows (tip_after genesis_tip (take keep a.chain.items)) b → ⊥
+    (not_on : IsLinked genesis_tip (chain_of a.chain) → (keep : ℕ) → keep ≤ length (chain_of a.chain) → Follows (tip_after genesis_tip (take keep (chain_of a.chain))) b → ⊥) where
+  none_kept : (keep : ℕ) → keep ≤ length (chain_of a.chain) → Follows (tip_after genesis_tip (take keep (chain_of a.chain))) b → ⊥
   none_kept = not_on (whole_linked network a whole)
 
   -- a live block that it follows isn't on the chain
@@ -90,7 +91,7 @@ module _ {S : Type 0} (network : Network) (a : ChainDb S) (s : State) (whole : I
   beside c live follows = record {
     live = live_there network a s has c live;
     apart = λ member.
-        let there = follows_beginning a.chain.items c b (whole_linked network a whole) (subst (λ (bs : List Block). Contains bs c) (sym has.chain) member) follows in
+        let there = follows_beginning (chain_of a.chain) c b (whole_linked network a whole) (subst (λ (bs : List Block). Contains bs c) (sym has.chain) member) follows in
         none_kept c.header.number there.0 there.1;
   }
 
@@ -101,7 +102,7 @@ module _ {S : Type 0} (network : Network) (a : ChainDb S) (s : State) (whole : I
       names = names;
       not_first = λ follows. none_kept 0 (omega arith) follows;
       no_chain = all_from_members (λ (c : Block). Follows (tip_at c) b → ⊥) s.chain (λ c member follows.
-          let there = follows_beginning a.chain.items c b (whole_linked network a whole) (subst (λ (bs : List Block). Contains bs c) (sym has.chain) member) follows in
+          let there = follows_beginning (chain_of a.chain) c b (whole_linked network a whole) (subst (λ (bs : List Block). Contains bs c) (sym has.chain) member) follows in
           none_kept c.header.number there.0 there.1);
       no_live = all_from_members (λ (c : Block). Follows (tip_at c) b → ⊥) (live_of network s) (λ c member follows. none whole.settled.distinct c ((has.live.members c).1 member) follows);
     }
@@ -109,38 +110,38 @@ module _ {S : Type 0} (network : Network) (a : ChainDb S) (s : State) (whole : I
 -- ---- a way that is let through
 
 -- a live block hangs on no beginning of the chain that is shorter than the part that is never rolled back
-pub keep_past : {S : Type 0} (network : Network) (a : ChainDb S) (s : State) → IsWhole network a → HasState network a s → (b : Block) (keep : ℕ) → Contains (live_of network s) b → HangsOn s keep b → immutable_length network a.chain.items ≤ keep
+pub keep_past : {S : Type 0} (network : Network) (a : ChainDb S) (s : State) → IsWhole network a → HasState network a s → (b : Block) (keep : ℕ) → Contains (live_of network s) b → HangsOn s keep b → immutable_length network (chain_of a.chain) ≤ keep
 keep_past network a s whole has b keep live hangs =
     let linked : IsLinked genesis_tip s.chain = subst (IsLinked genesis_tip) has.chain (whole_linked network a whole) in
     let past = hangs_past network s b keep linked live hangs in
-    let same : immutable_length network a.chain.items ≡ immutable_length network s.chain = ap (immutable_length network) has.chain in
+    let same : immutable_length network (chain_of a.chain) ≡ immutable_length network s.chain = ap (immutable_length network) has.chain in
     omega (arith, past, same)
 
 -- NOTHING ELSE: where all of a way is let through behind the chain, the chain with it isn't longer
-pub not_longer : {S : Type 0} (network : Network) (a : ChainDb S) (s : State) → IsWhole network a → HasState network a s → (keep : ℕ) (way : List Block) → keep ≤ length s.chain → immutable_length network a.chain.items ≤ keep
+pub not_longer : {S : Type 0} (network : Network) (a : ChainDb S) (s : State) → IsWhole network a → HasState network a s → (keep : ℕ) (way : List Block) → keep ≤ length s.chain → immutable_length network (chain_of a.chain) ≤ keep
     → AllByRecursion (IsBeside network s) way → IsValidChain network (take keep s.chain ++ way) → IsNotLonger network s.chain (take keep s.chain) way
 not_longer network a s whole has keep way within low beside valid = record {
   valid = valid;
   not_longer = subst (λ (bs : List Block). length (take keep s.chain ++ way) ≤ length bs) has.chain (whole.settled.longest (take keep s.chain ++ way) (record {
     valid = valid;
     members = all_append (Contains all) (take keep s.chain) way
-        (all_take (Contains all) keep s.chain (all_from_members (Contains all) s.chain (λ b member. Contains-append_right (blocks_of a.store) a.chain.items b (subst (λ (bs : List Block). Contains bs b) (sym has.chain) member))))
-        (all_weaker (IsBeside network s) (Contains all) way (λ b is. Contains-append_left (blocks_of a.store) a.chain.items b ((has.live.members b).1 is.live)) beside);
+        (all_take (Contains all) keep s.chain (all_from_members (Contains all) s.chain (λ b member. Contains-append_right (blocks_of a.store) (chain_of a.chain) b (subst (λ (bs : List Block). Contains bs b) (sym has.chain) member))))
+        (all_weaker (IsBeside network s) (Contains all) way (λ b is. Contains-append_left (blocks_of a.store) (chain_of a.chain) b ((has.live.members b).1 is.live)) beside);
     begins = begins;
   }));
 }
   where
     all : List Block
-    all = blocks_of a.store ++ a.chain.items
+    all = blocks_of a.store ++ (chain_of a.chain)
 
     part : List Block
-    part = immutable_part network a.chain.items
+    part = immutable_part network (chain_of a.chain)
 
     begins : BeginsWith (take keep s.chain ++ way) part
     begins =
-        let n = immutable_length network a.chain.items in
+        let n = immutable_length network (chain_of a.chain) in
         let kept : n ≤ length (take keep s.chain) = omega (arith, low, within, length-take keep s.chain) in
-        ap (λ (m : ℕ). take m (take keep s.chain ++ way)) (length_immutable network a.chain.items)
+        ap (λ (m : ℕ). take m (take keep s.chain ++ way)) (length_immutable network (chain_of a.chain))
         ∙ (take-append-le n (take keep s.chain) way kept ∙ (take-take n keep s.chain low ∙ ap (take n) (sym has.chain)))
 
 -- ---- the judgement of a way
@@ -189,7 +190,7 @@ pub apart_alone : (network : Network) (s : State) (b : Block) → Contains (live
 apart_alone network s b live none = record { live = live; apart = λ member. all_of_member (λ (c : Block). block_hash_of c ≢ block_hash_of b) s.chain b none member refl }
 
 -- a way that hangs on the chain can be judged on the states that the database has
-pub way_keeps : {S : Type 0} (network : Network) (a : ChainDb S) → IsWhole network a → (hash : List ℕ) (blocks : List Block) (keep : ℕ) → IsWayTo network (at_rest a) hash blocks (footing.Chain keep) → (keep ≤ length a.chain.items) × (length a.chain.items - keep ≤ depth a.db)
+pub way_keeps : {S : Type 0} (network : Network) (a : ChainDb S) → IsWhole network a → (hash : List ℕ) (blocks : List Block) (keep : ℕ) → IsWayTo network (at_rest a) hash blocks (footing.Chain keep) → (keep ≤ length (chain_of a.chain)) × (length (chain_of a.chain) - keep ≤ depth a.db)
 way_keeps network a whole hash blocks keep is =
     let low = keep_past network a (at_rest a) whole (rests network a whole) is.0.first keep is.0.beside.0.live is.2 in
     let d = whole.settled.depth in
@@ -216,11 +217,11 @@ why_judged network a s whole has hash blocks keep (why.Misfit first) is judged =
 
 module _ {S : Type 0} (network : Network) (a : ChainDb S) (s : State) (has : HasState network a s) (hash : List ℕ) where
   -- a block of the chain has the hash
-  pub selected_is : (b : Block) → Contains a.chain.items b → block_hash_of b ≡ hash → (number : ℕ) × HasBlockOf s.chain hash number
+  pub selected_is : (b : Block) → Contains (chain_of a.chain) b → block_hash_of b ≡ hash → (number : ℕ) × HasBlockOf s.chain hash number
   selected_is b member same = (b.header.number, record { block = b; member = chain_there network a s has b member; hash_is = same; number_is = refl })
 
   -- a live one has it, and none of the chain
-  pub beside_is : (found : Stored) → IsAt a.store hash found → NoneHas a.chain.items hash → (number : ℕ) × IsPlaceOf network s hash (Beside number)
+  pub beside_is : (found : Stored) → IsAt a.store hash found → NoneHas (chain_of a.chain) hash → (number : ℕ) × IsPlaceOf network s hash (Beside number)
   beside_is found at none = (
     found.block.header.number,
     (
@@ -230,7 +231,7 @@ module _ {S : Type 0} (network : Network) (a : ChainDb S) (s : State) (has : Has
   )
 
   -- a live block of the hash is the one from which its way back leads
-  pub way_at : (found : Stored) (block : Block) → IsAt a.store hash found → block ≡ found.block → NoneHas a.chain.items hash → (blocks : List Block) (footing : Footing)
+  pub way_at : (found : Stored) (block : Block) → IsAt a.store hash found → block ≡ found.block → NoneHas (chain_of a.chain) hash → (blocks : List Block) (footing : Footing)
       → (HasBlock a.store block → NoneHas s.chain (block_hash_of block) → IsWayTo network s (block_hash_of block) blocks footing) → IsWayTo network s hash blocks footing
   way_at found block at is none blocks footing way =
       let same : block_hash_of block ≡ hash = ap block_hash_of is ∙ at.same in

@@ -1,12 +1,11 @@
 -- The selected chain with what selection stands on, and what becomes of them when a block is kept.
 use Rattle.std.specs.Prelude.{◌≡◌, ◌↔◌, ◌⊎◌, ℕ, ◌+◌, ◌-◌, min, true, List, [], ◌∷◌, ◌++◌, length, take, Contains}
 use Rattle.std.specs.Prelude.{Option, Some}
-use Rattle.std.specs.List.{AllByRecursion}
 use Rattle.model.specs.Block.{Block, block_hash_of}
 use Rattle.model.specs.Genesis.{Genesis}
 use Rattle.model.specs.Signature.{Verifies}
 use Rattle.model.specs.Ledger.{Network, network_on}
-use Rattle.model.specs.Chain.{genesis_tip, tip_after, immutable_part}
+use Rattle.model.specs.Chain.{genesis_tip, tip_after, immutable_length}
 use Rattle.model.specs.Applying.{LedgerState}
 use Rattle.model.specs.Mempool.{SubmitReply, revalidated, Submits}
 use Rattle.model.specs.History.{State, IsChange, HasBeside, without_hash}
@@ -19,40 +18,46 @@ use Rattle.ledgerdb.specs.Values.{Database, Prepared, depth, count, latest}
 use Rattle.ledgerdb.specs.Chains.{without_last, IsDatabaseOf, IsPreparedOf}
 use Rattle.chainsel.specs.Ready.{IsSettled}
 use Rattle.chainsel.specs.Choices.{IsSelected}
+use Rattle.chain.specs.Chained.{chain_of}
+use Rattle.chain.specs.Indexed.{first_hashes}
 use Rattle.chain_core.specs.Mempools.{IsMempoolOf}
-use Rattle.chain_core.specs.PastHashes.{IsBlockNotedIn}
 use Rattle.chain_core.specs.declared.chain_db.ChainDb.{ChainDb}
 use Rattle.chain_core.specs.declared.chain_db.Change.{Change}
 
 -- Between two arrivals: settled, with the limits of the genesis, the mempool beside the chain, and how many blocks it
--- was opened on. Under the hash of each block that is never rolled back stands the number of one of these of that hash.
+-- was opened on. All blocks of the chain are in memory. Those that are never rolled back are indexed, and no others, so
+-- that no block that is indexed is ever rolled back.
 pub record IsWhole {S : Type 0} (network : Network) (a : ChainDb S) : Type 0 where
-  pub settled : IsSettled network a.chain.items a.store a.db
+  pub gone : a.chain.gone ≡ []
+  pub settled : IsSettled network (chain_of a.chain) a.store a.db
   pub k : a.db.k ≡ network.genesis.k
   pub capacity : a.store.capacity ≡ capacity_of network.genesis
-  pub mempool : IsMempoolOf network a.chain.items a.mempool
-  pub past : AllByRecursion (IsBlockNotedIn a.past (immutable_part network a.chain.items))
-      (immutable_part network a.chain.items)
+  pub mempool : IsMempoolOf network (chain_of a.chain) a.mempool
+  pub past : a.past.hashes ≡ first_hashes (immutable_length network (chain_of a.chain)) (chain_of a.chain)
   pub opened : a.opened ≡ length network.opened
+
+-- the blocks that are indexed are the first ones of the chain
+abbrev pub IsIndexed : {S : Type 0} → ChainDb S → Type 0
+IsIndexed a = a.past.hashes ≡ first_hashes (length a.past.hashes) (chain_of a.chain)
 
 -- what it begins from, under a genesis and a scheme of signatures
 abbrev pub network_db : {S : Type 0} → Genesis → Verifies → ChainDb S → Network
-network_db genesis verifies a = network_on genesis verifies (take a.opened a.chain.items)
+network_db genesis verifies a = network_on genesis verifies (take a.opened (chain_of a.chain))
 
 -- the state has this chain, and its live blocks are those of the store
 pub record HasState {S : Type 0} (network : Network) (a : ChainDb S) (s : State) : Type 0 where
-  pub chain : a.chain.items ≡ s.chain
+  pub chain : (chain_of a.chain) ≡ s.chain
   pub live : HoldsLive network s.kept s.chain a.store
 
 -- A block was kept, and the selection rule asked. Where the store had what was live of the kept blocks, it then has
 -- what is live of these and this one. The mempool was brought up to date.
 pub record IsAdded {S : Type 0} (network : Network) (old : ChainDb S) (block : Block) (new : ChainDb S)
     (counts : Change) : Type 0 where
-  pub selected : IsSelected network old.store old.chain.items block new.chain.items
-  pub change : IsChange old.chain.items new.chain.items counts.back counts.added
-  pub live : (kept : List Block) → HoldsLive network kept old.chain.items old.store
-      → HoldsLive network (block ∷ kept) new.chain.items new.store
-  pub mempool : new.mempool.waiting.txs ≡ revalidated network new.chain.items old.mempool.waiting.txs
+  pub selected : IsSelected network old.store (chain_of old.chain) block (chain_of new.chain)
+  pub change : IsChange (chain_of old.chain) (chain_of new.chain) counts.back counts.added
+  pub live : (kept : List Block) → HoldsLive network kept (chain_of old.chain) old.store
+      → HoldsLive network (block ∷ kept) (chain_of new.chain) new.store
+  pub mempool : new.mempool.waiting.txs ≡ revalidated network (chain_of new.chain) old.mempool.waiting.txs
   pub whole : IsWhole network new
 
 -- the block of this hash, which was beside the chain of the state, is kept no more
@@ -104,5 +109,5 @@ IsBeside old side new =
 -- bytes of a transaction were submitted and answered so
 pub record IsTaken {S : Type 0} (network : Network) (old : ChainDb S) (bytes : List ℕ) (reply : SubmitReply)
     (new : ChainDb S) : Type 0 where
-  pub submits : Submits network old.chain.items old.mempool.waiting.txs bytes reply new.mempool.waiting.txs
+  pub submits : Submits network (chain_of old.chain) old.mempool.waiting.txs bytes reply new.mempool.waiting.txs
   pub whole : IsWhole network new

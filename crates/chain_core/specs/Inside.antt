@@ -3,6 +3,7 @@ use Rattle.model.specs.Signature.{Verifies}
 use Rattle.std.specs.Prelude.{take}
 use Rattle.model.specs.Chain.{IsOpening}
 use Rattle.blockstore.specs.Stored.{blocks_of}
+use Rattle.chain.specs.Chained.{chain_of}
 use Rattle.chain_core.specs.declared.node_core.Core.TheInside.{Inside}
 use Rattle.chain_core.specs.ChainDbs.{IsWhole}
 use Rattle.chain_core.specs.Held.{Held, held_of, network_held}
@@ -10,8 +11,8 @@ use Rattle.chain_core.specs.Steps.{IsReached}
 
 abbrev pub held : {S : Type 0} → Inside S → Held
 held a =
-    held_of a.genesis (take a.chain_db.opened a.chain_db.chain.items) (blocks_of a.chain_db.store)
-    a.chain_db.chain.items a.chain_db.mempool.waiting.txs a.followers
+    held_of a.genesis (take a.chain_db.opened (chain_of a.chain_db.chain)) (blocks_of a.chain_db.store)
+    (chain_of a.chain_db.chain) a.chain_db.mempool.waiting.txs a.followers
 
 -- the selected chain, the live blocks, the states and the mempool belong together, and a legal history leads to what
 -- is held

@@ -1,14 +1,10 @@
 -- What the core says of a block that was read: a refusal, the first one that applies, or none.
-use Rattle.std.specs.Prelude.{◌≡◌, ◌≢◌, ℕ, List, Option, MatchOption}
+use Rattle.std.specs.Prelude.{◌≡◌, ℕ, List, Option, MatchOption}
 use Rattle.ident.specs.declared.point.Point.{Point}
 use Rattle.block.specs.Read.{IsRead}
-use Rattle.model.specs.Block.{Block, block_hash_of, block_text}
+use Rattle.model.specs.Block.{Block, block_hash_of}
 use Rattle.model.specs.Ledger.{Network}
 use Rattle.model.specs.History.{State, Refusal, Applies, IsRefused}
-
--- this hash, and another text than these bytes
-abbrev pub IsClashWith : List ℕ → List ℕ → Block → Type 0
-IsClashWith hash bytes c = (block_hash_of c ≡ hash) × (block_text c ≢ bytes)
 
 -- the point has the number and the hash of the block
 abbrev pub IsPointOf : Point → Block → Type 0

@@ -9,7 +9,6 @@ pub mod ForgedBlocks
 pub mod Inside
 pub mod FollowerCalls
 pub mod Calls
-pub mod PastHashes
 pub mod Numbers
 pub mod Immutable
 pub mod Reopening

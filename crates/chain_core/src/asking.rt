@@ -31,7 +31,7 @@ use witness_pool::SigScheme;
 
 impl<S: SigScheme> Core<S> {
     /// Where the block with this hash is: on the selected chain, beside it, or nowhere. A look-up or two, whose time
-    /// grows with the logarithm of how many blocks there are; takes no memory.
+    /// grows with the logarithm of how many blocks there are, where their hashes look random; takes no memory.
     ///
     /// ```text
     /// match core.place(hash) {
@@ -70,7 +70,7 @@ impl<S: SigScheme> Core<S> {
     pub fn blocks(&self, from: u64) -> Iter<'_, CheckedBlock<S>>
         ensures { iter_rest result ≡ drop (from - 1) self.now.chain }
     {
-        blocks_from(&self.chain_db.chain, from)
+        blocks_from(self.chain_db.in_memory(), from)
     }
 
     /// Where the transaction with this identifier stands: at its position in the mempool, or else in the last of the

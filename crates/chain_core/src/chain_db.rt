@@ -1,12 +1,12 @@
 //! The selected chain with what selection stands on.
 
-ghost use Rattle.std.specs.Prelude.{◌≡◌, ◌≤◌, ◌<◌, ◌+◌, ◌-◌, ◌^◌, ◌++◌, [], List, ℕ, length, take, IfOk, OnOk, OnErr};
-ghost use Rattle.std.specs.Prelude.{◌≢◌, IsTrue, false, vec_capacity};
+ghost use Rattle.std.specs.Prelude.{◌≡◌, ◌≤◌, ◌+◌, ◌-◌, ◌++◌, [], List, ℕ, length, IfOk, OnOk, OnErr};
+ghost use Rattle.std.specs.Prelude.{◌≢◌, IsTrue, false, drop, min, max};
 ghost use Rattle.std.specs.List.{AllByRecursion};
 ghost use Rattle.std.specs.Option.{option_map};
 ghost use Rattle.model.specs.Genesis.{Genesis};
 ghost use Rattle.model.specs.Cbor.{text_of};
-ghost use Rattle.model.specs.Transaction.{Transaction, SpellsTransaction, item_of_transaction};
+ghost use Rattle.model.specs.Transaction.{SpellsTransaction, item_of_transaction};
 ghost use Rattle.utxo_rules.specs.DetailView.{detail_of};
 ghost use Rattle.mempool.specs.Calls.{IsWantAtSubmission};
 ghost use Rattle.mempool.specs.View.{reply_of, evaluation_of};
@@ -20,26 +20,26 @@ ghost use Rattle.model.specs.Evaluating.{IsEvaluation};
 ghost use Rattle.blockstore.specs.Stored.{IsSet, blocks_of};
 ghost use Rattle.blockstore.specs.Insertion.{IsFull};
 ghost use Rattle.chainsel.specs.Ready.{IsReady};
-ghost use Rattle.ledgerdb.specs.Values.{depth};
+ghost use Rattle.ledgerdb.specs.Values.{depth, count};
 ghost use Rattle.ledgerdb.specs.Chains.{without_last, IsDatabaseOf, IsPreparedOf};
+ghost use Rattle.chain.specs.Chained.{chain_of};
+ghost use Rattle.chain.specs.Indexed.{first_hashes};
 ghost use Rattle.chain_core.specs.ChainDbs.{IsWhole, IsAdded, AreMarked, IsTakenIn, IsCutBack, IsCommitted};
-ghost use Rattle.chain_core.specs.ChainDbs.{IsBeside, IsTaken, IsDiscarded, HasState, network_db};
-ghost use Rattle.chain_core.specs.PastHashes.{KeepsNotes, AreNotedAtSwitch};
+ghost use Rattle.chain_core.specs.ChainDbs.{IsBeside, IsTaken, IsDiscarded, HasState, IsIndexed, network_db};
 ghost use Rattle.chain_core.specs.Mempools.{IsResynced, IsWantOf};
 
 use crate::finding::{Place, place_in};
-use crate::past::{Bytes, note_all};
 use crate::reopening::OpenedChain;
 use block::{CheckedBlock, Tip};
 use blockstore::{BlockStore, Capacity, InsertFault, LiveBlock};
-use chainsel::{Choice, Selection, Switch, chain_tip, select};
+use chain::{Chain, HashIndex};
+use chainsel::{Choice, Selection, Switch, select};
 use genesis::Genesis;
 use ident::BlockHash;
 use ledger::LedgerState;
 use ledgerdb::LedgerDb;
 use mempool::{Evaluation, Mempool, Resynced, SubmitReply};
 use std::alloc::{AllocError, Global};
-use std::collections::BTreeMap;
 use utxo_rules::Detail;
 use witness_pool::{CheckedTx, SigScheme};
 
@@ -50,16 +50,16 @@ pub struct Change {
     pub added: u64,
 }
 
-/// The selected chain, the live blocks, the states of the chain's last blocks, the mempool beside it, and the numbers
-/// of the blocks that are never rolled back, by their hashes: with those of the live blocks they are all by which a
-/// block can clash. Where memory ran out, numbers of other blocks may be there too.
+/// The selected chain, the live blocks, the states of the chain's last blocks, the mempool beside it, and the index of
+/// the blocks that are never rolled back, by their hashes. A new block can clash only with one of these or a live one.
+/// No other block is indexed, so nothing ever has to be taken out of the index.
 #[derive(Drop)]
 pub struct ChainDb<S: SigScheme> {
-    pub chain: Vec<CheckedBlock<S>>,
+    pub chain: Chain<S>,
     pub store: BlockStore<S>,
     pub db: LedgerDb,
     pub mempool: Mempool<S>,
-    pub past: BTreeMap<Bytes, u64>,
+    pub past: HashIndex,
     /// How many blocks the chain had at first.
     pub opened: usize,
 }
@@ -87,7 +87,7 @@ fn hold_all<S: SigScheme>(store: &mut BlockStore<S>, read: &[CheckedBlock<S>])
 
 impl<S: SigScheme> ChainDb<S> {
     /// On a chain with its state, before anything else is kept: none of its blocks is ever rolled back. Err where
-    /// memory runs out. Notes the number of each block by its hash.
+    /// memory runs out. Indexes each block by its hash.
     pub fn open(
         alloc: Global,
         genesis: &Genesis,
@@ -97,22 +97,24 @@ impl<S: SigScheme> ChainDb<S> {
             IsStateOf (network_on genesis.now S.verifies opened) on.chain.items on.state }
         requires spelled { AllByRecursion (λ b. SpellsBlock b (block_text b)) on.chain.items }
         ensures opened { IfOk result (λ a. a.opened ≡ length on.chain.items) }
-        ensures chain { IfOk result (λ a. a.chain.items ≡ on.chain.items) }
+        ensures chain { IfOk result (λ a. chain_of a.chain ≡ on.chain.items) }
         ensures blocks { IfOk result (λ a. a.store.blocks ≡ []) }
         ensures mempool { IfOk result (λ a. a.mempool.waiting.txs ≡ []) }
         ensures whole { IfOk result (λ a. IsWhole (network_on genesis.now S.verifies on.chain.items) a) }
     {
         let OpenedChain { state, chain } = on;
         let mempool = Mempool::new(alloc, genesis.max_mempool(), state.utxo())?;
-        let mut past = BTreeMap::new(alloc);
-        note_all(&mut past, &chain[..0], &chain)?;
         let capacity = Capacity {
             blocks: genesis.max_volatile(),
             bytes: genesis.max_volatile_bytes(),
         };
-        let store = BlockStore::behind(alloc, capacity, chain_tip(&chain));
-        let db = LedgerDb::new(alloc, state, genesis.k());
         let opened = chain.len();
+        let chain = Chain::from_blocks(alloc, chain);
+        let mut past = HashIndex::new(alloc);
+        past.reserve(opened)?;
+        past.push_up_to(&chain, opened);
+        let store = BlockStore::behind(alloc, capacity, chain.tip());
+        let db = LedgerDb::new(alloc, state, genesis.k());
         Ok(ChainDb {
             chain,
             store,
@@ -123,11 +125,19 @@ impl<S: SigScheme> ChainDb<S> {
         })
     }
 
+    /// The blocks of the chain that are in memory: all, where none has left. In constant time; takes no memory.
+    pub fn in_memory(&self) -> &[CheckedBlock<S>]
+        ensures behind { result.now ≡ drop (length self.now.chain.gone) (chain_of self.now.chain) }
+        ensures all { self.now.chain.gone ≡ [] → result.now ≡ chain_of self.now.chain }
+    {
+        self.chain.resident_after(self.chain.gone_len())
+    }
+
     /// How many blocks of the chain are never rolled back. Takes no memory.
     pub fn immutable(&self) -> usize
-        ensures count { result ≡ length self.now.chain.items - depth self.now.db }
+        ensures count { result ≡ length (chain_of self.now.chain) - depth self.now.db }
         ensures immutable { (network : Network) → IsWhole network self.now
-            → result ≡ immutable_length network self.now.chain.items }
+            → result ≡ immutable_length network (chain_of self.now.chain) }
     {
         chainsel::immutable(&self.chain, &self.db)
     }
@@ -135,7 +145,7 @@ impl<S: SigScheme> ChainDb<S> {
     /// The state of the chain. Takes no memory.
     pub fn state(&self) -> &LedgerState
         ensures { (network : Network) → IsWhole network self.now
-            → IsStateOf network self.now.chain.items result.now }
+            → IsStateOf network (chain_of self.now.chain) result.now }
     {
         self.db.state()
     }
@@ -149,17 +159,17 @@ impl<S: SigScheme> ChainDb<S> {
         block: LiveBlock<S>,
     ) -> Result<Change, AllocError>
         requires whole { IsWhole (network_db genesis.now S.verifies self.old) self.old }
-        requires ready { IsReady (network_db genesis.now S.verifies self.old) self.old.chain.items
+        requires ready { IsReady (network_db genesis.now S.verifies self.old) (chain_of self.old.chain)
             self.old.store self.old.db block }
         requires room { IsFull self.old.store (length (block_text block)) → ⊥ }
         ensures ok { IfOk result (λ change.
             IsAdded (network_db genesis.now S.verifies self.old) self.old block self.new change) }
-        ensures chain { OnErr result (self.new.chain.items ≡ self.old.chain.items) }
+        ensures chain { OnErr result (chain_of self.new.chain ≡ chain_of self.old.chain) }
+        ensures gone { OnErr result (self.new.chain.gone ≡ self.old.chain.gone) }
         ensures store { OnErr result (self.new.store ≡ self.old.store) }
         ensures db { OnErr result (self.new.db ≡ self.old.db) }
         ensures mempool { OnErr result (self.new.mempool ≡ self.old.mempool) }
-        ensures past { KeepsNotes self.old.past self.new.past
-            (take (length self.old.chain.items - depth self.old.db) self.old.chain.items) }
+        ensures past { OnErr result (self.new.past.hashes ≡ self.old.past.hashes) }
         ensures opened { self.new.opened ≡ self.old.opened }
     {
         let Selection {
@@ -175,38 +185,35 @@ impl<S: SigScheme> ChainDb<S> {
                 Ok(Change { back: 0, added: 0 })
             }
             Choice::Switch(switch) => {
-                let resynced = self.make_ready(genesis.k(), &switch)?;
+                let resynced = self.make_ready(&switch)?;
                 self.insert(block, &invalid, &switch.blocks)?;
                 self.mempool.put(resynced);
-                self.switch_to(switch)
+                Ok(self.switch_to(switch))
             }
         }
     }
 
-    /// What stays of the mempool beside the chain that the switch makes, for which there is room then, and whose past
-    /// blocks are noted. Where memory runs out there may be more room, and some of them noted, which changes no answer.
-    fn make_ready(&mut self, k: u64, switch: &Switch<S>) -> Result<Resynced<S>, AllocError>
-        requires depth { switch.now.prepared.back ≤ depth self.old.db }
-        requires back { switch.now.back ≤ length self.old.chain.items }
+    /// What stays of the mempool beside the chain that the switch makes. Makes room for the new blocks in the chain and
+    /// in the index: no switch makes more blocks immutable than it puts on. Where memory runs out some of the room may
+    /// be there, which changes no answer.
+    fn make_ready(&mut self, switch: &Switch<S>) -> Result<Resynced<S>, AllocError>
+        requires { switch.now.prepared.back ≤ depth self.old.db }
         ensures resynced { IfOk result (λ resynced. (genesis : Genesis) (opened chain blocks : List Block) →
             IsDatabaseOf (network_on genesis S.verifies opened) chain self.old.db →
             IsPreparedOf (network_on genesis S.verifies opened) (without_last switch.now.prepared.back chain) blocks
             switch.now.prepared → IsResynced (network_on genesis S.verifies opened)
             (without_last switch.now.prepared.back chain ++ blocks) self.old.mempool.waiting.txs resynced) }
-        ensures room { OnOk result (length self.new.chain.items + length switch.now.blocks.items
-            ≤ vec_capacity self.new.chain) }
-        ensures kept { KeepsNotes self.old.past self.new.past
-            (take (length self.old.chain.items - depth self.old.db) self.old.chain.items) }
-        ensures noted { OnOk result (AreNotedAtSwitch self.old.past self.new.past
-            (take (length self.old.chain.items - depth self.old.db) self.old.chain.items)
-            (take (length self.old.chain.items - switch.now.back + length switch.now.blocks.items - k)
-            (without_last switch.now.back self.old.chain.items ++ switch.now.blocks.items))) }
-        ensures chain { self.new.chain.items ≡ self.old.chain.items }
+        ensures room { OnOk result
+            (length self.new.chain.resident + length switch.now.blocks.items ≤ self.new.chain.room) }
+        ensures past_room { OnOk result
+            (length self.new.past.hashes + length switch.now.blocks.items ≤ self.new.past.room) }
+        ensures past { self.new.past.hashes ≡ self.old.past.hashes }
+        ensures chain { self.new.chain ≡ record self.old.chain { room = self.new.chain.room } }
         ensures frame { self.new ≡ record self.old { chain = self.new.chain; past = self.new.past } }
     {
         let resynced = self.resync(switch)?;
         self.chain.reserve(switch.blocks.len())?;
-        self.note_past(k, switch)?;
+        self.past.reserve(switch.blocks.len())?;
         Ok(resynced)
     }
 
@@ -222,36 +229,6 @@ impl<S: SigScheme> ChainDb<S> {
         let state = self.db.state_after(&switch.prepared);
         self.mempool
             .resync(state.params(), state.utxo(), state.slot() + 1)
-    }
-
-    /// Notes the numbers of the blocks that the switch puts past the last `k` ones. Where memory runs out some of them
-    /// may be noted, which changes no answer.
-    fn note_past(&mut self, k: u64, switch: &Switch<S>) -> Result<(), AllocError>
-        requires back { switch.now.back ≤ length self.old.chain.items }
-        requires room { length self.old.chain.items + length switch.now.blocks.items < 2 ^ 64 }
-        ensures kept { KeepsNotes self.old.past self.new.past
-            (take (length self.old.chain.items - depth self.old.db) self.old.chain.items) }
-        ensures noted { OnOk result (AreNotedAtSwitch self.old.past self.new.past
-            (take (length self.old.chain.items - depth self.old.db) self.old.chain.items)
-            (take (length self.old.chain.items - switch.now.back + length switch.now.blocks.items - k)
-            (without_last switch.now.back self.old.chain.items ++ switch.now.blocks.items))) }
-        ensures frame { self.new ≡ record self.old { past = self.new.past } }
-    {
-        let stays = self.chain.len() - switch.back;
-        let past = (stays + switch.blocks.len()).saturating_sub(k as usize);
-        let (to, more) = (past.min(stays), past.saturating_sub(stays));
-        let immutable = self.immutable();
-        let from = immutable.min(to);
-        note_all(
-            &mut self.past,
-            &self.chain[..immutable],
-            &self.chain[from..to],
-        )?;
-        note_all(
-            &mut self.past,
-            &self.chain[..immutable],
-            &switch.blocks[..more],
-        )
     }
 
     /// Takes the block into the store, where nothing is said against it, marks the blocks of these hashes, and holds
@@ -291,45 +268,60 @@ impl<S: SigScheme> ChainDb<S> {
         }
     }
 
-    /// Rolls back and puts on what the switch says, for which there is room.
-    fn switch_to(&mut self, switch: Switch<S>) -> Result<Change, AllocError>
-        requires back { switch.back ≤ length self.old.chain.items }
+    /// Rolls back and puts on what the switch says, for which there is room; drops the live blocks that are then too
+    /// old, and indexes the blocks that became immutable.
+    fn switch_to(&mut self, switch: Switch<S>) -> Change
+        requires gone { self.old.chain.gone ≡ [] }
+        requires back { switch.back ≤ length (chain_of self.old.chain) }
         requires depth { switch.prepared.back ≤ depth self.old.db }
-        requires room { length self.old.chain.items + length switch.blocks.items ≤ vec_capacity self.old.chain }
-        ensures chain { OnOk result
-            (self.new.chain.items ≡ without_last switch.back self.old.chain.items ++ switch.blocks.items) }
-        ensures db { OnOk result (IsCommitted self.old.db switch.prepared self.new.db) }
-        ensures store { OnOk result (IsCutBack self.old.store self.new.chain.items
-            (length self.new.chain.items - depth self.new.db) self.new.store) }
-        ensures change { IfOk result (λ change.
-            (change.back ≡ switch.back) × (change.added ≡ length switch.blocks.items)) }
+        requires room { length self.old.chain.resident + length switch.blocks.items ≤ self.old.chain.room }
+        // No block that is indexed is rolled back, and the index has room for those that become immutable.
+        requires indexed { IsIndexed self.old }
+        requires stays { length self.old.past.hashes ≤ length (chain_of self.old.chain) - switch.back }
+        requires past_room { length (chain_of self.old.chain) - switch.back + length switch.blocks.items
+            - min self.old.db.k (depth self.old.db - switch.prepared.back + count switch.prepared)
+            ≤ self.old.past.room }
+        ensures gone { self.new.chain.gone ≡ [] }
+        ensures chain { chain_of self.new.chain
+            ≡ without_last switch.back (chain_of self.old.chain) ++ switch.blocks.items }
+        ensures db { IsCommitted self.old.db switch.prepared self.new.db }
+        ensures store { IsCutBack self.old.store (chain_of self.new.chain)
+            (length (chain_of self.new.chain) - depth self.new.db) self.new.store }
+        ensures past { self.new.past.hashes ≡ first_hashes
+            (max (length self.old.past.hashes) (length (chain_of self.new.chain) - depth self.new.db))
+            (chain_of self.new.chain) }
+        ensures change { (result.back ≡ switch.back) × (result.added ≡ length switch.blocks.items) }
         ensures frame { self.new ≡ record self.old {
           chain = self.new.chain;
           store = self.new.store;
           db = self.new.db;
+          past = self.new.past;
         } }
-        ensures err { OnErr result ⊥ }
     {
-        let mut blocks = switch.blocks;
         let change = Change {
             back: switch.back as u64,
-            added: blocks.len() as u64,
+            added: switch.blocks.len() as u64,
         };
         self.chain.truncate(self.chain.len() - switch.back);
-        self.chain.append(&mut blocks)?;
+        self.chain.append(switch.blocks);
         self.db.commit(switch.prepared);
         let immutable = self.immutable();
+        let Some(tip) = self.chain.tip_of_first(immutable) else {
+            unreachable!();
+        };
         let root = Tip {
             number: immutable as u64,
-            ..chain_tip(&self.chain[..immutable])
+            ..tip
         };
         self.store.drop_up_to(root);
-        Ok(change)
+        self.past.push_up_to(&self.chain, immutable);
+        change
     }
 
     /// Keeps the live block with this hash no more, if it is beside the selected chain: answers whether there was one.
     /// A few look-ups, and what [`BlockStore::discard`] takes; takes no memory.
     pub fn discard(&mut self, hash: BlockHash) -> bool
+        requires { IsIndexed self.old }
         ensures discarded { IsTrue result → (network : Network) (s : State) → IsWhole network self.old →
             HasState network self.old s → IsDiscarded network s hash.bytes self.new }
         ensures none { result ≡ false → (network : Network) (s : State) → IsWhole network self.old →
@@ -377,7 +369,7 @@ impl<S: SigScheme> ChainDb<S> {
         ensures memory { OnErr result ((genesis : Genesis) (opened : List Block) →
             IsWhole (network_on genesis S.verifies opened) self.old →
             (bytes : List ℕ) → SpellsTransaction tx bytes → IsWantOf (network_on genesis S.verifies opened)
-            self.old.chain.items self.old.mempool.waiting.txs bytes) }
+            (chain_of self.old.chain) self.old.mempool.waiting.txs bytes) }
     {
         let state = self.db.state();
         self.mempool

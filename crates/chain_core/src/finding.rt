@@ -6,12 +6,11 @@ ghost use Rattle.model.specs.Ledger.{Network};
 ghost use Rattle.model.specs.History.{State, live_of, IsFullFor};
 ghost use Rattle.model.specs.Chain.{NoneHas};
 ghost use Rattle.model.specs.Asked.{IsPlaceOf, AreUnconnected};
+ghost use Rattle.chain.specs.Chained.{chain_of};
 ghost use Rattle.chain_core.specs.Asking.{place_of};
-ghost use Rattle.chain_core.specs.ChainDbs.{IsWhole, HasState};
+ghost use Rattle.chain_core.specs.ChainDbs.{IsWhole, HasState, IsIndexed};
 
 use crate::chain_db::ChainDb;
-use crate::past::noted;
-use crate::place::block_at;
 use block::{Block, CheckedBlock};
 use blockstore::Unconnected;
 use ident::BlockHash;
@@ -38,17 +37,18 @@ fn has_hash<S: SigScheme>(block: &CheckedBlock<S>, hash: BlockHash) -> bool
 /// The block of the selected chain with this hash. A look-up among the blocks that are never rolled back, and where it
 /// is none of these one among the live blocks, as the others of the chain are.
 pub fn chain_block<S: SigScheme>(chain_db: &ChainDb<S>, hash: BlockHash) -> Option<&CheckedBlock<S>>
+    requires { IsIndexed chain_db.now }
     ensures { MatchOption result
-        ((network : Network) → IsWhole network chain_db.now → NoneHas chain_db.now.chain.items hash.bytes)
-        (λ b. Contains chain_db.now.chain.items b.now × (block_hash_of b.now ≡ hash.bytes)) }
+        ((network : Network) → IsWhole network chain_db.now → NoneHas (chain_of chain_db.now.chain) hash.bytes)
+        (λ b. Contains (chain_of chain_db.now.chain) b.now × (block_hash_of b.now ≡ hash.bytes)) }
 {
-    if let Some(block) = noted(&chain_db.past, &chain_db.chain, hash) {
-        return Some(block);
+    if let Some(number) = chain_db.past.number_of(&chain_db.chain, hash) {
+        return chain_db.chain.get(number);
     }
     let Some(stored) = chain_db.store.get(hash) else {
         return None;
     };
-    let Some(block) = block_at(&chain_db.chain, stored.block().number()) else {
+    let Some(block) = chain_db.chain.get(stored.block().number()) else {
         return None;
     };
     if has_hash(block, hash) {
@@ -60,6 +60,7 @@ pub fn chain_block<S: SigScheme>(chain_db: &ChainDb<S>, hash: BlockHash) -> Opti
 
 /// The block of the selected chain with this hash, or else the live one.
 pub fn block_with<S: SigScheme>(chain_db: &ChainDb<S>, hash: BlockHash) -> Option<&Block>
+    requires { IsIndexed chain_db.now }
     ensures { (network : Network) (s : State) → IsWhole network chain_db.now → HasState network chain_db.now s
         → MatchOption result (NoneHas s.chain hash.bytes × NoneHas (live_of network s) hash.bytes)
         (λ b. (Contains s.chain b.now ⊎ Contains (live_of network s) b.now) × (block_hash_of b.now ≡ hash.bytes)) }
@@ -75,6 +76,7 @@ pub fn block_with<S: SigScheme>(chain_db: &ChainDb<S>, hash: BlockHash) -> Optio
 
 /// Where the block with this hash is.
 pub fn place_in<S: SigScheme>(chain_db: &ChainDb<S>, hash: BlockHash) -> Place
+    requires { IsIndexed chain_db.now }
     ensures { (network : Network) (s : State) → IsWhole network chain_db.now → HasState network chain_db.now s
         → IsPlaceOf network s hash.bytes (place_of result) }
 {

@@ -1,13 +1,14 @@
 //! What followers are told.
 
-ghost use Rattle.std.specs.Prelude.{◌≡◌, IfOk, OnErr, Some, ℕ, length};
+ghost use Rattle.std.specs.Prelude.{◌≡◌, IfOk, OnErr, Some, ℕ, [], length};
 ghost use Rattle.followers.specs.declared.place.Due.TheVariants.{Add};
 ghost use Rattle.followers.specs.Standing.{IsDueOf};
+ghost use Rattle.chain.specs.Chained.{chain_of};
 ghost use Rattle.chain_core.specs.FollowerCalls.{IsWithin};
 ghost use Rattle.chain_core.specs.Views.{instruction_of};
 
-use crate::place::point_at;
 use block::CheckedBlock;
+use chain::Chain;
 use followers::{Due, UnknownFollower};
 use ident::Point;
 use std::alloc::AllocError;
@@ -76,18 +77,19 @@ impl From<UnknownFollower> for NextFault {
 
 /// The instruction that what is due is beside the chain. Shares the block, and copies none of its bytes.
 pub fn instruction_for<S: SigScheme>(
-    chain: &[CheckedBlock<S>],
+    chain: &Chain<S>,
     due: Option<Due>,
 ) -> Result<Option<Instruction<S>>, AllocError>
-    requires { IsWithin (length chain.now) due }
-    ensures ok { IfOk result (λ instruction. IsDueOf chain.now due (instruction_of instruction)) }
+    requires gone { chain.now.gone ≡ [] }
+    requires within { IsWithin (length (chain_of chain.now)) due }
+    ensures ok { IfOk result (λ instruction. IsDueOf (chain_of chain.now) due (instruction_of instruction)) }
     ensures memory { OnErr result ((after : ℕ) × (due ≡ Some (Add after))) }
 {
     match due {
         None => Ok(None),
-        Some(Due::RollBack { to }) => Ok(Some(Instruction::RollBack(point_at(chain, to)))),
+        Some(Due::RollBack { to }) => Ok(Some(Instruction::RollBack(chain.point_at(to)))),
         Some(Due::Add { after }) => {
-            let block = chain[after as usize].try_clone()?;
+            let block = chain.resident_after(0)[after as usize].try_clone()?;
             Ok(Some(Instruction::AddBlock(block)))
         }
     }

@@ -1,18 +1,17 @@
 //! Forging: the block that comes next on the selected chain, of what waits in the mempool.
 
-ghost use Rattle.std.specs.Prelude.{◌≡◌, List, IfOk, IfErr, option_map};
+ghost use Rattle.std.specs.Prelude.{◌≡◌, List, IfOk, IfErr};
 ghost use Rattle.model.specs.Block.{Block};
 ghost use Rattle.model.specs.Genesis.{Genesis, IsGenesis};
 ghost use Rattle.model.specs.Ledger.{network_on};
-ghost use Rattle.model.specs.Chain.{tip_after, genesis_tip};
-ghost use Rattle.block.specs.View.{bytes_of};
+ghost use Rattle.chain.specs.Chained.{chain_of};
 ghost use Rattle.chain_core.specs.ChainDbs.{IsWhole};
 ghost use Rattle.chain_core.specs.ForgedBlocks.{IsForgedAs, IsForgeFault};
 ghost use Rattle.chain_core.specs.declared.forging.ForgeFault.TheVariants as fault;
 
 use crate::chain_db::ChainDb;
-use block::{CheckedBlock, NUMBER_LIMIT};
-use ident::{BlockHash, Point};
+use block::NUMBER_LIMIT;
+use ident::Point;
 use std::alloc::{AllocError, Global};
 use thiserror::Error;
 use witness_pool::SigScheme;
@@ -48,16 +47,6 @@ impl From<AllocError> for ForgeFault {
     }
 }
 
-/// The hash of the last block of a chain, None where it has none.
-fn last_hash<S: SigScheme>(chain: &[CheckedBlock<S>]) -> Option<BlockHash>
-    ensures { option_map bytes_of result ≡ (tip_after genesis_tip chain.now).hash }
-{
-    match chain.last() {
-        Some(block) => Some(block.hash()),
-        None => None,
-    }
-}
-
 /// The block that comes next on the chain in this slot, with what it takes of the mempool, or why there is none.
 pub fn forge<S: SigScheme>(
     alloc: Global,
@@ -66,24 +55,24 @@ pub fn forge<S: SigScheme>(
 ) -> Result<Forged, ForgeFault>
     ensures forged { IfOk result (λ f. (genesis : Genesis) (opened : List Block) → IsGenesis genesis
         → IsWhole (network_on genesis S.verifies opened) chain_db.now
-        → IsForgedAs (network_on genesis S.verifies opened) chain_db.now.chain.items
+        → IsForgedAs (network_on genesis S.verifies opened) (chain_of chain_db.now.chain)
         chain_db.now.mempool.waiting.txs slot f.bytes.items f.point) }
     ensures fault { IfErr result (λ e. (genesis : Genesis) (opened : List Block) →
         IsWhole (network_on genesis S.verifies opened) chain_db.now →
-        IsForgeFault (network_on genesis S.verifies opened) chain_db.now.chain.items slot e) }
+        IsForgeFault (network_on genesis S.verifies opened) (chain_of chain_db.now.chain) slot e) }
 {
     let state = chain_db.state();
     if slot <= state.slot() {
         return Err(ForgeFault::SlotNotAfterTip);
     }
-    let number = chain_db.chain.len() as u64 + 1;
+    let number = (chain_db.chain.len() as u64).saturating_add(1); // where it saturates it is out of range
     if slot >= NUMBER_LIMIT || number >= NUMBER_LIMIT {
         return Err(ForgeFault::OutOfRange);
     }
     let body = chain_db
         .mempool
         .forged_body(state.params(), state.utxo(), slot)?;
-    let previous = last_hash(&chain_db.chain);
+    let previous = chain_db.chain.tip().hash;
     // Number and slot were looked at.
     let Ok((bytes, hash)) = block::write_with_body(alloc, number, slot, previous, &body) else {
         return Err(ForgeFault::OutOfMemory);

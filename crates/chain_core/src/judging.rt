@@ -1,58 +1,40 @@
 //! Why a block that was read is not kept.
 
-ghost use Rattle.std.specs.Prelude.{◌↔◌, IsTrue, Any, option_map};
+ghost use Rattle.std.specs.Prelude.{◌≡◌, ◌↔◌, IsTrue, Any, option_map};
 ghost use Rattle.block.specs.Read.{IsRead};
-ghost use Rattle.model.specs.Block.{Block as Plain};
+ghost use Rattle.model.specs.Block.{Block as Plain, block_hash_of};
 ghost use Rattle.model.specs.Ledger.{Network};
+ghost use Rattle.model.specs.Chain.{immutable_part};
 ghost use Rattle.model.specs.History.{State};
-ghost use Rattle.blockstore.specs.Answers.{HasNoneAt};
+ghost use Rattle.chain.specs.Chained.{chain_of};
 ghost use Rattle.chain_core.specs.Views.{refusal_of};
-ghost use Rattle.chain_core.specs.ChainDbs.{IsWhole, HasState};
-ghost use Rattle.chain_core.specs.Judgements.{IsClashWith, IsPointOf, IsFirstRefusal};
+ghost use Rattle.chain_core.specs.ChainDbs.{IsWhole, HasState, IsIndexed};
+ghost use Rattle.chain_core.specs.Judgements.{IsPointOf, IsFirstRefusal};
 
 use crate::chain_db::ChainDb;
-use crate::past::is_noted;
 use crate::refusal::Refusal;
-use block::CheckedBlock;
 use ident::{BlockHash, Point};
 use witness_pool::SigScheme;
 
-/// Whether the block has this hash and another text than these bytes.
-fn clashes<S: SigScheme>(block: &CheckedBlock<S>, hash: BlockHash, bytes: &[u8]) -> bool
-    ensures { IsTrue result ↔ IsClashWith hash.bytes bytes.now block.now }
+/// Whether a block that is never rolled back has this hash. A look-up; takes no memory.
+fn is_past<S: SigScheme>(chain_db: &ChainDb<S>, hash: BlockHash) -> bool
+    requires { IsIndexed chain_db.now }
+    ensures { (network : Network) → IsWhole network chain_db.now → (IsTrue result
+        ↔ Any (λ c. block_hash_of c ≡ hash.bytes) (immutable_part network (chain_of chain_db.now.chain))) }
 {
-    block.hash() == hash && !block.has_text(bytes)
-}
-
-/// Whether a block of the chain has this hash and another text than these bytes.
-fn has_clash<S: SigScheme>(chain: &[CheckedBlock<S>], hash: BlockHash, bytes: &[u8]) -> bool
-    ensures { IsTrue result ↔ Any (λ c. IsClashWith hash.bytes bytes.now c) chain.now }
-{
-    for other in chain {
-        if clashes(other, hash, bytes) {
-            return true;
-        }
-    }
-    false
-}
-
-/// The same of the selected chain, where no live block has the hash. The chain is looked through only where the hash is
-/// that of a block which is never rolled back, since the others of the chain are live.
-fn clashes_with_chain<S: SigScheme>(chain_db: &ChainDb<S>, hash: BlockHash, bytes: &[u8]) -> bool
-    ensures { (network : Network) → IsWhole network chain_db.now → HasNoneAt chain_db.now.store hash.bytes
-        → (IsTrue result ↔ Any (λ c. IsClashWith hash.bytes bytes.now c) chain_db.now.chain.items) }
-{
-    is_noted(&chain_db.past, hash) && has_clash(&chain_db.chain, hash, bytes)
+    chain_db.past.number_of(&chain_db.chain, hash).is_some()
 }
 
 /// Why the block at this point that was read from these bytes is not kept: the first reason that applies, if any does.
-/// Takes a look-up in the store, one among the hashes of the chain's older blocks, and no memory. Texts are compared,
-/// and the chain is looked through, only where hashes agree.
+/// Takes a look-up in the store, one among the hashes of the immutable blocks, and no memory. Texts are compared only
+/// with a live block of the same hash: a block that is never rolled back has a lower number than one that isn't too
+/// old, and so another text.
 pub fn first_refusal<S: SigScheme>(
     chain_db: &ChainDb<S>,
     point: Point,
     bytes: &[u8],
 ) -> Option<Refusal>
+    requires { IsIndexed chain_db.now }
     // It is that of each state with this chain and these live blocks.
     ensures { (network : Network) (s : State) (block : Plain) → IsWhole network chain_db.now
         → HasState network chain_db.now s → IsRead block bytes.now → IsPointOf point block
@@ -67,7 +49,7 @@ pub fn first_refusal<S: SigScheme>(
         }
         return Some(Refusal::Clash);
     }
-    if clashes_with_chain(chain_db, point.hash, bytes) {
+    if is_past(chain_db, point.hash) {
         return Some(Refusal::Clash);
     }
     if chain_db.store.is_full_for(bytes.len()) {

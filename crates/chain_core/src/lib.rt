@@ -14,7 +14,6 @@ mod forging;
 mod judging;
 mod live_form;
 mod node_core;
-mod past;
 mod place;
 mod refusal;
 mod reopening;

@@ -7,7 +7,7 @@ use crate::follower::{Instruction, NextFault, instruction_for};
 use crate::forging::{ForgeFault, Forged, forge};
 use crate::judging::first_refusal;
 use crate::live_form::{live_form, shared_live_form};
-use crate::place::{block_at, end_of, first_on};
+use crate::place::first_on;
 use crate::refusal::Refusal;
 use crate::reopening::{OpenedChain, ReopenFault, Reopening};
 use block::{CheckedBlock, Seen};
@@ -480,7 +480,7 @@ impl<S: SigScheme> Core<S> {
         ensures theorem { (history : List Entry) × (s : State)
             × ChainTheorem (network_held self.now S.verifies) history s × Stands self.now s }
     {
-        end_of(&self.chain_db.chain)
+        self.chain_db.chain.point_at(self.height())
     }
 
     /// The slot of the selected chain's last block, and 0 where it has none. In constant time; takes no memory.
@@ -513,7 +513,7 @@ impl<S: SigScheme> Core<S> {
     pub fn block(&self, number: u64) -> Option<&CheckedBlock<S>>
         ensures { option_map (λ b. b.now) result ≡ block_numbered self.now.chain number }
     {
-        block_at(&self.chain_db.chain, number)
+        self.chain_db.chain.get(number)
     }
 
     /// The text of the block of this number of the selected chain.
@@ -521,7 +521,7 @@ impl<S: SigScheme> Core<S> {
         ensures { MatchOption result (block_numbered self.now.chain number ≡ None) (λ bytes. (b : Plain)
             × (block_numbered self.now.chain number ≡ Some b) × IsRead b bytes.now) }
     {
-        match block_at(&self.chain_db.chain, number) {
+        match self.block(number) {
             Some(block) => Some(block.bytes()),
             None => None,
         }

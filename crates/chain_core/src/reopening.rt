@@ -204,7 +204,8 @@ impl<S: SigScheme> Reopening<S> {
     }
 
     /// The core whose selected chain this is: none of its blocks is ever rolled back, no transaction waits, and no
-    /// follower is open. Err where memory runs out. Notes the hash of each block; reads and copies none.
+    /// follower is open. Err where memory runs out. Indexes each block by its hash, 8 bytes each; reads and copies
+    /// none.
     pub fn finish(self) -> Result<Core<S>, AllocError>
         ensures core { IfOk result (λ core. core ≡ opening_held self.genesis self.chain) }
         // The chain is valid, and each block is read of its text.

@@ -1,6 +1,6 @@
 //! Where a transaction stands.
 
-ghost use Rattle.std.specs.Prelude.{◌≡◌, ◌≤◌, ◌↔◌, ◌-◌, length, drop, IsTrue, MatchOption};
+ghost use Rattle.std.specs.Prelude.{◌≡◌, ◌↔◌, IsTrue, MatchOption};
 ghost use Rattle.model.specs.Transaction.{transaction_id_of};
 ghost use Rattle.model.specs.Ledger.{Network};
 ghost use Rattle.model.specs.History.{State};
@@ -82,13 +82,14 @@ fn last_with<S: SigScheme>(chain: &[CheckedBlock<S>], depth: u64, id: TxId) -> O
 
 /// Where the transaction with this identifier stands, where blocks are rolled back no further than `k`.
 pub fn tx_place_in<S: SigScheme>(chain_db: &ChainDb<S>, k: u64, id: TxId) -> TxPlace
-    ensures { (network : Network) (s : State) → k ≡ network.genesis.k → HasState network chain_db.now s
-        → chain_db.now.mempool.waiting.txs ≡ s.mempool → IsTxPlaceOf network s id.bytes (tx_place_of result) }
+    ensures { (network : Network) (s : State) → k ≡ network.genesis.k → IsWhole network chain_db.now
+        → HasState network chain_db.now s → chain_db.now.mempool.waiting.txs ≡ s.mempool
+        → IsTxPlaceOf network s id.bytes (tx_place_of result) }
 {
     if let Some(position) = position_in(&chain_db.mempool, id) {
         return TxPlace::Waits(position);
     }
-    match last_with(&chain_db.chain, k, id) {
+    match last_with(chain_db.in_memory(), k, id) {
         Some((number, index)) => TxPlace::Block { number, index },
         None => TxPlace::Unknown,
     }

@@ -1,6 +1,6 @@
 //! Why a block isn't selected.
 
-ghost use Rattle.std.specs.Prelude.{◌≡◌, ◌≤◌, ◌-◌, ℕ, List, length, take, reverse, MatchOption, IfOk, OnErr};
+ghost use Rattle.std.specs.Prelude.{◌≡◌, ◌≤◌, ◌-◌, ℕ, List, [], length, take, reverse, MatchOption, IfOk, OnErr};
 ghost use Rattle.model.specs.Block as model;
 ghost use Rattle.model.specs.Block.{block_hash_of};
 ghost use Rattle.model.specs.Genesis.{Genesis};
@@ -11,14 +11,15 @@ ghost use Rattle.blockstore.specs.Stored.{HasBlock, blocks_of};
 ghost use Rattle.ledgerdb.specs.Values.{depth};
 ghost use Rattle.model.specs.Chain.{NoneHas};
 ghost use Rattle.model.specs.Asked.{IsPlaceOf, IsWhyOf, Beside};
+ghost use Rattle.chain.specs.Chained.{chain_of};
 ghost use Rattle.chain_core.specs.Ways.{why_of, IsBefore, LeadsOn, IsWayTo, IsJudged};
-ghost use Rattle.chain_core.specs.ChainDbs.{IsWhole, HasState};
+ghost use Rattle.chain_core.specs.ChainDbs.{IsWhole, HasState, IsIndexed};
 
 use crate::chain_db::ChainDb;
 use crate::finding::{block_with, chain_block};
 use block::{Block, CheckedBlock, Tip};
 use blockstore::{BlockStore, LiveBlock};
-use chainsel::chain_tip;
+use chain::Chain;
 use ident::BlockHash;
 use ledger::BlockFault;
 use ledgerdb::ForkFault;
@@ -64,14 +65,20 @@ enum Before<'a, S: SigScheme> {
     Misfit,
 }
 
-/// How many first blocks of the chain the block follows.
-fn kept_before<S: SigScheme>(chain: &[CheckedBlock<S>], block: &Block) -> Option<usize>
-    ensures { MatchOption result (IsLinked genesis_tip chain.now → (keep : ℕ) → keep ≤ length chain.now
-        → Follows (tip_after genesis_tip (take keep chain.now)) block.now → ⊥)
-        (λ keep. (keep ≤ length chain.now) × Follows (tip_after genesis_tip (take keep chain.now)) block.now) }
+/// How many first blocks of the chain the block follows: none where it follows no such blocks, or the last of these
+/// left memory.
+fn kept_before<S: SigScheme>(chain: &Chain<S>, block: &Block) -> Option<usize>
+    ensures { MatchOption result (chain.now.gone ≡ [] → IsLinked genesis_tip (chain_of chain.now) → (keep : ℕ)
+        → keep ≤ length (chain_of chain.now)
+        → Follows (tip_after genesis_tip (take keep (chain_of chain.now))) block.now → ⊥)
+        (λ keep. (keep ≤ length (chain_of chain.now))
+        × Follows (tip_after genesis_tip (take keep (chain_of chain.now))) block.now) }
 {
     let keep = (block.number() as usize).saturating_sub(1);
-    if keep <= chain.len() && chain_tip(&chain[..keep]).precedes(block) {
+    let Some(tip) = chain.tip_of_first(keep) else {
+        return None;
+    };
+    if tip.precedes(block) {
         Some(keep)
     } else {
         None
@@ -98,6 +105,7 @@ fn live_before<'a, S: SigScheme>(
 
 /// What stands before a block. A few look-ups.
 fn step_back<'a, S: SigScheme>(chain_db: &'a ChainDb<S>, block: &Block) -> Before<'a, S>
+    requires { IsIndexed chain_db.now }
     ensures before { (network : Network) (s : State) → IsWhole network chain_db.now → HasState network chain_db.now s
         → IsBefore network s block.now result }
     ensures on { LeadsOn block.now result }
@@ -143,6 +151,7 @@ fn way_back<S: SigScheme>(
     chain_db: &ChainDb<S>,
     block: &LiveBlock<S>,
 ) -> Result<Way<S>, AllocError>
+    requires { IsIndexed chain_db.now }
     ensures { IfOk result (λ way. (network : Network) (s : State) → IsWhole network chain_db.now
         → HasState network chain_db.now s → HasBlock chain_db.now.store block.now
         → NoneHas s.chain (block_hash_of block.now)
@@ -193,11 +202,11 @@ fn judge<S: SigScheme>(
     keep: usize,
     way: &[CheckedBlock<S>],
 ) -> Result<Why, AllocError>
-    requires keep { keep ≤ length chain_db.now.chain.items }
-    requires depth { length chain_db.now.chain.items - keep ≤ depth chain_db.now.db }
+    requires keep { keep ≤ length (chain_of chain_db.now.chain) }
+    requires depth { length (chain_of chain_db.now.chain) - keep ≤ depth chain_db.now.db }
     ensures { IfOk result (λ why. (genesis : Genesis) (opened : List model.Block)
         → IsWhole (network_on genesis S.verifies opened) chain_db.now
-        → IsJudged (network_on genesis S.verifies opened) (take keep chain_db.now.chain.items) way.now why) }
+        → IsJudged (network_on genesis S.verifies opened) (take keep (chain_of chain_db.now.chain)) way.now why) }
 {
     let back = chain_db.chain.len() - keep;
     match chain_db.db.fork(back, way) {
@@ -214,11 +223,11 @@ fn judge_live<S: SigScheme>(
     keep: usize,
     way: &[LiveBlock<S>],
 ) -> Result<Why, AllocError>
-    requires keep { keep ≤ length chain_db.now.chain.items }
-    requires depth { length chain_db.now.chain.items - keep ≤ depth chain_db.now.db }
+    requires keep { keep ≤ length (chain_of chain_db.now.chain) }
+    requires depth { length (chain_of chain_db.now.chain) - keep ≤ depth chain_db.now.db }
     ensures { IfOk result (λ why. (genesis : Genesis) (opened : List model.Block)
         → IsWhole (network_on genesis S.verifies opened) chain_db.now
-        → IsJudged (network_on genesis S.verifies opened) (take keep chain_db.now.chain.items) way.now why) }
+        → IsJudged (network_on genesis S.verifies opened) (take keep (chain_of chain_db.now.chain)) way.now why) }
 {
     let read = read_all(alloc, way)?;
     judge(chain_db, keep, &read)

@@ -1,19 +1,11 @@
 -- Where a chain or a path ends, and what follows it.
-use Rattle.std.proofs.Common.{◌≡◌, ℕ, zero, suc, ◌+◌, ◌-◌, List, [], ◌∷◌, ◌++◌, length, take, Some, refl, sym, ap, ◌∙◌, arith}
+use Rattle.std.proofs.Common.{◌≡◌, ℕ, zero, suc, ◌+◌, List, [], ◌∷◌, ◌++◌, length, take, Some, refl, sym, ap, ◌∙◌}
 use Rattle.std.specs.Prelude.{slice_get}
 use Rattle.std.proofs.lemmas.Option.{same_Some, none-some}
 use Rattle.model.specs.Block.{Block}
 use Rattle.model.specs.Chain.{Tip, tip_at, tip_after, IsLinked, Follows}
 use Rattle.model.proofs.Chains.{tip_after-append, tip_number}
 use Rattle.chainsel.specs.Paths.{last_block}
-
--- a chain ends at its last block
-pub tip_of_last : (tip : Tip) (bs : List Block) (b : Block) → slice_get bs (length bs - 1) ≡ Some b → tip_after tip bs ≡ tip_at b
-tip_of_last tip [] b last = absurd (none-some b last)
-tip_of_last tip (x ∷ []) b last = ap tip_at (same_Some x b last)
-tip_of_last tip (x ∷ y ∷ ys) b last =
-    let step : suc (length (y ∷ ys) - 1) ≡ length (x ∷ y ∷ ys) - 1 = omega arith in
-    tip_of_last (tip_at x) (y ∷ ys) b (ap (slice_get (x ∷ y ∷ ys)) step ∙ last)
 
 -- the first blocks of a chain end at the last of them
 pub tip_of_place : (tip : Tip) (bs : List Block) (place : ℕ) (b : Block) → slice_get bs place ≡ Some b → tip_after tip (take (suc place) bs) ≡ tip_at b

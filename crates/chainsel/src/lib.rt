@@ -21,9 +21,9 @@ mod links;
 mod search;
 mod selecting;
 mod selection;
+mod shown;
 mod sifting;
 mod way;
 
-pub use links::chain_tip;
 pub use selecting::{immutable, select};
 pub use selection::{Choice, Selection, Switch};

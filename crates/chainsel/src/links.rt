@@ -1,14 +1,15 @@
 //! Whether a block may come next, by its header alone.
 
-ghost use Rattle.std.specs.Prelude.{◌≡◌, ◌≢◌, ◌↔◌, ◌+◌, ◌≤◌, ◌<◌, ◌^◌, IsTrue, Some, length, take};
+ghost use Rattle.std.specs.Prelude.{◌≡◌, ◌≢◌, ◌↔◌, ◌+◌, ◌-◌, ◌≤◌, ◌<◌, ◌^◌, IsTrue, Some, length, take};
 ghost use Rattle.std.specs.List.{AllByRecursion};
 ghost use Rattle.model.specs.Chain.{genesis_tip, tip_at, tip_after, Follows};
-ghost use Rattle.block.specs.View.{tip_of};
+ghost use Rattle.chain.specs.Chained.{chain_of};
 ghost use Rattle.chainsel.specs.Paths.{IsFit};
 
 use crate::found::Found;
-use block::{Block, CheckedBlock, Tip};
+use block::Block;
 use blockstore::StoredBlock;
+use chain::Chain;
 use ident::BlockHash;
 use witness_pool::SigScheme;
 
@@ -37,22 +38,17 @@ pub fn follows(before: &Block, block: &Block) -> bool
         && before.slot() < block.slot()
 }
 
-/// Where the chain ends. Takes no memory.
-pub fn chain_tip<S: SigScheme>(chain: &[CheckedBlock<S>]) -> Tip
-    ensures { tip_of result ≡ tip_after genesis_tip chain.now }
+/// Whether the block may come next after the first `keep` blocks of the chain, the last of which, if there is one, is
+/// in memory.
+pub fn follows_chain<S: SigScheme>(chain: &Chain<S>, keep: usize, block: &Block) -> bool
+    requires within { keep ≤ length (chain_of chain.now) }
+    requires gone { length chain.now.gone ≤ keep - 1 }
+    ensures { IsTrue result ↔ Follows (tip_after genesis_tip (take keep (chain_of chain.now))) block.now }
 {
-    match chain.last() {
-        Some(last) => Tip::at(last.block()),
-        None => Tip::genesis(),
+    match chain.tip_of_first(keep) {
+        Some(tip) => tip.precedes(block),
+        None => unreachable!(),
     }
-}
-
-/// Whether the block may come next after the first `keep` blocks of the chain.
-pub fn follows_chain<S: SigScheme>(chain: &[CheckedBlock<S>], keep: usize, block: &Block) -> bool
-    requires { keep ≤ length chain.now }
-    ensures { IsTrue result ↔ Follows (tip_after genesis_tip (take keep chain.now)) block.now }
-{
-    chain_tip(&chain[..keep]).precedes(block)
 }
 
 /// Whether nothing is known against a live block: it has no mark, and isn't among those that were found dead so far.

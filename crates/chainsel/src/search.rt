@@ -1,6 +1,7 @@
 //! The search for the longest way through a block that came.
 
-ghost use Rattle.std.specs.Prelude.{◌≡◌, ◌-◌, length, IfOk};
+ghost use Rattle.std.specs.Prelude.{◌≡◌, ◌-◌, ◌≤◌, length, IfOk};
+ghost use Rattle.chain.specs.Chained.{chain_of};
 ghost use Rattle.ledgerdb.specs.Values.{depth};
 ghost use Rattle.chainsel.specs.Founds.{AreFound};
 ghost use Rattle.chainsel.specs.Choices.{AreDeadInAll, IsSelectionAnswer};
@@ -13,13 +14,14 @@ use crate::sifting::sift;
 use crate::way::way_to;
 use block::CheckedBlock;
 use blockstore::{BlockStore, LiveBlock};
+use chain::Chain;
 use ledger::LedgerState;
 use ledgerdb::{ForkFault, LedgerDb};
 use std::alloc::{AllocError, Global};
 use witness_pool::SigScheme;
 
-/// What becomes of the selected chain, of which the first `immutable` blocks stay, when this block comes to the live
-/// ones, of which these were found dead so far.
+/// What becomes of the selected chain when this block comes to the live ones, of which these were found dead so far.
+/// The first `immutable` blocks of the chain stay; the last of these, if there is one, is in memory.
 ///
 /// Takes a look-up of successors for each block that goes on from the new one, a look-up for each block on the way to
 /// the new one, and the time to judge the longest path. Where a block of that is dead, the blocks before it are judged
@@ -29,15 +31,16 @@ pub fn search<S: SigScheme>(
     alloc: Global,
     store: &BlockStore<S>,
     db: &LedgerDb,
-    chain: &[CheckedBlock<S>],
+    chain: &Chain<S>,
     immutable: usize,
     new: &LiveBlock<S>,
     found: Found,
 ) -> Result<Selection<S>, AllocError>
-    requires immutable { immutable ≡ length chain.now - depth db.now }
+    requires immutable { immutable ≡ length (chain_of chain.now) - depth db.now }
+    requires gone { length chain.now.gone ≤ immutable - 1 }
     requires found { AreFound store.now found.hashes.items }
-    requires dead { AreDeadInAll S.verifies chain.now store.now db.now new.now found.hashes.items }
-    ensures { IfOk result (IsSelectionAnswer S.verifies chain.now store.now db.now new.now) }
+    requires dead { AreDeadInAll S.verifies (chain_of chain.now) store.now db.now new.now found.hashes.items }
+    ensures { IfOk result (IsSelectionAnswer S.verifies (chain_of chain.now) store.now db.now new.now) }
 {
     let mut found = found;
     let mut read = Vec::new(alloc);

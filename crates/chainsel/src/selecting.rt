@@ -5,27 +5,27 @@ ghost use Rattle.model.specs.Ledger.{Network};
 ghost use Rattle.model.specs.Chain.{immutable_length};
 ghost use Rattle.blockstore.specs.Stored.{Store};
 ghost use Rattle.blockstore.specs.Ways.{HasWay};
+ghost use Rattle.chain.specs.Chained.{chain_of};
 ghost use Rattle.ledgerdb.specs.Values.{depth};
 ghost use Rattle.chainsel.specs.Ready.{IsSettled};
 ghost use Rattle.chainsel.specs.Paths.{IsLast};
 ghost use Rattle.chainsel.specs.Choices.{IsSelectionAnswer};
 
 use crate::found::Found;
-use crate::links::chain_tip;
 use crate::search::{keep, search};
 use crate::selection::Selection;
 use crate::sifting::sift;
-use block::CheckedBlock;
 use blockstore::{BlockStore, LiveBlock};
+use chain::Chain;
 use ledgerdb::LedgerDb;
 use std::alloc::{AllocError, Global};
 use witness_pool::SigScheme;
 
 /// How many blocks of the chain are never rolled back: all but as many as the database can. Takes no memory.
-pub fn immutable<S: SigScheme>(chain: &[CheckedBlock<S>], db: &LedgerDb) -> usize
-    ensures count { result ≡ length chain.now - depth db.now }
-    ensures immutable { (network : Network) (store : Store) → IsSettled network chain.now store db.now
-        → result ≡ immutable_length network chain.now }
+pub fn immutable<S: SigScheme>(chain: &Chain<S>, db: &LedgerDb) -> usize
+    ensures count { result ≡ length (chain_of chain.now) - depth db.now }
+    ensures immutable { (network : Network) (store : Store) → IsSettled network (chain_of chain.now) store db.now
+        → result ≡ immutable_length network (chain_of chain.now) }
 {
     chain.len().saturating_sub(db.depth())
 }
@@ -33,11 +33,11 @@ pub fn immutable<S: SigScheme>(chain: &[CheckedBlock<S>], db: &LedgerDb) -> usiz
 /// Whether the block is no longer than the chain, and no live block names it as the one before. A look-up.
 fn goes_no_further<S: SigScheme>(
     store: &BlockStore<S>,
-    chain: &[CheckedBlock<S>],
+    chain: &Chain<S>,
     new: &LiveBlock<S>,
 ) -> Result<bool, AllocError>
     ensures { IfOk result (λ ends. IsTrue ends →
-        (new.now.header.number ≤ length chain.now) × IsLast store.now new.now) }
+        (new.now.header.number ≤ length (chain_of chain.now)) × IsLast store.now new.now) }
 {
     let new = new.block();
     if new.number() > chain.len() as u64 {
@@ -50,13 +50,13 @@ fn goes_no_further<S: SigScheme>(
 /// than the chain and nothing goes on from it. A few look-ups, and none where it extends the chain.
 fn stays_by_links<S: SigScheme>(
     store: &BlockStore<S>,
-    chain: &[CheckedBlock<S>],
+    chain: &Chain<S>,
     new: &LiveBlock<S>,
 ) -> Result<bool, AllocError>
     ensures { IfOk result (λ stays. IsTrue stays → (HasWay store.now.root store.now.blocks new.now → ⊥)
-        ⊎ ((new.now.header.number ≤ length chain.now) × IsLast store.now new.now)) }
+        ⊎ ((new.now.header.number ≤ length (chain_of chain.now)) × IsLast store.now new.now)) }
 {
-    if chain_tip(chain).precedes(new.block()) {
+    if chain.tip().precedes(new.block()) {
         return Ok(false);
     }
     if !store.connects(new.block().header()) {
@@ -79,15 +79,17 @@ fn stays_by_links<S: SigScheme>(
 /// so is all that goes on from the new one, each block once; then the search begins again. A block that is found dead
 /// is told, so that it is never judged again.
 ///
-/// A block that is held as its text alone is read each time that it is judged. Where the answer is Err, memory ran out.
+/// No block of the chain from its immutable tip on may have left memory. A block that is held as its text alone is read
+/// each time that it is judged. Where the answer is Err, memory ran out.
 pub fn select<S: SigScheme>(
     alloc: Global,
     store: &BlockStore<S>,
     db: &LedgerDb,
-    chain: &[CheckedBlock<S>],
+    chain: &Chain<S>,
     new: &LiveBlock<S>,
 ) -> Result<Selection<S>, AllocError>
-    ensures { IfOk result (IsSelectionAnswer S.verifies chain.now store.now db.now new.now) }
+    requires { length chain.now.gone ≤ length (chain_of chain.now) - depth db.now - 1 }
+    ensures { IfOk result (IsSelectionAnswer S.verifies (chain_of chain.now) store.now db.now new.now) }
 {
     let mut found = Found::new(alloc);
     if stays_by_links(store, chain, new)? {

@@ -1,10 +1,11 @@
 //! How a block hangs on the selected chain.
 
-ghost use Rattle.std.specs.Prelude.{◌≡◌, ◌∷◌, ◌++◌, ◌≤◌, List, length, map, Contains, MatchOption, IfSome, IfOk};
+ghost use Rattle.std.specs.Prelude.{◌≡◌, ◌∷◌, ◌++◌, ◌-◌, ◌≤◌, List, length, map, Contains, MatchOption, IfSome, IfOk};
 ghost use Rattle.std.specs.List.{AllByRecursion};
 ghost use Rattle.model.specs.Block as model;
 ghost use Rattle.model.specs.Chain.{genesis_tip, tip_at, Follows, IsLinked, HaveDistinctHashes};
 ghost use Rattle.blockstore.specs.Stored.{blocks_of};
+ghost use Rattle.chain.specs.Chained.{chain_of};
 ghost use Rattle.chainsel.specs.Paths.{IsFitLive, IsOnPath, IsWay, HasNoWay};
 
 use crate::found::Found;
@@ -12,6 +13,7 @@ use crate::furthest::Best;
 use crate::links::{follows, follows_chain, is_fit};
 use block::{Block, CheckedBlock};
 use blockstore::{BlockStore, LiveBlock};
+use chain::Chain;
 use std::alloc::{AllocError, Global};
 use witness_pool::SigScheme;
 
@@ -86,25 +88,26 @@ fn parent<'a, S: SigScheme>(
     live_parent(store, found, block)
 }
 
-/// The way to a block from the selected chain, past its first `immutable` blocks, if there is one. Of the way, what was
-/// walked is found there; takes a look-up in the store for each other block.
+/// The way to a block from the selected chain, past its first `immutable` blocks, the last of which is in memory, if
+/// there is one. Of the way, what was walked is found there; takes a look-up in the store for each other block.
 pub fn way_to<'a, S: SigScheme>(
     alloc: Global,
     store: &'a BlockStore<S>,
     found: &Found,
-    chain: &[CheckedBlock<S>],
+    chain: &Chain<S>,
     immutable: usize,
     new: &'a LiveBlock<S>,
     best: Best<'a, S>,
 ) -> Result<Option<Way<S>>, AllocError>
-    requires { AllByRecursion (IsOnPath store.now found.now.hashes.items new.now)
+    requires walked { AllByRecursion (IsOnPath store.now found.now.hashes.items new.now)
         (map (λ x. x.now) best.walked.items) }
+    requires gone { length chain.now.gone ≤ immutable - 1 }
     ensures { IfOk result (λ way. MatchOption way
-        (HaveDistinctHashes (new.now ∷ blocks_of store.now) → IsLinked genesis_tip chain.now →
-        immutable ≤ length chain.now →
-        HasNoWay store.now found.now.hashes.items chain.now immutable new.now best.entry.end.now)
-        (λ way. IsWay store.now found.now.hashes.items chain.now immutable new.now best.entry.end.now way.keep
-        way.blocks.items)) }
+        (HaveDistinctHashes (new.now ∷ blocks_of store.now) → IsLinked genesis_tip (chain_of chain.now) →
+        immutable ≤ length (chain_of chain.now) →
+        HasNoWay store.now found.now.hashes.items (chain_of chain.now) immutable new.now best.entry.end.now)
+        (λ way. IsWay store.now found.now.hashes.items (chain_of chain.now) immutable new.now best.entry.end.now
+        way.keep way.blocks.items)) }
 {
     let Best { end, mut walked } = best;
     let mut way = Vec::new(alloc); // the newest first

@@ -6,7 +6,8 @@ use super::ledgerdb_tests::{new_db, switch};
 use super::payments::{block_of, hash_of, names_of};
 use block::CheckedBlock;
 use blockstore::{BlockStore, Capacity, LiveBlock};
-use chainsel::{Choice, Selection, Switch, chain_tip, select};
+use chain::Chain;
+use chainsel::{Choice, Selection, Switch, select};
 use ident::BlockHash;
 use ledgerdb::LedgerDb;
 use script::Names;
@@ -19,7 +20,7 @@ struct Chains {
     names: Box<Names>,
     store: BlockStore<TestScheme>,
     db: Box<LedgerDb>,
-    chain: Vec<CheckedBlock<TestScheme>>,
+    chain: Chain<TestScheme>,
 }
 
 /// No chain, of which the last k blocks may be rolled back, and these blocks to come.
@@ -36,7 +37,7 @@ fn new_chains(rt: &(impl Abort + AllocGlobal), k: u64, blocks: &str) -> Box<Chai
                 },
             ),
             db: new_db(rt, k),
-            chain: Vec::new(rt.alloc()),
+            chain: Chain::new(rt.alloc()),
         },
     )
 }
@@ -53,17 +54,20 @@ fn select_with(
         chain,
         ..
     } = chains;
+    assert!(rt; chain.gone_len() == 0);
     select(rt.alloc(), store, db, chain, block).expect(rt, MEMORY)
 }
 
 /// Makes the selected chain what was selected.
 fn put_on(rt: &impl Abort, chains: &mut Chains, selected: Switch<TestScheme>) {
     let back = selected.back;
-    let mut blocks = selected.blocks;
+    let blocks = selected.blocks;
     assert!(rt; switch(&mut chains.db, back, &blocks).is_none());
     let keep = chains.chain.len().saturating_sub(back);
+    assert!(rt; chains.chain.gone_len() == 0);
     chains.chain.truncate(keep);
-    chains.chain.append(&mut blocks).expect(rt, MEMORY);
+    chains.chain.reserve(blocks.len()).expect(rt, MEMORY);
+    chains.chain.append(blocks);
 }
 
 /// The block in the form in which it comes: as its text alone, where its number is even.
@@ -82,9 +86,8 @@ fn keep(rt: &impl Abort, chains: &mut Chains, block: LiveBlock<TestScheme>, dead
         chains.store.mark_invalid(*hash);
     }
     let immutable = chains.chain.len().saturating_sub(chains.db.depth());
-    chains
-        .store
-        .drop_up_to(chain_tip(&chains.chain[..immutable]));
+    let tip = chains.chain.tip_of_first(immutable);
+    chains.store.drop_up_to(tip.expect(rt, "in memory"));
 }
 
 /// The block of this name comes; then the chain has `length` blocks, and `dead` are found dead.
@@ -119,8 +122,8 @@ fn is_marked(rt: &(impl Abort + AllocGlobal), chains: &Chains, name: &str) -> Op
 
 /// The chain ends in the block of this name, where the fees are this much.
 fn ends_in(rt: &(impl Abort + AllocGlobal), chains: &Chains, name: &str, fees: u64) {
-    let tip = chains.chain.last().expect(rt, "a block");
-    assert!(rt; tip.hash() == hash_of(rt, &chains.names, name));
+    let tip = chains.chain.tip();
+    assert!(rt; tip.hash == Some(hash_of(rt, &chains.names, name)));
     same(rt, "fees", chains.db.state().fees(), fees);
 }
 

@@ -1,4 +1,4 @@
-use Rattle.std.proofs.Common.{rules, vec_len, ◌≡◌, ◌≤◌, ◌-◌, ℕ, List, ◌++◌, Result, length, take, refl, sym, ap, subst, ◌∙◌}
+use Rattle.std.proofs.Common.{◌≡◌, ◌≤◌, ◌-◌, ℕ, List, ◌++◌, Result, length, take, refl, sym, ap, subst, ◌∙◌}
 use Rattle.std.specs.Prelude.{IfOk}
 use Rattle.std.specs.declared.alloc.AllocError.{AllocError}
 use Rattle.std.proofs.lemmas.Option.{slice_get_read}
@@ -11,6 +11,7 @@ use Rattle.ledgerdb.specs.Values.{depth}
 use Rattle.ledgerdb.specs.Chains.{without_last, IsPreparedOf}
 use Rattle.ledgerdb.specs.Faults.{StopsOnChain, IsFaultOnChain}
 use Rattle.ledgerdb.proofs.ForCallers.{prepared_valid}
+use Rattle.chain.specs.Chained.{chain_of}
 use Rattle.chain_core.specs.ChainDbs.{IsWhole}
 use Rattle.chain_core.specs.Ways.{IsJudged}
 use Rattle.chain_core.specs.declared.why.Why.{Why}
@@ -22,10 +23,9 @@ pub returns : goal.returns
 returns g c =
     let verifies = g.S.SigScheme.verifies in
     let a = c.args.chain_db.now in
-    let chain = a.chain.items in
+    let chain = (chain_of a.chain) in
     let back = c.len.result - c.args.keep in
-    let long : vec_len a.chain ≡ length chain = search rules in
-    let is : back ≡ length chain - c.args.keep = ap (λ (n : ℕ). n - c.args.keep) (c.len.ensures ∙ long) in
+    let is : back ≡ length chain - c.args.keep = ap (λ (n : ℕ). n - c.args.keep) c.len.ensures in
     let kept = kept_by chain c.args.keep back c.requires.keep is in
     elim c.match-fork.branch [
       | in-Ok w ↦ subst (λ (r : Result Why AllocError). IfOk r (λ why. (genesis : Genesis) (opened : List Block) → IsWhole (network_on genesis verifies opened) a → IsJudged (network_on genesis verifies opened) (take c.args.keep chain) c.args.way.now why)) (sym w.result-is)

@@ -6,11 +6,13 @@ use Rattle.model.specs.Ledger.{network_on}
 use Rattle.model.specs.History.{State}
 use Rattle.model.specs.Asked.{IsWhyOf}
 use Rattle.model.proofs.Results.{on_err}
+use Rattle.chain.specs.Chained.{chain_of}
 use Rattle.chain_core.specs.ChainDbs.{IsWhole, HasState}
 use Rattle.chain_core.specs.Ways.{why_of, IsWayTo, IsJudged}
 use Rattle.chain_core.proofs.Arrivals.{at_rest, rests}
 use Rattle.chain_core.proofs.BlocksByHash.{on_chain, none_live}
 use Rattle.chain_core.proofs.WaysBack.{selected_is, beside_is, way_at, way_keeps, why_judged}
+use Rattle.chain_core.proofs.PastHashes.{whole_indexed}
 use Rattle.chain_core.proofs.why.why_in.Goals as goal
 
 pub returns-in-Some-clause-why : goal.returns-in-Some-clause-why
@@ -60,14 +62,14 @@ returns-in-Chain-clause-why g c =
     let hash = c.args.hash.bytes in
     let way = c.in_ok-way.way in
     let keep = c.in-Chain.keep in
-    IfOk-weaker c.judge_live.result (λ why. (genesis : Genesis) (opened : List Block) → IsWhole (network_on genesis v opened) a → IsJudged (network_on genesis v opened) (take keep a.chain.items) c.deref.result.now why)
+    IfOk-weaker c.judge_live.result (λ why. (genesis : Genesis) (opened : List Block) → IsWhole (network_on genesis v opened) a → IsJudged (network_on genesis v opened) (take keep (chain_of a.chain)) c.deref.result.now why)
     (λ why. (genesis : Genesis) (opened : List Block) (s : State) → IsWhole (network_on genesis v opened) a → HasState (network_on genesis v opened) a s → IsWhyOf (network_on genesis v opened) s hash (why_of why))
     (λ why judged genesis opened s whole has.
     let network = network_on genesis v opened in
     let to = way_at network a s has hash c.in-Some-get.stored.now c.live.result.now c.in-Some-get.ensures.found c.live.ensures (c.in_default.ensures network whole) way.blocks.items way.footing (c.in_ok-way.ensures network s whole has) in
     why_judged network a s whole has hash way.blocks.items keep why (subst (IsWayTo network s hash way.blocks.items) c.in-Chain.is to)
     (subst (λ (bs : List Block). IsJudged network (take keep bs) way.blocks.items why) has.chain
-    (subst (λ (bs : List Block). IsJudged network (take keep a.chain.items) bs why) c.deref.ensures.value (judged genesis opened whole))))
+    (subst (λ (bs : List Block). IsJudged network (take keep (chain_of a.chain)) bs why) c.deref.ensures.value (judged genesis opened whole))))
     c.judge_live.ensures
 
 pub returns-in-Chain-clause-memory : goal.returns-in-Chain-clause-memory
@@ -93,3 +95,9 @@ returns-clause-why g c = λ genesis opened s whole has.
     let to = way_at network a s has hash c.in-Some-get.stored.now c.live.result.now c.in-Some-get.ensures.found c.live.ensures (c.in_default.ensures network whole) way.blocks.items way.footing (c.in_ok-way.ensures network s whole has) in
     let is = subst (IsWayTo network s hash way.blocks.items) c.in-Misfit.is to in
     (is.0, is.2.0, is.2.1)
+
+pub chain_block-requires : goal.chain_block-requires
+chain_block-requires g c = whole_indexed c.requires.whole.0 c.args.chain_db.now c.requires.whole.1
+
+pub way_back-requires : goal.way_back-requires
+way_back-requires g c = whole_indexed c.requires.whole.0 c.args.chain_db.now c.requires.whole.1

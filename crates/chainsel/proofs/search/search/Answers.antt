@@ -1,4 +1,4 @@
-use Rattle.std.proofs.Common.{Bool, ◌≡◌, ◌≢◌, ◌+◌, ◌-◌, List, [], ◌∷◌, true, false, length, Contains, refl, sym, ap, subst, ◌∙◌, arith}
+use Rattle.std.proofs.Common.{Bool, ℕ, ◌≡◌, ◌≢◌, ◌+◌, ◌-◌, List, [], ◌∷◌, true, false, length, Contains, refl, sym, ap, subst, ◌∙◌, arith}
 use Rattle.std.specs.Prelude.{IfSome}
 use Rattle.std.specs.List.{AllByRecursion}
 use Rattle.std.proofs.lemmas.List.{length-append}
@@ -12,6 +12,7 @@ use Rattle.blockstore.specs.Stored.{blocks_of}
 use Rattle.ledgerdb.specs.Chains.{without_last, IsPreparedOf}
 use Rattle.ledgerdb.specs.Values.{state_back}
 use Rattle.ledgerdb.specs.Faults.{IsForkFault, IsFaultOnChain}
+use Rattle.chain.specs.Chained.{chain_of}
 use Rattle.chainsel.specs.Founds.{AreFound}
 use Rattle.chainsel.proofs.Turns.{match_none, match_some}
 use Rattle.chainsel.specs.Choices.{AreDeadInAll, IsSideInAll}
@@ -25,45 +26,45 @@ use Rattle.chainsel.proofs.search.search.Given as given
 use Rattle.chainsel.proofs.search.search.Goals as goal
 use Rattle.chainsel.proofs.search.search.Goals.{In-Some, In_ok-push-in-Err-Refused, In_ok-side-in-Err-Refused, then-eq-via-then-eq, then-eq-via-else-eq+in_ok-sift-in-Err-Refused+then-not-branch}
 
-pub returns-then-number-chain : goal.returns-then-number-chain
-returns-then-number-chain g c =
-    kept_by_number g.S.SigScheme.verifies c.args.chain.now c.args.store.now c.args.db.now c.args.new.now c.keep.result c.loop-side.found.hashes.items c.keep.ensures.choice c.keep.ensures.invalid c.loop-side.invariant.dead
-    (subst (λ o. IfSome o (IsSideInAll g.S.SigScheme.verifies c.args.chain.now c.args.store.now c.args.db.now c.args.new.now)) (sym c.keep.ensures.side) c.loop-side.invariant.beside)
-    c.in_ok-best.best.end.now c.in_ok-best.ensures.best (let e = c.number.ensures ∙ ap (λ (b : Block). b.header.number) c.block-in-loop-side.ensures in let le = c.if-number-chain.true in omega arith)
+pub returns-then-number-len : goal.returns-then-number-len
+returns-then-number-len g c =
+    kept_by_number g.S.SigScheme.verifies (chain_of c.args.chain.now) c.args.store.now c.args.db.now c.args.new.now c.keep.result c.loop-side.found.hashes.items c.keep.ensures.choice c.keep.ensures.invalid c.loop-side.invariant.dead
+    (subst (λ o. IfSome o (IsSideInAll g.S.SigScheme.verifies (chain_of c.args.chain.now) c.args.store.now c.args.db.now c.args.new.now)) (sym c.keep.ensures.side) c.loop-side.invariant.beside)
+    c.in_ok-best.best.end.now c.in_ok-best.ensures.best (let e = c.number.ensures ∙ ap (λ (b : Block). b.header.number) c.block-in-loop-side.ensures in let le = c.if-number-len.true in let long = c.len.ensures in omega arith)
 
 pub returns-in_default : goal.returns-in_default
 returns-in_default g c =
-    kept_by_way g.S.SigScheme.verifies c.args.chain.now c.args.store.now c.args.db.now c.args.new.now c.keep-in_default.result c.loop-side.found.hashes.items c.keep-in_default.ensures.choice c.keep-in_default.ensures.invalid
+    kept_by_way g.S.SigScheme.verifies (chain_of c.args.chain.now) c.args.store.now c.args.db.now c.args.new.now c.keep-in_default.result c.loop-side.found.hashes.items c.keep-in_default.ensures.choice c.keep-in_default.ensures.invalid
     c.loop-side.invariant.dead
-    (subst (λ o. IfSome o (IsSideInAll g.S.SigScheme.verifies c.args.chain.now c.args.store.now c.args.db.now c.args.new.now)) (sym c.keep-in_default.ensures.side) c.loop-side.invariant.beside)
+    (subst (λ o. IfSome o (IsSideInAll g.S.SigScheme.verifies (chain_of c.args.chain.now) c.args.store.now c.args.db.now c.args.new.now)) (sym c.keep-in_default.ensures.side) c.loop-side.invariant.beside)
     c.args.immutable c.in_ok-best.best.end.now c.requires.immutable c.in_ok-best.ensures.descends (match_none _ _ c.in_ok-way.field-0 c.in_ok-way.ensures c.in_default.is)
 
 -- a way leads there, past the chain
-led : (g : given.Over) (c : In-Some g) → IsLed c.args.chain.now c.args.store.now c.args.db.now c.args.new.now c.loop-side.found.hashes.items c.in_ok-best.best.end.now c.args.immutable c.in-Some.way.keep c.in-Some.way.blocks.items
+led : (g : given.Over) (c : In-Some g) → IsLed (chain_of c.args.chain.now) c.args.store.now c.args.db.now c.args.new.now c.loop-side.found.hashes.items c.in_ok-best.best.end.now c.args.immutable c.in-Some.way.keep c.in-Some.way.blocks.items
 led g c = record {
   best = c.in_ok-best.ensures.best;
-  longer = let e = c.number.ensures ∙ ap (λ (b : Block). b.header.number) c.block-in-loop-side.ensures in let not = c.if-number-chain.false in omega arith;
+  longer = let e = c.number.ensures ∙ ap (λ (b : Block). b.header.number) c.block-in-loop-side.ensures in let not = c.if-number-len.false in let long = c.len.ensures in omega arith;
   immutable_at = c.requires.immutable;
   way = match_some _ _ c.in_ok-way.field-0 c.in-Some.way c.in_ok-way.ensures c.in-Some.is;
 }
 
 pub returns-in-Ok : goal.returns-in-Ok
 returns-in-Ok g c =
-    let chain = c.args.chain.now in
+    let chain = chain_of c.args.chain.now in
     let keep = c.in-Some.way.keep in
     let blocks = c.in-Some.way.blocks in
-    let back = length chain - keep in
+    let back = c.len-in-loop-side.result - keep in
     switched g.S.SigScheme.verifies chain c.args.store.now c.args.db.now c.args.new.now c.loop-side.found.hashes.items c.loop-side.invariant.dead c.in_ok-best.best.end.now c.args.immutable keep blocks.items (led g (goal.at.returns-in-Ok g c).In-Some)
-    c.into_hashes.result (record { back = back; blocks = blocks; prepared = c.in-Ok.prepared }) c.loop-side.read c.into_hashes.ensures refl refl c.in-Ok.ensures.back (c.in-Ok.ensures.count ∙ ap length c.deref.ensures.value)
+    c.into_hashes.result (record { back = back; blocks = blocks; prepared = c.in-Ok.prepared }) c.loop-side.read c.into_hashes.ensures (ap (λ (n : ℕ). n - keep) c.len-in-loop-side.ensures) refl c.in-Ok.ensures.back (c.in-Ok.ensures.count ∙ ap length c.deref.ensures.value)
     (λ genesis opened database. subst (λ (bs : List Block). IsPreparedOf (network_on genesis g.S.SigScheme.verifies opened) (without_last back chain) bs c.in-Ok.prepared) c.deref.ensures.value (c.in-Ok.ensures.chain genesis opened chain database))
 
 -- ---- a block of the way isn't applied
 
 -- it is dead, beside those that were
-dead_now : (g : given.Over) (c : In_ok-push-in-Err-Refused g) → IsLed c.args.chain.now c.args.store.now c.args.db.now c.args.new.now c.loop-side.found.hashes.items c.in_ok-best.best.end.now c.args.immutable c.in-Some.way.keep c.in-Some.way.blocks.items
-    → AreDeadInAll g.S.SigScheme.verifies c.args.chain.now c.args.store.now c.args.db.now c.args.new.now c.push.new.self.hashes.items
+dead_now : (g : given.Over) (c : In_ok-push-in-Err-Refused g) → IsLed (chain_of c.args.chain.now) c.args.store.now c.args.db.now c.args.new.now c.loop-side.found.hashes.items c.in_ok-best.best.end.now c.args.immutable c.in-Some.way.keep c.in-Some.way.blocks.items
+    → AreDeadInAll g.S.SigScheme.verifies (chain_of c.args.chain.now) c.args.store.now c.args.db.now c.args.new.now c.push.new.self.hashes.items
 dead_now g c is_led =
-    let chain = c.args.chain.now in
+    let chain = chain_of c.args.chain.now in
     let store = c.args.store.now in
     let db = c.args.db.now in
     let new = c.args.new.now in
@@ -74,15 +75,16 @@ dead_now g c is_led =
     (λ genesis opened database.
     let network = network_on genesis g.S.SigScheme.verifies opened in
     subst (IsFaultOnChain network (without_last (length chain - keep) chain) blocks) c.in-Err-Refused.field-0-is
-    (subst (λ (bs : List Block). IsFaultOnChain network (without_last (length chain - keep) chain) bs c.in-Err-Refused.field-0) c.deref.ensures.value (c.in-Err-Refused.ensures.chain_refused genesis opened chain database)))
+    (subst (λ (n : ℕ). IsFaultOnChain network (without_last (n - keep) chain) blocks c.in-Err-Refused.field-0) c.len-in-loop-side.ensures
+    (subst (λ (bs : List Block). IsFaultOnChain network (without_last (c.len-in-loop-side.result - keep) chain) bs c.in-Err-Refused.field-0) c.deref.ensures.value (c.in-Err-Refused.ensures.chain_refused genesis opened chain database))))
     (sym c.index.ensures) c.hash-dead.ensures)
 
 -- the state before it is one of blocks at hand
-beside_now : (g : given.Over) (c : In_ok-side-in-Err-Refused g) → IsLed c.args.chain.now c.args.store.now c.args.db.now c.args.new.now c.loop-side.found.hashes.items c.in_ok-best.best.end.now c.args.immutable c.in-Some.way.keep c.in-Some.way.blocks.items
-    → IfSome c.in_ok-side-in-Err-Refused.side (IsSideInAll g.S.SigScheme.verifies c.args.chain.now c.args.store.now c.args.db.now c.args.new.now)
+beside_now : (g : given.Over) (c : In_ok-side-in-Err-Refused g) → IsLed (chain_of c.args.chain.now) c.args.store.now c.args.db.now c.args.new.now c.loop-side.found.hashes.items c.in_ok-best.best.end.now c.args.immutable c.in-Some.way.keep c.in-Some.way.blocks.items
+    → IfSome c.in_ok-side-in-Err-Refused.side (IsSideInAll g.S.SigScheme.verifies (chain_of c.args.chain.now) c.args.store.now c.args.db.now c.args.new.now)
 beside_now g c is_led =
     let verifies = g.S.SigScheme.verifies in
-    let chain = c.args.chain.now in
+    let chain = chain_of c.args.chain.now in
     let store = c.args.store.now in
     let db = c.args.db.now in
     let new = c.args.new.now in
@@ -97,7 +99,7 @@ beside_now g c is_led =
 pub returns-then-eq : goal.returns-then-eq
 returns-then-eq g c =
     let verifies = g.S.SigScheme.verifies in
-    let chain = c.args.chain.now in
+    let chain = chain_of c.args.chain.now in
     let store = c.args.store.now in
     let db = c.args.db.now in
     let new = c.args.new.now in
@@ -124,7 +126,7 @@ returns-then-eq g c =
     ]
 
 -- what was named is fit, and named once
-found_now : (g : given.Over) (c : In_ok-push-in-Err-Refused g) → IsLed c.args.chain.now c.args.store.now c.args.db.now c.args.new.now c.loop-side.found.hashes.items c.in_ok-best.best.end.now c.args.immutable c.in-Some.way.keep c.in-Some.way.blocks.items
+found_now : (g : given.Over) (c : In_ok-push-in-Err-Refused g) → IsLed (chain_of c.args.chain.now) c.args.store.now c.args.db.now c.args.new.now c.loop-side.found.hashes.items c.in_ok-best.best.end.now c.args.immutable c.in-Some.way.keep c.in-Some.way.blocks.items
     → block_hash_of c.index.result.now ≢ block_hash_of c.args.new.now → AreFound c.args.store.now c.push.new.self.hashes.items
 found_now g c is_led other =
     let store = c.args.store.now in
@@ -134,15 +136,15 @@ found_now g c is_led other =
     let blocks = c.in-Some.way.blocks.items in
     let old = c.loop-side.found.hashes.items in
     let b = c.index.result.now in
-    let stops = subst (IsForkFault g.S.SigScheme.verifies (state_back c.args.db.now (length c.args.chain.now - keep)) blocks) c.in-Err-Refused.field-0-is
-    (subst (λ (bs : List Block). IsForkFault g.S.SigScheme.verifies (state_back c.args.db.now (length c.args.chain.now - keep)) bs c.in-Err-Refused.field-0) c.deref.ensures.value c.in-Err-Refused.ensures.refused) in
-    let fit = way_fit store old c.args.chain.now c.args.immutable new end keep blocks is_led.way c.in_ok-best.ensures.descends b (c.in-Err-Refused.index, stops.within, sym c.index.ensures) other in
+    let stops = subst (IsForkFault g.S.SigScheme.verifies (state_back c.args.db.now (c.len-in-loop-side.result - keep)) blocks) c.in-Err-Refused.field-0-is
+    (subst (λ (bs : List Block). IsForkFault g.S.SigScheme.verifies (state_back c.args.db.now (c.len-in-loop-side.result - keep)) bs c.in-Err-Refused.field-0) c.deref.ensures.value c.in-Err-Refused.ensures.refused) in
+    let fit = way_fit store old (chain_of c.args.chain.now) c.args.immutable new end keep blocks is_led.way c.in_ok-best.ensures.descends b (c.in-Err-Refused.index, stops.within, sym c.index.ensures) other in
     subst (AreFound store) (sym c.in_ok-push-in-Err-Refused.ensures) (one_found store old b c.hash-dead.result c.loop-side.invariant.found fit c.hash-dead.ensures)
 
 pub loop-side-preserved : goal.loop-side-preserved
 loop-side-preserved g c =
     let verifies = g.S.SigScheme.verifies in
-    let chain = c.args.chain.now in
+    let chain = chain_of c.args.chain.now in
     let store = c.args.store.now in
     let db = c.args.db.now in
     let new = c.args.new.now in

@@ -7,7 +7,7 @@ use Rattle.chainsel.proofs.selecting.goes_no_further.Goals as goal
 
 pub returns : goal.returns
 returns g c = λ ends. (
-  (let short = c.if-number-chain.false in let is = ap (λ (b : Block). b.header.number) c.block-new.ensures in omega (arith, short, is)),
+  (let short = c.if-number-len.false in let is = ap (λ (b : Block). b.header.number) c.block-new.ensures in let long = c.len.ensures in omega (arith, short, is, long)),
   (λ x member names.
       let found = c.in_ok-successors.field-0.items in
       let there = (c.in_ok-successors.ensures.found.members x).1 (member, names ∙ ap Some (sym (c.hash.ensures ∙ ap block_hash_of c.block-new.ensures))) in

@@ -7,6 +7,7 @@ use Rattle.std.proofs.lemmas.List.Elements.{Contains-append_right}
 use Rattle.model.specs.Ledger.{network_on}
 use Rattle.model.proofs.Lists.{contains_first}
 use Rattle.ident.specs.Kinds.{BlockHash}
+use Rattle.chain.specs.Chained.{chain_of}
 use Rattle.chainsel.specs.Choices.{AreDead, AreDeadInAll, IsSideInAll}
 use Rattle.chainsel.specs.Judged.{FindsDead}
 use Rattle.chainsel.proofs.Answering.{kept_apart, kept_short, kept_by_death}
@@ -18,7 +19,7 @@ use Rattle.chainsel.proofs.selecting.select.Goals.{In_ok-sift}
 pub returns-then-branch : goal.returns-then-branch
 returns-then-branch g c =
     let verifies = g.S.SigScheme.verifies in
-    let chain = c.args.chain.now in
+    let chain = chain_of c.args.chain.now in
     let store = c.args.store.now in
     let db = c.args.db.now in
     let new = c.args.new.now in
@@ -31,10 +32,10 @@ returns-then-branch g c =
     ]
 
 -- what was found dead beside the chain is so
-dead_now : (g : given.Over) (c : In_ok-sift g) → AreDeadInAll g.S.SigScheme.verifies c.args.chain.now c.args.store.now c.args.db.now c.args.new.now c.sift.new.found.hashes.items
+dead_now : (g : given.Over) (c : In_ok-sift g) → AreDeadInAll g.S.SigScheme.verifies (chain_of c.args.chain.now) c.args.store.now c.args.db.now c.args.new.now c.sift.new.found.hashes.items
 dead_now g c genesis opened ready =
     let network = network_on genesis g.S.SigScheme.verifies opened in
-    let chain = c.args.chain.now in
+    let chain = chain_of c.args.chain.now in
     let store = c.args.store.now in
     let new = c.args.new.now in
     c.in_ok-sift.ensures.dead genesis opened chain (beside_ready network chain store c.args.db.now new ready c.side_before.result _ (subst (λ (b : Block). MatchOption c.side_before.result (AllByRecursion (λ s. Follows s.tip b → ⊥) c.args.db.now.sides) (λ s. Contains c.args.db.now.sides s.now × Follows s.now.tip b)) c.block.ensures c.side_before.ensures))
@@ -43,7 +44,7 @@ dead_now g c genesis opened ready =
 pub returns-then-not-branch : goal.returns-then-not-branch
 returns-then-not-branch g c =
     let verifies = g.S.SigScheme.verifies in
-    let chain = c.args.chain.now in
+    let chain = chain_of c.args.chain.now in
     let store = c.args.store.now in
     let db = c.args.db.now in
     let new = c.args.new.now in

@@ -2,10 +2,11 @@ use Rattle.std.proofs.Common.{◌≡◌, ◌+◌, ◌-◌, ◌≤◌, List, [], 
 use Rattle.std.proofs.lemmas.List.{reverse-append}
 use Rattle.model.specs.Block.{Block}
 use Rattle.model.specs.Chain.{genesis_tip, tip_at, tip_after, Follows}
+use Rattle.chain.specs.Chained.{chain_of}
 use Rattle.chainsel.specs.Paths.{IsWay}
 use Rattle.chainsel.proofs.Walks.{IsWalk, way_found, walk_step, no_way_further, no_way_lower}
 use Rattle.chainsel.proofs.way.way_to.Goals as goal
-use Rattle.chainsel.proofs.way.way_to.Goals.{else-keep-chain-via-then-keep-chain+else-follows_chain, else-keep-chain-via-else-keep-chain}
+use Rattle.chainsel.proofs.way.way_to.Goals.{else-keep-len-via-then-keep-len+else-follows_chain, else-keep-len-via-else-keep-len}
 
 -- the blocks with the next one behind, the other way round
 reversed : (blocks old : List Block) (b first : Block) → blocks ≡ old ++ b ∷ [] → b ≡ first → reverse blocks ≡ first ∷ reverse old
@@ -13,7 +14,7 @@ reversed blocks old b first pushed same = ap reverse pushed ∙ (reverse-append 
 
 pub returns-then-follows_chain : goal.returns-then-follows_chain
 returns-then-follows_chain g c =
-    let chain = c.args.chain.now in
+    let chain = chain_of c.args.chain.now in
     let first = c.loop-keep.first.now in
     let keep = c.loop-keep.keep - 1 in
     let low : c.args.immutable ≤ keep = let more = c.loop-keep-test.true in omega arith in
@@ -22,18 +23,18 @@ returns-then-follows_chain g c =
     reversed c.push.new.self.items c.loop-keep.way.items c.in_ok-read.field-0 first c.in_ok-push.ensures.items c.in_ok-read.ensures in
     let IsWayBy : List Block → Type 0 = IsWay c.args.store.now c.args.found.now.hashes.items chain c.args.immutable c.args.new.now c.args.best.end.now keep in
     subst IsWayBy (sym {A = List Block} c.reverse.ensures.items) (subst IsWayBy (sym walked)
-    (way_found c.args.store.now c.args.found.now.hashes.items chain c.args.immutable c.args.new.now c.args.best.end.now first (reverse c.loop-keep.way.items) keep c.loop-keep.invariant.walk number low c.if-keep-chain.true (subst (Follows (tip_after genesis_tip (take keep chain))) c.block-then-keep-chain.ensures (c.if-follows_chain.ensures.0 refl))))
+    (way_found c.args.store.now c.args.found.now.hashes.items chain c.args.immutable c.args.new.now c.args.best.end.now first (reverse c.loop-keep.way.items) keep c.loop-keep.invariant.walk number low (let within = c.if-keep-len.true in let long = c.len.ensures in omega (arith, within, long)) (subst (Follows (tip_after genesis_tip (take keep chain))) c.block-then-keep-len.ensures (c.if-follows_chain.ensures.0 refl))))
 
 pub returns-in_default : goal.returns-in_default
 returns-in_default g c =
-    let chain = c.args.chain.now in
+    let chain = chain_of c.args.chain.now in
     let first = c.loop-keep.first.now in
     let keep = c.loop-keep.keep - 1 in
     let number : keep + 1 ≡ first.header.number = let is = c.loop-keep.invariant.number in let more = c.loop-keep-test.true in omega arith in
     let refused : keep ≤ length chain → Follows (tip_after genesis_tip (take keep chain)) first → ⊥ =
-    elim c.else-keep-chain.branch [
-      | else-keep-chain-via-then-keep-chain+else-follows_chain w ↦ λ within follows. let e : false ≡ true = w.if-follows_chain.ensures.1 (subst (Follows (tip_after genesis_tip (take keep chain))) (sym w.block-then-keep-chain.ensures) follows) in cc
-      | else-keep-chain-via-else-keep-chain w ↦ λ within follows. let past = w.if-keep-chain.false in omega arith
+    elim c.else-keep-len.branch [
+      | else-keep-len-via-then-keep-len+else-follows_chain w ↦ λ within follows. let e : false ≡ true = w.if-follows_chain.ensures.1 (subst (Follows (tip_after genesis_tip (take keep chain))) (sym w.block-then-keep-len.ensures) follows) in cc
+      | else-keep-len-via-else-keep-len w ↦ λ within follows. let past = w.if-keep-len.false in let long = c.len.ensures in omega (arith, past, long)
     ] in
     λ distinct linked within before members path.
     no_way_further c.args.store.now c.args.found.now.hashes.items chain c.args.immutable c.args.new.now c.args.best.end.now first (reverse c.loop-keep.way.items) keep c.loop-keep.invariant.walk number refused
@@ -41,14 +42,14 @@ returns-in_default g c =
 
 pub loop-keep-preserved : goal.loop-keep-preserved
 loop-keep-preserved g c =
-    let chain = c.args.chain.now in
+    let chain = chain_of c.args.chain.now in
     let first = c.loop-keep.first.now in
     let keep = c.loop-keep.keep - 1 in
     let number : keep + 1 ≡ first.header.number = let is = c.loop-keep.invariant.number in let more = c.loop-keep-test.true in omega arith in
     let refused : keep ≤ length chain → Follows (tip_after genesis_tip (take keep chain)) first → ⊥ =
-    elim c.else-keep-chain.branch [
-      | else-keep-chain-via-then-keep-chain+else-follows_chain w ↦ λ within follows. let e : false ≡ true = w.if-follows_chain.ensures.1 (subst (Follows (tip_after genesis_tip (take keep chain))) (sym w.block-then-keep-chain.ensures) follows) in cc
-      | else-keep-chain-via-else-keep-chain w ↦ λ within follows. let past = w.if-keep-chain.false in omega arith
+    elim c.else-keep-len.branch [
+      | else-keep-len-via-then-keep-len+else-follows_chain w ↦ λ within follows. let e : false ≡ true = w.if-follows_chain.ensures.1 (subst (Follows (tip_after genesis_tip (take keep chain))) (sym w.block-then-keep-len.ensures) follows) in cc
+      | else-keep-len-via-else-keep-len w ↦ λ within follows. let past = w.if-keep-len.false in let long = c.len.ensures in omega (arith, past, long)
     ] in
     let walk = walk_step c.args.store.now c.args.found.now.hashes.items chain c.args.immutable c.args.new.now c.args.best.end.now first c.in-Some.before.now (reverse c.loop-keep.way.items) keep c.loop-keep.invariant.walk number refused c.in-Some.ensures.parent.0 (subst (Follows (tip_at c.in-Some.before.now)) c.block-in-loop-keep.ensures c.in-Some.ensures.parent.1) in
     record {
@@ -61,5 +62,5 @@ loop-keep-preserved g c =
 pub returns : goal.returns
 returns g c = λ distinct linked within before members path.
     let low : c.loop-keep.first.now.header.number ≤ c.args.immutable = let is = c.loop-keep.invariant.number in let end = c.loop-keep-test.false in omega arith in
-    no_way_lower c.args.store.now c.args.found.now.hashes.items c.args.chain.now c.args.immutable c.args.new.now c.args.best.end.now c.loop-keep.first.now (reverse c.loop-keep.way.items) c.loop-keep.invariant.walk low
+    no_way_lower c.args.store.now c.args.found.now.hashes.items (chain_of c.args.chain.now) c.args.immutable c.args.new.now c.args.best.end.now c.loop-keep.first.now (reverse c.loop-keep.way.items) c.loop-keep.invariant.walk low
     before (record { distinct = distinct; chain_linked = linked; within = within; members = members; linked = path })

@@ -6,6 +6,7 @@ use Rattle.model.specs.Ledger.{network_on}
 use Rattle.utxo_rules.specs.View.{params_of}
 use Rattle.mempool.specs.Calls.{IsSubmission}
 use Rattle.mempool.specs.View.{reply_of}
+use Rattle.chain.specs.Chained.{chain_of}
 use Rattle.chain_core.specs.declared.chain_db.ChainDb.{ChainDb}
 use Rattle.chain_core.specs.ChainDbs.{IsWhole, IsTaken}
 use Rattle.chain_core.proofs.Adding.{taken, whole_after}
@@ -19,7 +20,7 @@ returns-clause-ok g c =
     IfOk-weaker c.submit.result (λ reply. IsSubmission verifies (params_of c.params.result.now) (c.slot.result + 1) old.mempool c.args.bytes.now (reply_of reply) c.submit.new.self)
     (λ reply. (genesis : Genesis) (opened : List Block) → IsWhole (network_on genesis verifies opened) old → IsTaken (network_on genesis verifies opened) old c.args.bytes.now (reply_of reply) new)
     (λ reply p. λ genesis opened whole. taken (network_on genesis verifies opened) old c.submit.new.self c.state-state.result.now (params_of c.params.result.now) c.slot.result c.args.bytes.now (reply_of reply) whole
-    (c.state-state.ensures.chain (network_on genesis verifies opened) old.chain.items whole.settled.database) c.params.ensures c.slot.ensures.slot p)
+    (c.state-state.ensures.chain (network_on genesis verifies opened) (chain_of old.chain) whole.settled.database) c.params.ensures c.slot.ensures.slot p)
     c.submit.ensures.ok
 
 pub returns-clause-whole : goal.returns-clause-whole

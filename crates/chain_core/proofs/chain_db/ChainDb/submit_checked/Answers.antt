@@ -8,6 +8,7 @@ use Rattle.model.specs.Ledger.{network_on}
 use Rattle.utxo_rules.specs.View.{params_of}
 use Rattle.mempool.specs.Calls.{IsSubmissionOf}
 use Rattle.mempool.specs.View.{reply_of}
+use Rattle.chain.specs.Chained.{chain_of}
 use Rattle.chain_core.specs.declared.chain_db.ChainDb.{ChainDb}
 use Rattle.chain_core.specs.ChainDbs.{IsWhole, IsTaken}
 use Rattle.chain_core.proofs.Adding.{taken, whole_after}
@@ -22,7 +23,7 @@ returns-clause-ok g c =
     IfOk-weaker c.submit_checked.result (λ reply. IsSubmissionOf verifies (params_of c.params.result.now) (c.slot.result + 1) old.mempool c.args.tx (reply_of reply) c.submit_checked.new.self)
     (λ reply. (genesis : Genesis) (opened : List Block) → IsWhole (network_on genesis verifies opened) old → (bytes : List ℕ) → SpellsTransaction c.args.tx bytes → IsTaken (network_on genesis verifies opened) old bytes (reply_of reply) new)
     (λ reply p. λ genesis opened whole bytes spelled. taken (network_on genesis verifies opened) old c.submit_checked.new.self c.state-state.result.now (params_of c.params.result.now) c.slot.result bytes (reply_of reply) whole
-    (c.state-state.ensures.chain (network_on genesis verifies opened) old.chain.items whole.settled.database) c.params.ensures c.slot.ensures.slot (p bytes spelled))
+    (c.state-state.ensures.chain (network_on genesis verifies opened) (chain_of old.chain) whole.settled.database) c.params.ensures c.slot.ensures.slot (p bytes spelled))
     c.submit_checked.ensures.ok
 
 pub returns-clause-whole : goal.returns-clause-whole
@@ -40,6 +41,6 @@ returns-clause-memory g c =
     let verifies = g.S.SigScheme.verifies in
     let old = c.args.self.now in
     on_err_weaker c.submit_checked.result
-    (λ want genesis opened whole bytes spelled. wants (network_on genesis verifies opened) old.chain.items c.state-state.result.now (c.state-state.ensures.chain (network_on genesis verifies opened) old.chain.items whole.settled.database)
+    (λ want genesis opened whole bytes spelled. wants (network_on genesis verifies opened) (chain_of old.chain) c.state-state.result.now (c.state-state.ensures.chain (network_on genesis verifies opened) (chain_of old.chain) whole.settled.database)
     old.mempool whole.mempool (params_of c.params.result.now) c.slot.result c.params.ensures c.slot.ensures.slot bytes (want bytes spelled))
     c.submit_checked.ensures.memory

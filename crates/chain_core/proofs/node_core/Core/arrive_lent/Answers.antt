@@ -6,6 +6,7 @@ use Rattle.model.specs.Ledger.{network_on}
 use Rattle.blockstore.specs.Insertion.{IsFull}
 use Rattle.blockstore.specs.Stored.{blocks_of}
 use Rattle.chainsel.specs.Ready.{IsReady}
+use Rattle.chain.specs.Chained.{chain_of}
 use Rattle.chain_core.specs.Steps.{IsReached}
 use Rattle.model.specs.History.{State, Arrive, Kept}
 use Rattle.model.proofs.Results.{on_err}
@@ -18,6 +19,7 @@ use Rattle.chain_core.specs.Inside.{held}
 use Rattle.chain_core.proofs.Adding.{whole_same}
 use Rattle.chain_core.proofs.Reached.{opened_is, reached_on, reached_still, steps_on}
 use Rattle.chain_core.proofs.node_core.Core.arrive_lent.Given as given
+use Rattle.chain_core.proofs.PastHashes.{whole_indexed}
 use Rattle.chain_core.proofs.node_core.Core.arrive_lent.Goals as goal
 use Rattle.chain_core.proofs.node_core.Core.arrive_lent.Goals.{In_ok-shared}
 
@@ -40,7 +42,7 @@ read : (g : given.Over) (c : In_ok-shared g) → IsRead c.in_ok-shared.shared c.
 read g c = subst (λ (b : Block). IsRead b c.args.seen.now) (sym c.in_ok-shared.ensures) c.in-Ok.ensures.block
 
 -- the block may be put in
-fits : (g : given.Over) (c : In_ok-shared g) → IsReady (network_held (held c.self.inside) g.S.SigScheme.verifies) c.self.inside.chain_db.chain.items c.self.inside.chain_db.store c.self.inside.chain_db.db c.in_ok-shared.shared × (IsFull c.self.inside.chain_db.store (length (block_text c.in_ok-shared.shared)) → ⊥)
+fits : (g : given.Over) (c : In_ok-shared g) → IsReady (network_held (held c.self.inside) g.S.SigScheme.verifies) (chain_of c.self.inside.chain_db.chain) c.self.inside.chain_db.store c.self.inside.chain_db.db c.in_ok-shared.shared × (IsFull c.self.inside.chain_db.store (length (block_text c.in_ok-shared.shared)) → ⊥)
 fits g c =
     may_be_added (network_held (held c.self.inside) g.S.SigScheme.verifies) c.self.inside.chain_db c.in_ok-shared.shared c.args.seen.now c.self.invariant.whole (read g c) (judged g c (at_rest c.self.inside.chain_db) (rests (network_held (held c.self.inside) g.S.SigScheme.verifies) c.self.inside.chain_db c.self.invariant.whole))
 
@@ -55,18 +57,18 @@ invariant_of-self-2 g c =
     record {
       opens = subst (λ (o : List Block). IsOpening (network_on c.self.inside.genesis g.S.SigScheme.verifies o)) (opened_is (network_held (held c.self.inside) g.S.SigScheme.verifies) c.add.new.self (c.in_ok-change.ensures.ok.whole)) c.self.invariant.opens;
       whole = subst (λ (o : List Block). IsWhole (network_on c.self.inside.genesis g.S.SigScheme.verifies o) c.add.new.self) (opened_is (network_held (held c.self.inside) g.S.SigScheme.verifies) c.add.new.self (c.in_ok-change.ensures.ok.whole)) (c.in_ok-change.ensures.ok.whole);
-      reached = subst (λ (o : List Block). IsReached (network_on c.self.inside.genesis g.S.SigScheme.verifies o) (held_of c.self.inside.genesis o (blocks_of c.add.new.self.store) c.add.new.self.chain.items c.add.new.self.mempool.waiting.txs c.moved.new.self)) (opened_is (network_held (held c.self.inside) g.S.SigScheme.verifies) c.add.new.self (c.in_ok-change.ensures.ok.whole))
+      reached = subst (λ (o : List Block). IsReached (network_on c.self.inside.genesis g.S.SigScheme.verifies o) (held_of c.self.inside.genesis o (blocks_of c.add.new.self.store) (chain_of c.add.new.self.chain) c.add.new.self.mempool.waiting.txs c.moved.new.self)) (opened_is (network_held (held c.self.inside) g.S.SigScheme.verifies) c.add.new.self (c.in_ok-change.ensures.ok.whole))
           (reached_on g.S.SigScheme.verifies (held c.self.inside) c.args.self.now _ (Arrive c.args.seen.now) (Kept c.in_ok-change.change.back c.in_ok-change.change.added) c.self.view_is c.self.invariant.reached
           (kept_arrival (network_held (held c.self.inside) g.S.SigScheme.verifies) c.self.inside.chain_db c.add.new.self c.self.inside.followers c.moved.new.self c.args.self.now c.args.seen.now c.in_ok-shared.shared c.in_ok-change.change c.self.view_is (read g (goal.at.invariant_of-self-2 g c).In_ok-shared) (judged g (goal.at.invariant_of-self-2 g c).In_ok-shared) c.in_ok-change.ensures.ok
-          (c.moved.ensures ∙ ap (λ n. moved_places (n - c.in_ok-change.change.added) c.self.inside.followers) (let size : c.len.result ≡ length c.add.new.self.chain.items = search rules in size))));
+          (c.moved.ensures ∙ ap (λ n. moved_places (n - c.in_ok-change.change.added) c.self.inside.followers) (let size : c.len.result ≡ length (chain_of c.add.new.self.chain) = search rules in size))));
     }
 
 pub returns-clause-step : goal.returns-clause-step
 returns-clause-step g c =
-    steps_on g.S.SigScheme.verifies c.args.self.now (Arrive c.args.seen.now) (Kept c.in_ok-change.change.back c.in_ok-change.change.added) c.self.inside.genesis _ _ (blocks_of c.add.new.self.store) c.add.new.self.chain.items c.add.new.self.mempool.waiting.txs c.moved.new.self
+    steps_on g.S.SigScheme.verifies c.args.self.now (Arrive c.args.seen.now) (Kept c.in_ok-change.change.back c.in_ok-change.change.added) c.self.inside.genesis _ _ (blocks_of c.add.new.self.store) (chain_of c.add.new.self.chain) c.add.new.self.mempool.waiting.txs c.moved.new.self
     (opened_is (network_held (held c.self.inside) g.S.SigScheme.verifies) c.add.new.self (c.in_ok-change.ensures.ok.whole))
     (kept_arrival (network_held (held c.self.inside) g.S.SigScheme.verifies) c.self.inside.chain_db c.add.new.self c.self.inside.followers c.moved.new.self c.args.self.now c.args.seen.now c.in_ok-shared.shared c.in_ok-change.change c.self.view_is (read g (goal.at.returns-clause-step g c).In_ok-shared) (judged g (goal.at.returns-clause-step g c).In_ok-shared) c.in_ok-change.ensures.ok
-    (c.moved.ensures ∙ ap (λ n. moved_places (n - c.in_ok-change.change.added) c.self.inside.followers) (let size : c.len.result ≡ length c.add.new.self.chain.items = search rules in size)))
+    (c.moved.ensures ∙ ap (λ n. moved_places (n - c.in_ok-change.change.added) c.self.inside.followers) (let size : c.len.result ≡ length (chain_of c.add.new.self.chain) = search rules in size)))
 
 pub returns-in_err-change-clause-memory : goal.returns-in_err-change-clause-memory
 returns-in_err-change-clause-memory g c =
@@ -78,11 +80,14 @@ returns-in_err-shared-clause-memory g c =
 
 pub invariant_of-self : goal.invariant_of-self
 invariant_of-self g c =
-    let whole = whole_same (network_held (held c.self.inside) g.S.SigScheme.verifies) c.self.inside.chain_db c.add.new.self c.add.ensures.opened c.in_err-change.ensures.chain c.in_err-change.ensures.store c.in_err-change.ensures.db c.in_err-change.ensures.mempool
-    c.add.ensures.past c.self.invariant.whole in
+    let whole = whole_same (network_held (held c.self.inside) g.S.SigScheme.verifies) c.self.inside.chain_db c.add.new.self c.add.ensures.opened c.in_err-change.ensures.chain c.in_err-change.ensures.gone c.in_err-change.ensures.store c.in_err-change.ensures.db c.in_err-change.ensures.mempool
+    c.in_err-change.ensures.past c.self.invariant.whole in
     record {
       opens = subst (λ (o : List Block). IsOpening (network_on c.self.inside.genesis g.S.SigScheme.verifies o)) (opened_is (network_held (held c.self.inside) g.S.SigScheme.verifies) c.add.new.self (whole)) c.self.invariant.opens;
       whole = subst (λ (o : List Block). IsWhole (network_on c.self.inside.genesis g.S.SigScheme.verifies o) c.add.new.self) (opened_is (network_held (held c.self.inside) g.S.SigScheme.verifies) c.add.new.self (whole)) (whole);
-      reached = subst (λ (o : List Block). IsReached (network_on c.self.inside.genesis g.S.SigScheme.verifies o) (held_of c.self.inside.genesis o (blocks_of c.add.new.self.store) c.add.new.self.chain.items c.add.new.self.mempool.waiting.txs c.self.inside.followers)) (opened_is (network_held (held c.self.inside) g.S.SigScheme.verifies) c.add.new.self (whole))
+      reached = subst (λ (o : List Block). IsReached (network_on c.self.inside.genesis g.S.SigScheme.verifies o) (held_of c.self.inside.genesis o (blocks_of c.add.new.self.store) (chain_of c.add.new.self.chain) c.add.new.self.mempool.waiting.txs c.self.inside.followers)) (opened_is (network_held (held c.self.inside) g.S.SigScheme.verifies) c.add.new.self (whole))
           (reached_still (network_held (held c.self.inside) g.S.SigScheme.verifies) c.self.inside.chain_db c.add.new.self c.self.inside.followers c.in_err-change.ensures.chain c.in_err-change.ensures.store c.in_err-change.ensures.mempool c.self.invariant.reached);
     }
+
+pub first_refusal-requires : goal.first_refusal-requires
+first_refusal-requires g c = whole_indexed (network_held (held c.self.inside) g.S.SigScheme.verifies) c.self.inside.chain_db c.self.invariant.whole

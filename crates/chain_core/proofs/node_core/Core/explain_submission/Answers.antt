@@ -8,6 +8,7 @@ use Rattle.model.specs.Ledger.{network_on}
 use Rattle.model.specs.History.{State}
 use Rattle.model.specs.Asked.{ExplainsSubmission}
 use Rattle.utxo_rules.specs.DetailView.{detail_of}
+use Rattle.chain.specs.Chained.{chain_of}
 use Rattle.chain_core.specs.ChainDbs.{IsWhole, HasState}
 use Rattle.chain_core.specs.Held.{Held, Stands, network_held}
 use Rattle.chain_core.specs.Inside.{held}
@@ -18,7 +19,7 @@ pub returns-clause-told : goal.returns-clause-told
 returns-clause-told g c =
     let v = g.S.SigScheme.verifies in
     let a = c.self.inside in
-    let opened = take a.chain_db.opened a.chain_db.chain.items in
+    let opened = take a.chain_db.opened (chain_of a.chain_db.chain) in
     subst (λ (h : Held). IfOk c.explain.result (λ told. (s : State) → Stands h s → ExplainsSubmission (network_held h v) s c.args.bytes.now (option_map detail_of told))) c.self.view_is
     (IfOk-weaker c.explain.result (λ told. (genesis : Genesis) (opened : List Block) (s : State) → IsWhole (network_on genesis v opened) a.chain_db → HasState (network_on genesis v opened) a.chain_db s → a.chain_db.mempool.waiting.txs ≡ s.mempool
     → ExplainsSubmission (network_on genesis v opened) s c.args.bytes.now (option_map detail_of told))

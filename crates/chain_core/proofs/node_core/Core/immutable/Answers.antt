@@ -1,5 +1,6 @@
 use Rattle.std.proofs.Common.{◌≡◌, subst}
 use Rattle.model.specs.Chain.{BeginsWith, immutable_length, immutable_part}
+use Rattle.chain.specs.Chained.{chain_of}
 use Rattle.chain_core.specs.Held.{Held, network_held}
 use Rattle.chain_core.specs.Inside.{held}
 use Rattle.chain_core.proofs.OpenedOn.{begins_opened}
@@ -15,4 +16,4 @@ pub returns-clause-opened : goal.returns-clause-opened
 returns-clause-opened g c =
     let verifies = g.S.SigScheme.verifies in
     let now = held c.self.inside in
-    subst (λ (h : Held). BeginsWith (immutable_part (network_held h verifies) h.chain) h.opened) c.self.view_is (begins_opened (network_held now verifies) c.self.inside.chain_db.chain.items c.self.invariant.whole.settled.opened)
+    subst (λ (h : Held). BeginsWith (immutable_part (network_held h verifies) h.chain) h.opened) c.self.view_is (begins_opened (network_held now verifies) (chain_of c.self.inside.chain_db.chain) c.self.invariant.whole.settled.opened)

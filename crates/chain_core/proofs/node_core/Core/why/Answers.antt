@@ -7,6 +7,7 @@ use Rattle.model.specs.Ledger.{network_on}
 use Rattle.model.specs.History.{State}
 use Rattle.model.specs.Asked.{IsWhyOf, IsPlaceOf, Beside}
 use Rattle.std.proofs.lemmas.Result.{on_err_weaker}
+use Rattle.chain.specs.Chained.{chain_of}
 use Rattle.chain_core.specs.ChainDbs.{IsWhole, HasState}
 use Rattle.chain_core.specs.Held.{Held, Stands, network_held}
 use Rattle.chain_core.specs.Inside.{held}
@@ -21,7 +22,7 @@ pub returns-clause-why : goal.returns-clause-why
 returns-clause-why g c =
     let v = g.S.SigScheme.verifies in
     let a = c.self.inside in
-    let opened = take a.chain_db.opened a.chain_db.chain.items in
+    let opened = take a.chain_db.opened (chain_of a.chain_db.chain) in
     subst (λ (h : Held). IfOk c.why_in.result (λ why. (s : State) → Stands h s → IsWhyOf (network_held h v) s c.args.hash.bytes (why_of why))) c.self.view_is
     (IfOk-weaker c.why_in.result (λ why. (genesis : Genesis) (opened : List Block) (s : State) → IsWhole (network_on genesis v opened) a.chain_db → HasState (network_on genesis v opened) a.chain_db s → IsWhyOf (network_on genesis v opened) s c.args.hash.bytes (why_of why))
     (λ why. (s : State) → Stands (held a) s → IsWhyOf (network_held (held a) v) s c.args.hash.bytes (why_of why))
