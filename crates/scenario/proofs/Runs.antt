@@ -1,5 +1,5 @@
 -- The run of a script, between two lines and at its end.
-use Rattle.std.proofs.Common.{◌≡◌, ◌≢◌, ◌⊎◌, inl, inr, ℕ, Bool, ◌+◌, ◌≤◌, ◌<◌, List, [], ◌∷◌, ◌++◌, length, Option, Some, None, option_map, Result, Ok, refl, sym, ◌∙◌, ap, subst, append_assoc, append-nil, length-append, Err, nat_eq, true, false, arith}
+use Rattle.std.proofs.Common.{◌≡◌, ◌≢◌, inl, inr, ℕ, Bool, ◌+◌, ◌≤◌, ◌<◌, List, [], ◌∷◌, ◌++◌, length, Option, Some, None, option_map, Result, Ok, refl, sym, ◌∙◌, ap, subst, append_assoc, append-nil, length-append, Err, nat_eq, true, false, arith}
 use Rattle.std.specs.Prelude.{IfSome, OnOk, IfErr}
 use Rattle.std.specs.Global.{Vec}
 use Rattle.std.specs.List.{concat}
@@ -15,7 +15,7 @@ use Rattle.model.specs.Chain.{IsOpening}
 use Rattle.model.specs.History.{State, opening, Entry, IsRun}
 use Rattle.chain_core.specs.Held.{Held, Stands, network_held}
 use Rattle.scenario.specs.declared.options.Options.{Options}
-use Rattle.scenario.specs.Pieces.{IsPiece}
+use Rattle.scenario.specs.Pieces.{IsPiece, IsNextLine, IsReadFault, IsNoLine}
 use Rattle.scenario.specs.declared.session.Session.{Session}
 use Rattle.script.specs.declared.stop.Stop.{Stop}
 use Rattle.script.specs.declared.stop.Stop.TheVariants as stop
@@ -73,20 +73,16 @@ pub none_read : (text : Option (List ℕ)) → HasRead text text []
 none_read None = tt
 none_read (Some text) = (text, refl, refl, refl)
 
--- a line is read
-pub line_read : (old mid new : Option (List ℕ)) (done : List (List ℕ)) (line : List ℕ) → HasRead old mid done → IfSome mid (λ xs. line ≡ take_through 10 xs) → DropsThrough mid new 10 → HasLine old new done line
-line_read None mid new done line read is rest_is = tt
-line_read (Some text) mid new done line (rest, remains, lines, all) is rest_is = (
-  rest,
-  (let h : IfSome (Some rest) (λ xs. new ≡ Some (drop_through 10 xs)) = subst (λ (m : Option (List ℕ)). DropsThrough m new 10) remains rest_is in h),
-  (let h : IfSome (Some rest) (λ xs. line ≡ take_through 10 xs) = subst (λ (m : Option (List ℕ)). IfSome m (λ xs. line ≡ take_through 10 xs)) remains is in h),
-  lines,
-  all,
-)
+-- the next line was read into a buffer that was empty
+pub line_into : (old new : Option (List ℕ)) (start buf : List ℕ) → start ≡ [] → IfSome old (λ xs. buf ≡ start ++ take_through 10 xs) → DropsThrough old new 10 → IsNextLine old new buf
+line_into None new start buf empty is rest = tt
+line_into (Some xs) new start buf empty is rest = (is ∙ ap (λ (l : List ℕ). l ++ take_through 10 xs) empty, rest)
 
-into : (mid : Option (List ℕ)) (start buf line : List ℕ) → start ≡ [] → line ≡ buf → IfSome mid (λ xs. buf ≡ start ++ take_through 10 xs) → IfSome mid (λ xs. line ≡ take_through 10 xs)
-into None start buf line empty same is = tt
-into (Some xs) start buf line empty same is = same ∙ is ∙ ap (λ (l : List ℕ). l ++ take_through 10 xs) empty
+-- a piece of the next line was read into a buffer that was empty, and then reading stopped
+pub part_into : (start buf line : List ℕ) (why : ScenarioFault) → start ≡ [] → line ≡ buf → IsReadFault line why → IsReadFault (appended_bytes start buf) why
+part_into start buf line why empty same is =
+    let whole : line ≡ appended_bytes start buf = same ∙ ap (λ (l : List ℕ). appended_bytes l buf) (sym empty) in
+    subst (λ (l : List ℕ). IsReadFault l why) whole is
 
 no_zero : (n : ℕ) → n ≡ 0 → nat_eq n 0 ≡ false → ⊥
 no_zero n is test = let bad : nat_eq 0 0 ≡ false = subst (λ (k : ℕ). nat_eq k 0 ≡ false) is test in cc
@@ -96,10 +92,15 @@ pub not_empty : (line : List ℕ) (n : ℕ) → length line ≡ n → nat_eq n 0
 not_empty [] n is test = λ e. let zero_long : n ≡ 0 = omega arith in absurd (no_zero n zero_long test)
 not_empty (x ∷ xs) n is test = λ e. cc
 
--- a line is read into a buffer that was empty
-pub line_into : (old mid new : Option (List ℕ)) (done : List (List ℕ)) (start buf line : List ℕ) → HasRead old mid done → start ≡ [] → line ≡ buf → IfSome mid (λ xs. buf ≡ start ++ take_through 10 xs) → DropsThrough mid new 10 → HasLine old new done line
-line_into old mid new done start buf line read empty same is rest =
-    line_read old mid new done line read (into mid start buf line empty same is) rest
+next_there : (new : Option (List ℕ)) (whole line rest : List ℕ) → line ≡ whole → IsNextLine (Some rest) new whole → (new ≡ Some (drop_through 10 rest)) × (line ≡ take_through 10 rest)
+next_there new whole line rest same next = (next.1, same ∙ next.0)
+
+-- the next line behind those that were read
+pub next_of : (old mid new : Option (List ℕ)) (done : List (List ℕ)) (whole line : List ℕ) → HasRead old mid done → line ≡ whole → IsNextLine mid new whole → HasLine old new done line
+next_of None mid new done whole line read same next = tt
+next_of (Some text) mid new done whole line (rest, remains, lines, all) same next =
+    let there = next_there new whole line rest same (subst (λ (m : Option (List ℕ)). IsNextLine m new whole) remains next) in
+    (rest, there.0, there.1, lines, all)
 
 -- a text behind a line that isn't empty isn't
 filled : (line rest : List ℕ) → line ≡ take_through 10 rest → line ≢ [] → rest ≢ []
@@ -446,10 +447,6 @@ still_left rest part None new is taken = cc
 still_left rest part (Some xs) None is taken = elim taken [ ]
 still_left rest part (Some xs) (Some ys) is taken = let same : xs ≡ rest = cc in (ys, refl, sym same ∙ taken)
 
--- why no line was read of which this part was
-abbrev pub IsReadFault : List ℕ → ScenarioFault → Type 0
-IsReadFault part why = (why ≡ fault.ReadFailed) ⊎ ((why ≡ fault.OutOfMemory) × ((content : List ℕ) → part ≡ content ++ 10 ∷ [] → ⊥))
-
 -- no line was read
 breaks_at : (options : Options) (network : Network) (start : State) (t : List ℕ) (text old_out out : Option (List ℕ)) (rest left part : List ℕ) (done : List (List ℕ)) (printed : List ℕ) (history : List Entry) (scene : Scene) → Prints network options.explain 1 0 (first_scene options.scheme network start) done printed history scene → Appends old_out out printed
     → lines_of t ≡ done ++ lines_of rest → t ≡ concat done ++ rest → text ≡ Some left → rest ≡ part ++ left → IsPiece part → (why : ScenarioFault) → IsReadFault part why → EndsByFrom options network start t text old_out out why scene.state
@@ -472,16 +469,10 @@ not_read_at options verifies first session before number (Some t) mid_text text 
       goes.holds.stands,
     )
 
-pub not_read : {S : Type 0} (options : Options) (verifies : Verifies) (first : Held) (session : Session S) (before number : ℕ) (old_text mid_text text old_out out : Option (List ℕ)) (part : List ℕ) (so_far : Running options verifies (network_held first verifies) first session before number old_text mid_text old_out out)
-    → Consumes mid_text text part → IsPiece part → (why : ScenarioFault) → IsReadFault part why → IfSome old_text (λ t. RunsInto options verifies first session.core t text old_out out why)
-not_read options verifies first session before number old_text mid_text text old_out out part so_far taken piece why is =
-    not_read_at options verifies first session before number old_text mid_text text old_out out part so_far so_far.read taken piece why is
-
--- the part of a line that was read into a buffer that was empty
-pub part_into : (start buf line : List ℕ) (why : ScenarioFault) → start ≡ [] → line ≡ buf → IsReadFault line why → IsReadFault (appended_bytes start buf) why
-part_into start buf line why empty same is =
-    let whole : line ≡ appended_bytes start buf = same ∙ ap (λ (l : List ℕ). appended_bytes l buf) (sym empty) in
-    subst (λ (l : List ℕ). IsReadFault l why) whole is
+pub not_read : {S : Type 0} (options : Options) (verifies : Verifies) (first : Held) (session : Session S) (before number : ℕ) (old_text mid_text text old_out out : Option (List ℕ)) (why : ScenarioFault) → Running options verifies (network_held first verifies) first session before number old_text mid_text old_out out
+    → IsNoLine mid_text text why → IfSome old_text (λ t. RunsInto options verifies first session.core t text old_out out why)
+not_read options verifies first session before number old_text mid_text text old_out out why so_far none =
+    not_read_at options verifies first session before number old_text mid_text text old_out out none.piece so_far so_far.read none.read none.is_piece why none.fault
 
 -- a buffer without length is empty
 pub is_nil : (line : List ℕ) (n : ℕ) → length line ≡ n → nat_eq n 0 ≡ true → line ≡ []

@@ -1,5 +1,5 @@
 -- What a script sends, between two lines and at its end.
-use Rattle.std.proofs.Common.{◌≡◌, ◌≢◌, ◌⊎◌, inl, inr, ℕ, ◌+◌, List, [], ◌∷◌, ◌++◌, length, Option, Some, None, option_map, Result, Ok, Err, refl, sym, ◌∙◌, ap, subst, append_assoc, append-nil, length-append, arith}
+use Rattle.std.proofs.Common.{◌≡◌, ◌≢◌, inl, inr, ℕ, ◌+◌, List, [], ◌∷◌, ◌++◌, length, Option, Some, None, option_map, Result, Ok, Err, refl, sym, ◌∙◌, ap, subst, append_assoc, append-nil, length-append, arith}
 use Rattle.std.specs.Prelude.{IfSome, unwrap_or}
 use Rattle.std.specs.List.{concat}
 use Rattle.std.specs.Io.BufRead.{drop_through}
@@ -16,14 +16,14 @@ use Rattle.script.specs.Names.{OpenTx, AllNames, Bound}
 use Rattle.script.specs.RequestView.{AreNamed, Lacks}
 use Rattle.script.specs.Sending.{SendMeaning, Sends, Makes, SimulationLine, Sending, Defining, MeansSending, MeansSimulation, is_late_sending, parse_sending}
 use Rattle.script.specs.SendingView.{AsksSending, IsSent, IsMade, IsSentOrMade}
-use Rattle.scenario.specs.Pieces.{IsPiece}
+use Rattle.scenario.specs.Pieces.{IsPiece, IsReadFault, IsNoLine}
 use Rattle.scenario.specs.declared.fault.ScenarioFault.{ScenarioFault}
 use Rattle.scenario.specs.declared.fault.ScenarioFault.TheVariants as fault
 use Rattle.scenario.specs.Run.{fault_of}
 use Rattle.scenario.specs.SendRun.{Sent, LineSends, LinesSend, SendsAll, SendsBy, ReadsUpTo}
 use Rattle.scenario.specs.SendView.{GoesBehind, IsSendingOf}
 use Rattle.scenario.proofs.Lines.{line_stops}
-use Rattle.scenario.proofs.Runs.{HasRead, HasLine, none_read, next_read, one_line_more, concat_more, at_end, no_making, some_making, no_line_told, nothing_left, text_behind, still_left, IsReadFault}
+use Rattle.scenario.proofs.Runs.{HasRead, HasLine, none_read, next_read, one_line_more, concat_more, at_end, no_making, some_making, no_line_told, nothing_left, text_behind, still_left}
 
 -- ---- a line
 
@@ -240,9 +240,12 @@ stopped peers first old new all more before number (Some t) mid_text text line s
     }
 
 -- nothing is written
-pub read_not_written : (why : ScenarioFault) (P : Type 0) → (why ≡ fault.ReadFailed) ⊎ ((why ≡ fault.OutOfMemory) × P) → why ≢ fault.WriteFailed
-read_not_written why P (inl e) = λ w. let bad : fault.ReadFailed ≡ fault.WriteFailed = sym e ∙ w in cc
-read_not_written why P (inr e) = λ w. let bad : fault.OutOfMemory ≡ fault.WriteFailed = sym e.0 ∙ w in cc
+fault_not_written : (part : List ℕ) (why : ScenarioFault) → IsReadFault part why → why ≢ fault.WriteFailed
+fault_not_written part why (inl e) = λ w. let bad : fault.ReadFailed ≡ fault.WriteFailed = sym e ∙ w in cc
+fault_not_written part why (inr e) = λ w. let bad : fault.OutOfMemory ≡ fault.WriteFailed = sym e.0 ∙ w in cc
+
+pub read_not_written : (old new : Option (List ℕ)) (why : ScenarioFault) → IsNoLine old new why → why ≢ fault.WriteFailed
+read_not_written old new why none = fault_not_written none.piece why none.fault
 
 pub stop_not_written : (number : ℕ) (why : Stop) → fault_of number why ≢ fault.WriteFailed
 stop_not_written number (stop.Fault why) = λ w. cc
@@ -268,7 +271,7 @@ not_read_at peers first code all before number (Some t) mid_text text part so_fa
     let left = still_left rest part mid_text text remains taken in
     short_of_line peers names t text left.0 (read_up_to peers names t rest left.0 part so_far.done all goes.mid goes.sends lines (whole ∙ ap (λ (l : List ℕ). concat so_far.done ++ l) left.2) piece) left.1 why is
 
-pub not_read : (peers : ℕ) (first code : Names) (all : List Sent) (before number : ℕ) (old_text mid_text text : Option (List ℕ)) (part : List ℕ) (so_far : Reads peers first code all before number old_text mid_text) → Consumes mid_text text part → IsPiece part
-    → (why : ScenarioFault) → IsReadFault part why → (names : AllNames) → AreNamed first names → IfSome old_text (λ t. SendsBy peers names t text why)
-not_read peers first code all before number old_text mid_text text part so_far taken piece why is =
-    not_read_at peers first code all before number old_text mid_text text part so_far so_far.read taken piece why is
+pub not_read : (peers : ℕ) (first code : Names) (all : List Sent) (before number : ℕ) (old_text mid_text text : Option (List ℕ)) (why : ScenarioFault) → Reads peers first code all before number old_text mid_text → IsNoLine mid_text text why
+    → (names : AllNames) → AreNamed first names → IfSome old_text (λ t. SendsBy peers names t text why)
+not_read peers first code all before number old_text mid_text text why so_far none =
+    not_read_at peers first code all before number old_text mid_text text none.piece so_far so_far.read none.read none.is_piece why none.fault

@@ -1,6 +1,7 @@
 //! The run of a script.
 
-ghost use Rattle.std.specs.Prelude.{◌≡◌, ℕ, ◌+◌, ◌≤◌, ◌⊎◌, List, [], ◌∷◌, ◌++◌, length, Some, OnOk, IfErr, IfSome};
+ghost use Rattle.std.specs.Prelude.{◌≡◌, [], Some, OnOk, IfOk, IfErr, IfSome};
+ghost use Rattle.scenario.specs.Pieces.{IsNextLine, IsNoLine, IsReadFault};
 ghost use Rattle.model.specs.Ledger.{network_of};
 ghost use Rattle.script.specs.Names.{no_names};
 ghost use Rattle.script.specs.RequestView.{AreNamed};
@@ -24,9 +25,8 @@ use std::io::{BufRead, Error, ErrorKind, Write};
 use witness_pool::SigScheme;
 
 /// Why no line was read, of which these bytes were. That memory ran out is said only where they are no whole line.
-pub fn read_fault(error: &Error, line: &[u8]) -> ScenarioFault
-    ensures { (result ≡ ScenarioFault.ReadFailed) ⊎ ((result ≡ ScenarioFault.OutOfMemory)
-        × ((content : List ℕ) → line.now ≡ content ++ 10 ∷ [] → ⊥)) }
+fn read_fault(error: &Error, line: &[u8]) -> ScenarioFault
+    ensures { IsReadFault line.now result }
 {
     match line {
         [.., b'\n'] => ScenarioFault::ReadFailed,
@@ -37,6 +37,19 @@ pub fn read_fault(error: &Error, line: &[u8]) -> ScenarioFault
                 ScenarioFault::ReadFailed
             }
         }
+    }
+}
+
+/// Reads the next line, with its line feed if it has one: at the end of the text it is empty. Err where reading fails
+/// or memory runs out: a piece of the line may then have been read.
+pub fn next_line<R: BufRead>(alloc: Global, reader: &mut R) -> Result<Vec<u8>, ScenarioFault>
+    ensures line { IfOk result (λ line. IsNextLine (R.remaining reader.old) (R.remaining reader.new) line.items) }
+    ensures fault { IfErr result (λ why. IsNoLine (R.remaining reader.old) (R.remaining reader.new) why) }
+{
+    let mut line = Vec::new(alloc);
+    match reader.read_until(b'\n', &mut line) {
+        Ok(_) => Ok(line),
+        Err(error) => Err(read_fault(&error, &line)),
     }
 }
 
@@ -82,10 +95,7 @@ fn run_lines<S: SigScheme, R: BufRead, W: Write>(
 {
     let mut before: u64 = 0;
     for number in 1..4_194_306u64 {
-        let mut line = Vec::new(alloc);
-        if let Err(error) = reader.read_until(b'\n', &mut line) {
-            return Err(read_fault(&error, &line));
-        }
+        let line = next_line(alloc, reader)?;
         if line.is_empty() {
             if let Some(begun) = session.open_line() {
                 return Err(unended(begun));

@@ -9,7 +9,7 @@ ghost use Rattle.scenario.specs.SendView.{IsSendingOf, sent_of};
 ghost use Rattle.scenario.specs.Sending.{IsSentByOneOf};
 
 use crate::fault::ScenarioFault;
-use crate::runner::{line_fault, read_fault, unended};
+use crate::runner::{line_fault, next_line, unended};
 use crate::sending::Sending;
 use genesis::{Genesis, Scheme};
 use script::{LinePlace, Names, Stop};
@@ -60,10 +60,7 @@ fn sends_of_lines<R: BufRead>(
     let mut sends = Vec::new(alloc);
     let mut before: u64 = 0;
     for number in 1..4_194_306u64 {
-        let mut line = Vec::new(alloc);
-        if let Err(error) = reader.read_until(b'\n', &mut line) {
-            return Err(read_fault(&error, &line));
-        }
+        let line = next_line(alloc, reader)?;
         if line.is_empty() {
             return match names.open_line() {
                 Some(begun) => Err(unended(begun)),

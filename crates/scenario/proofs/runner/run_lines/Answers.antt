@@ -1,7 +1,8 @@
 use Rattle.std.proofs.Common.{refl, sym, ◌∙◌, vec_len, rules, arith}
+use Rattle.std.proofs.lemmas.Result.{err_from_is_err_and}
 use Rattle.model.specs.Ledger.{network_on}
 use Rattle.chain_core.specs.Held.{network_held}
-use Rattle.scenario.proofs.Runs.{opened, stepped, stopped, not_written, not_read, ended, nothing_remains, unended, part_into, line_into, not_empty, is_nil, ran, ran_on, ran_stopped}
+use Rattle.scenario.proofs.Runs.{opened, stepped, stopped, not_written, not_read, ended, nothing_remains, unended, next_of, not_empty, is_nil, ran, ran_on, ran_stopped}
 use Rattle.scenario.proofs.WrittenParts.{appends_none}
 use Rattle.scenario.proofs.runner.run_lines.Goals as goal
 
@@ -9,73 +10,73 @@ pub loop-number-init : goal.loop-number-init
 loop-number-init g c = opened c.args.options g.S.SigScheme.verifies (network_held c.args.session.now.core g.S.SigScheme.verifies) c.args.session.now (g.R.Read.remaining c.args.reader.now) (g.W.Write.contents c.args.writer.now) c.requires.names c.requires.indexes refl (appends_none (g.W.Write.contents c.args.writer.now))
 
 -- a line that isn't run
-pub returns-in-Err-obey-clause-fault : goal.returns-in-Err-obey-clause-fault
-returns-in-Err-obey-clause-fault g c = rw c.line_fault.ensures
-    (stopped c.args.options g.S.SigScheme.verifies c.args.session.now.core c.loop-number.session c.obey.new.self c.loop-number.before c.loop-number.number (g.R.Read.remaining c.args.reader.now) (g.R.Read.remaining c.loop-number.reader) (g.R.Read.remaining c.read_until.new.self)
-    (g.W.Write.contents c.args.writer.now) (g.W.Write.contents c.loop-number.writer) c.deref-in-loop-number.result.now c.in-Err-obey.stop c.loop-number.invariant
-    (line_into (g.R.Read.remaining c.args.reader.now) (g.R.Read.remaining c.loop-number.reader) (g.R.Read.remaining c.read_until.new.self) c.loop-number.invariant.done c.new-line.result.items c.read_until.new.buf.items c.deref-in-loop-number.result.now
-    c.loop-number.invariant.read c.new-line.ensures.items c.deref-in-loop-number.ensures.value c.in_default.ensures.bytes c.in_default.ensures.rest)
-    (not_empty c.deref-in-loop-number.result.now (vec_len c.read_until.new.buf) c.deref-in-loop-number.ensures.len (sym c.is_empty.ensures ∙ c.if-is_empty.false)) c.in-Err-obey.ensures.obeyed)
+pub returns-in-Err-clause-fault : goal.returns-in-Err-clause-fault
+returns-in-Err-clause-fault g c = rw c.line_fault.ensures
+    (stopped c.args.options g.S.SigScheme.verifies c.args.session.now.core c.loop-number.session c.obey.new.self c.loop-number.before c.loop-number.number (g.R.Read.remaining c.args.reader.now) (g.R.Read.remaining c.loop-number.reader) (g.R.Read.remaining c.next_line.new.reader)
+    (g.W.Write.contents c.args.writer.now) (g.W.Write.contents c.loop-number.writer) c.deref.result.now c.in-Err.stop c.loop-number.invariant
+    (next_of (g.R.Read.remaining c.args.reader.now) (g.R.Read.remaining c.loop-number.reader) (g.R.Read.remaining c.next_line.new.reader) c.loop-number.invariant.done c.in_ok-line.line.items c.deref.result.now
+    c.loop-number.invariant.read c.deref.ensures.value c.in_ok-line.ensures.line)
+    (not_empty c.deref.result.now (vec_len c.in_ok-line.line) c.deref.ensures.len (sym c.is_empty.ensures ∙ c.if-is_empty.false)) c.in-Err.ensures.obeyed)
 
-pub returns-in-Err-obey-clause-run : goal.returns-in-Err-obey-clause-run
-returns-in-Err-obey-clause-run g c = ran_stopped c.args.options g.S.SigScheme.verifies c.args.session.now.core c.loop-number.session c.obey.new.self c.loop-number.before c.loop-number.number (g.R.Read.remaining c.args.reader.now) (g.R.Read.remaining c.loop-number.reader) (g.W.Write.contents c.args.writer.now) (g.W.Write.contents c.loop-number.writer) c.deref-in-loop-number.result.now c.in-Err-obey.stop c.loop-number.invariant c.in-Err-obey.ensures.obeyed
+pub returns-in-Err-clause-run : goal.returns-in-Err-clause-run
+returns-in-Err-clause-run g c = ran_stopped c.args.options g.S.SigScheme.verifies c.args.session.now.core c.loop-number.session c.obey.new.self c.loop-number.before c.loop-number.number (g.R.Read.remaining c.args.reader.now) (g.R.Read.remaining c.loop-number.reader) (g.W.Write.contents c.args.writer.now) (g.W.Write.contents c.loop-number.writer) c.deref.result.now c.in-Err.stop c.loop-number.invariant c.in-Err.ensures.obeyed
 
-pub returns-in-Err-obey-clause-network : goal.returns-in-Err-obey-clause-network
-returns-in-Err-obey-clause-network g c = (λ j. network_on (c.in-Err-obey.ensures.start.genesis j) g.S.SigScheme.verifies (c.in-Err-obey.ensures.start.opened j)) ∙ c.loop-number.invariant.same_network
+pub returns-in-Err-clause-network : goal.returns-in-Err-clause-network
+returns-in-Err-clause-network g c = (λ j. network_on (c.in-Err.ensures.start.genesis j) g.S.SigScheme.verifies (c.in-Err.ensures.start.opened j)) ∙ c.loop-number.invariant.same_network
 
 -- a line that isn't written
 pub returns-in-Err-write_all-clause-fault : goal.returns-in-Err-write_all-clause-fault
 returns-in-Err-write_all-clause-fault g c =
-    not_written c.args.options g.S.SigScheme.verifies c.args.session.now.core c.loop-number.session c.obey.new.self c.loop-number.before c.loop-number.number (g.R.Read.remaining c.args.reader.now) (g.R.Read.remaining c.loop-number.reader) (g.R.Read.remaining c.read_until.new.self)
-    (g.W.Write.contents c.args.writer.now) (g.W.Write.contents c.loop-number.writer) (g.W.Write.contents c.write_all.new.writer) c.deref-in-loop-number.result.now c.in-Ok.printed c.loop-number.invariant
-    (line_into (g.R.Read.remaining c.args.reader.now) (g.R.Read.remaining c.loop-number.reader) (g.R.Read.remaining c.read_until.new.self) c.loop-number.invariant.done c.new-line.result.items c.read_until.new.buf.items c.deref-in-loop-number.result.now
-    c.loop-number.invariant.read c.new-line.ensures.items c.deref-in-loop-number.ensures.value c.in_default.ensures.bytes c.in_default.ensures.rest)
-    (not_empty c.deref-in-loop-number.result.now (vec_len c.read_until.new.buf) c.deref-in-loop-number.ensures.len (sym c.is_empty.ensures ∙ c.if-is_empty.false)) c.in-Ok.ensures.obeyed (rw c.deref-in-loop-number-2.ensures.value at c.in-Err-write_all.ensures.err)
+    not_written c.args.options g.S.SigScheme.verifies c.args.session.now.core c.loop-number.session c.obey.new.self c.loop-number.before c.loop-number.number (g.R.Read.remaining c.args.reader.now) (g.R.Read.remaining c.loop-number.reader) (g.R.Read.remaining c.next_line.new.reader)
+    (g.W.Write.contents c.args.writer.now) (g.W.Write.contents c.loop-number.writer) (g.W.Write.contents c.write_all.new.writer) c.deref.result.now c.in-Ok.printed c.loop-number.invariant
+    (next_of (g.R.Read.remaining c.args.reader.now) (g.R.Read.remaining c.loop-number.reader) (g.R.Read.remaining c.next_line.new.reader) c.loop-number.invariant.done c.in_ok-line.line.items c.deref.result.now
+    c.loop-number.invariant.read c.deref.ensures.value c.in_ok-line.ensures.line)
+    (not_empty c.deref.result.now (vec_len c.in_ok-line.line) c.deref.ensures.len (sym c.is_empty.ensures ∙ c.if-is_empty.false)) c.in-Ok.ensures.obeyed (rw c.deref-in-loop-number.ensures.value at c.in-Err-write_all.ensures.err)
 
 pub returns-in-Err-write_all-clause-run : goal.returns-in-Err-write_all-clause-run
-returns-in-Err-write_all-clause-run g c = ran_on c.args.options g.S.SigScheme.verifies c.args.session.now.core c.loop-number.session c.obey.new.self c.loop-number.before c.loop-number.number (g.R.Read.remaining c.args.reader.now) (g.R.Read.remaining c.loop-number.reader) (g.W.Write.contents c.args.writer.now) (g.W.Write.contents c.loop-number.writer) c.deref-in-loop-number.result.now c.in-Ok.printed c.loop-number.invariant c.in-Ok.ensures.obeyed
+returns-in-Err-write_all-clause-run g c = ran_on c.args.options g.S.SigScheme.verifies c.args.session.now.core c.loop-number.session c.obey.new.self c.loop-number.before c.loop-number.number (g.R.Read.remaining c.args.reader.now) (g.R.Read.remaining c.loop-number.reader) (g.W.Write.contents c.args.writer.now) (g.W.Write.contents c.loop-number.writer) c.deref.result.now c.in-Ok.printed c.loop-number.invariant c.in-Ok.ensures.obeyed
 
 pub returns-in-Err-write_all-clause-network : goal.returns-in-Err-write_all-clause-network
 returns-in-Err-write_all-clause-network g c = (λ j. network_on (c.in-Ok.ensures.start.genesis j) g.S.SigScheme.verifies (c.in-Ok.ensures.start.opened j)) ∙ c.loop-number.invariant.same_network
 
 -- the next line
 pub loop-number-preserved : goal.loop-number-preserved
-loop-number-preserved g c = rw (c.len.ensures, ← c.deref-in-loop-number.ensures.len)
-    (stepped c.args.options g.S.SigScheme.verifies (network_held c.args.session.now.core g.S.SigScheme.verifies) c.args.session.now.core c.loop-number.session c.obey.new.self c.loop-number.before c.loop-number.number (g.R.Read.remaining c.args.reader.now) (g.R.Read.remaining c.loop-number.reader) (g.R.Read.remaining c.read_until.new.self)
-    (g.W.Write.contents c.args.writer.now) (g.W.Write.contents c.loop-number.writer) (g.W.Write.contents c.write_all.new.writer) c.deref-in-loop-number.result.now c.in-Ok.printed c.loop-number.invariant
-    (line_into (g.R.Read.remaining c.args.reader.now) (g.R.Read.remaining c.loop-number.reader) (g.R.Read.remaining c.read_until.new.self) c.loop-number.invariant.done c.new-line.result.items c.read_until.new.buf.items c.deref-in-loop-number.result.now
-    c.loop-number.invariant.read c.new-line.ensures.items c.deref-in-loop-number.ensures.value c.in_default.ensures.bytes c.in_default.ensures.rest)
-    (not_empty c.deref-in-loop-number.result.now (vec_len c.read_until.new.buf) c.deref-in-loop-number.ensures.len (sym c.is_empty.ensures ∙ c.if-is_empty.false)) c.in-Ok.ensures.obeyed (λ j. network_on (c.in-Ok.ensures.start.genesis j) g.S.SigScheme.verifies (c.in-Ok.ensures.start.opened j)) (omega (arith, c.in-Ok.ensures.size)) (rw c.deref-in-loop-number-2.ensures.value at c.in_default-write_all.ensures.ok))
+loop-number-preserved g c = rw (c.len.ensures, ← c.deref.ensures.len)
+    (stepped c.args.options g.S.SigScheme.verifies (network_held c.args.session.now.core g.S.SigScheme.verifies) c.args.session.now.core c.loop-number.session c.obey.new.self c.loop-number.before c.loop-number.number (g.R.Read.remaining c.args.reader.now) (g.R.Read.remaining c.loop-number.reader) (g.R.Read.remaining c.next_line.new.reader)
+    (g.W.Write.contents c.args.writer.now) (g.W.Write.contents c.loop-number.writer) (g.W.Write.contents c.write_all.new.writer) c.deref.result.now c.in-Ok.printed c.loop-number.invariant
+    (next_of (g.R.Read.remaining c.args.reader.now) (g.R.Read.remaining c.loop-number.reader) (g.R.Read.remaining c.next_line.new.reader) c.loop-number.invariant.done c.in_ok-line.line.items c.deref.result.now
+    c.loop-number.invariant.read c.deref.ensures.value c.in_ok-line.ensures.line)
+    (not_empty c.deref.result.now (vec_len c.in_ok-line.line) c.deref.ensures.len (sym c.is_empty.ensures ∙ c.if-is_empty.false)) c.in-Ok.ensures.obeyed (λ j. network_on (c.in-Ok.ensures.start.genesis j) g.S.SigScheme.verifies (c.in-Ok.ensures.start.opened j)) (omega (arith, c.in-Ok.ensures.size)) (rw c.deref-in-loop-number.ensures.value at c.in_default-write_all.ensures.ok))
 
 -- a line that isn't read
-pub returns-in-Err-clause-fault : goal.returns-in-Err-clause-fault
-returns-in-Err-clause-fault g c =
-    not_read c.args.options g.S.SigScheme.verifies c.args.session.now.core c.loop-number.session c.loop-number.before c.loop-number.number (g.R.Read.remaining c.args.reader.now) (g.R.Read.remaining c.loop-number.reader) (g.R.Read.remaining c.read_until.new.self)
-    (g.W.Write.contents c.args.writer.now) (g.W.Write.contents c.loop-number.writer) _ c.loop-number.invariant c.in-Err.ensures.none_lost c.in-Err.ensures.stops c.read_fault.result
-    (part_into c.new-line.result.items c.read_until.new.buf.items c.deref.result.now c.read_fault.result c.new-line.ensures.items c.deref.ensures.value c.read_fault.ensures)
+pub returns-in_err-line-clause-fault : goal.returns-in_err-line-clause-fault
+returns-in_err-line-clause-fault g c =
+    let p = err_from_is_err_and c.from_residual.result c.from_residual.ensures.1 in
+    rw (p.1, p.2) (not_read c.args.options g.S.SigScheme.verifies c.args.session.now.core c.loop-number.session c.loop-number.before c.loop-number.number (g.R.Read.remaining c.args.reader.now) (g.R.Read.remaining c.loop-number.reader) (g.R.Read.remaining c.next_line.new.reader)
+    (g.W.Write.contents c.args.writer.now) (g.W.Write.contents c.loop-number.writer) c.in_err-line.field-0.0 c.loop-number.invariant c.in_err-line.ensures.fault)
 
-pub returns-in-Err-clause-run : goal.returns-in-Err-clause-run
-returns-in-Err-clause-run g c = ran c.args.options g.S.SigScheme.verifies c.args.session.now.core c.loop-number.session c.loop-number.before c.loop-number.number (g.R.Read.remaining c.args.reader.now) (g.R.Read.remaining c.loop-number.reader) (g.W.Write.contents c.args.writer.now) (g.W.Write.contents c.loop-number.writer) c.loop-number.invariant
+pub returns-in_err-line-clause-run : goal.returns-in_err-line-clause-run
+returns-in_err-line-clause-run g c = ran c.args.options g.S.SigScheme.verifies c.args.session.now.core c.loop-number.session c.loop-number.before c.loop-number.number (g.R.Read.remaining c.args.reader.now) (g.R.Read.remaining c.loop-number.reader) (g.W.Write.contents c.args.writer.now) (g.W.Write.contents c.loop-number.writer) c.loop-number.invariant
 
-pub returns-in-Err-clause-network : goal.returns-in-Err-clause-network
-returns-in-Err-clause-network g c = c.loop-number.invariant.same_network
+pub returns-in_err-line-clause-network : goal.returns-in_err-line-clause-network
+returns-in_err-line-clause-network g c = c.loop-number.invariant.same_network
 
 -- no line more
 pub returns-then-is_empty-clause-ok : goal.returns-then-is_empty-clause-ok
 returns-then-is_empty-clause-ok g c =
-    ended c.args.options g.S.SigScheme.verifies c.args.session.now.core c.loop-number.session c.loop-number.before c.loop-number.number (g.R.Read.remaining c.args.reader.now) (g.R.Read.remaining c.loop-number.reader) (g.R.Read.remaining c.read_until.new.self)
-    (g.W.Write.contents c.args.writer.now) (g.W.Write.contents c.loop-number.writer) c.read_until.new.buf.items c.open_line.result c.loop-number.invariant
-    (line_into (g.R.Read.remaining c.args.reader.now) (g.R.Read.remaining c.loop-number.reader) (g.R.Read.remaining c.read_until.new.self) c.loop-number.invariant.done c.new-line.result.items c.read_until.new.buf.items c.read_until.new.buf.items
-    c.loop-number.invariant.read c.new-line.ensures.items refl c.in_default.ensures.bytes c.in_default.ensures.rest)
-    (is_nil c.read_until.new.buf.items (vec_len c.read_until.new.buf) (search rules) (sym c.is_empty.ensures ∙ c.if-is_empty.true))
-    c.open_line.ensures c.in_default-open_line.not-Some
+    ended c.args.options g.S.SigScheme.verifies c.args.session.now.core c.loop-number.session c.loop-number.before c.loop-number.number (g.R.Read.remaining c.args.reader.now) (g.R.Read.remaining c.loop-number.reader) (g.R.Read.remaining c.next_line.new.reader)
+    (g.W.Write.contents c.args.writer.now) (g.W.Write.contents c.loop-number.writer) c.in_ok-line.line.items c.open_line.result c.loop-number.invariant
+    (next_of (g.R.Read.remaining c.args.reader.now) (g.R.Read.remaining c.loop-number.reader) (g.R.Read.remaining c.next_line.new.reader) c.loop-number.invariant.done c.in_ok-line.line.items c.in_ok-line.line.items
+    c.loop-number.invariant.read refl c.in_ok-line.ensures.line)
+    (is_nil c.in_ok-line.line.items (vec_len c.in_ok-line.line) (search rules) (sym c.is_empty.ensures ∙ c.if-is_empty.true))
+    c.open_line.ensures c.in_default.not-Some
 
 pub returns-then-is_empty-clause-rest : goal.returns-then-is_empty-clause-rest
 returns-then-is_empty-clause-rest g c =
-    nothing_remains (g.R.Read.remaining c.args.reader.now) (g.R.Read.remaining c.read_until.new.self) c.loop-number.invariant.done c.read_until.new.buf.items
-    (line_into (g.R.Read.remaining c.args.reader.now) (g.R.Read.remaining c.loop-number.reader) (g.R.Read.remaining c.read_until.new.self) c.loop-number.invariant.done c.new-line.result.items c.read_until.new.buf.items c.read_until.new.buf.items
-    c.loop-number.invariant.read c.new-line.ensures.items refl c.in_default.ensures.bytes c.in_default.ensures.rest)
-    (is_nil c.read_until.new.buf.items (vec_len c.read_until.new.buf) (search rules) (sym c.is_empty.ensures ∙ c.if-is_empty.true))
+    nothing_remains (g.R.Read.remaining c.args.reader.now) (g.R.Read.remaining c.next_line.new.reader) c.loop-number.invariant.done c.in_ok-line.line.items
+    (next_of (g.R.Read.remaining c.args.reader.now) (g.R.Read.remaining c.loop-number.reader) (g.R.Read.remaining c.next_line.new.reader) c.loop-number.invariant.done c.in_ok-line.line.items c.in_ok-line.line.items
+    c.loop-number.invariant.read refl c.in_ok-line.ensures.line)
+    (is_nil c.in_ok-line.line.items (vec_len c.in_ok-line.line) (search rules) (sym c.is_empty.ensures ∙ c.if-is_empty.true))
 
 pub returns-then-is_empty-clause-run : goal.returns-then-is_empty-clause-run
 returns-then-is_empty-clause-run g c = ran c.args.options g.S.SigScheme.verifies c.args.session.now.core c.loop-number.session c.loop-number.before c.loop-number.number (g.R.Read.remaining c.args.reader.now) (g.R.Read.remaining c.loop-number.reader) (g.W.Write.contents c.args.writer.now) (g.W.Write.contents c.loop-number.writer) c.loop-number.invariant
@@ -86,11 +87,11 @@ returns-then-is_empty-clause-network g c = c.loop-number.invariant.same_network
 -- no line more within a transaction
 pub returns-in-Some-clause-fault : goal.returns-in-Some-clause-fault
 returns-in-Some-clause-fault g c = rw c.unended.ensures
-    (unended c.args.options g.S.SigScheme.verifies c.args.session.now.core c.loop-number.session c.loop-number.before c.loop-number.number (g.R.Read.remaining c.args.reader.now) (g.R.Read.remaining c.loop-number.reader) (g.R.Read.remaining c.read_until.new.self)
-    (g.W.Write.contents c.args.writer.now) (g.W.Write.contents c.loop-number.writer) c.read_until.new.buf.items c.in-Some.begun c.loop-number.invariant
-    (line_into (g.R.Read.remaining c.args.reader.now) (g.R.Read.remaining c.loop-number.reader) (g.R.Read.remaining c.read_until.new.self) c.loop-number.invariant.done c.new-line.result.items c.read_until.new.buf.items c.read_until.new.buf.items
-    c.loop-number.invariant.read c.new-line.ensures.items refl c.in_default.ensures.bytes c.in_default.ensures.rest)
-    (is_nil c.read_until.new.buf.items (vec_len c.read_until.new.buf) (search rules) (sym c.is_empty.ensures ∙ c.if-is_empty.true))
+    (unended c.args.options g.S.SigScheme.verifies c.args.session.now.core c.loop-number.session c.loop-number.before c.loop-number.number (g.R.Read.remaining c.args.reader.now) (g.R.Read.remaining c.loop-number.reader) (g.R.Read.remaining c.next_line.new.reader)
+    (g.W.Write.contents c.args.writer.now) (g.W.Write.contents c.loop-number.writer) c.in_ok-line.line.items c.in-Some.begun c.loop-number.invariant
+    (next_of (g.R.Read.remaining c.args.reader.now) (g.R.Read.remaining c.loop-number.reader) (g.R.Read.remaining c.next_line.new.reader) c.loop-number.invariant.done c.in_ok-line.line.items c.in_ok-line.line.items
+    c.loop-number.invariant.read refl c.in_ok-line.ensures.line)
+    (is_nil c.in_ok-line.line.items (vec_len c.in_ok-line.line) (search rules) (sym c.is_empty.ensures ∙ c.if-is_empty.true))
     c.in-Some.ensures)
 
 pub returns-in-Some-clause-run : goal.returns-in-Some-clause-run
