@@ -1,0 +1,12 @@
+pub mod Filling
+pub mod Apart
+pub mod SnapshotTexts
+pub mod FrontTexts
+pub mod PairTexts
+pub mod RisingLemmas
+pub mod Resuming
+pub mod Stepping
+pub mod Refusing
+pub mod Ending
+pub mod Writing
+pub mod ChainEnds

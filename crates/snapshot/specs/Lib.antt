@@ -1,0 +1,14 @@
+pub mod Snapshot
+pub mod Laws
+pub mod Reading
+pub mod Begun
+pub mod ToWrite
+pub mod View
+pub mod Faults
+pub mod Rising
+pub mod OutputsView
+pub mod ReaderView
+pub mod WriterView
+pub mod FaultView
+pub mod AddFaults
+pub mod Steps
