@@ -10,7 +10,7 @@ use Rattle.model.specs.Chain.{Tip, genesis_tip, tip_at, tip_after, IsLinked}
 use Rattle.model.specs.Ledger.{Network, Ledger, ledger_of, opening_ledger}
 use Rattle.model.proofs.LedgerSteps.{supply_kept}
 use Rattle.snapshot.specs.Snapshot.{IsReached}
-use Rattle.snapshot.specs.Laws.{EachChainHasASnapshot}
+use Rattle.snapshot.specs.Laws.{EndsOfChains}
 
 hash_long : (b : Block) → length (block_hash_of b) ≡ hash_size
 unfolding block_hash_of
@@ -34,8 +34,8 @@ ends network (b ∷ bs) m linked all is =
     let slot = linked.0.slot in
     behind m.fees b bs linked.1 all (omega (arith, number)) (omega (arith, number, slot))
 
-pub each_chain_has_a_snapshot : EachChainHasASnapshot
-each_chain_has_a_snapshot network chain m digest valid all is long = (
+pub ends_of_chains : EndsOfChains
+ends_of_chains network chain m digest valid all is long = (
   record { reached = ends network chain m valid.linked all is; digest = long },
   supply_kept network chain m all is,
 )

@@ -6,7 +6,7 @@ use Rattle.model.specs.Cbor.{Spells}
 use Rattle.model.specs.Utxo.{Utxo}
 use Rattle.snapshot.specs.Snapshot.{Snapshot, Front, front_of, item_of_front, IsFront, SpellsSnapshot}
 use Rattle.snapshot.specs.Begun.{Begun, coin_in, IsReadTo, HasRead}
-use Rattle.snapshot.specs.Faults.{IsUnfinished, IsMissingCoins, IsEndFault, IfAtFault, IsNoSnapshot, IsOfNetwork}
+use Rattle.snapshot.specs.Faults.{IsUnfinished, IsMissingCoins, IsEndFault, UnlessOutOfMemory, IsNoText, IsOfNetwork}
 use Rattle.snapshot.specs.declared.fault.SnapshotFault.{SnapshotFault}
 use Rattle.snapshot.specs.declared.fault.SnapshotFault.TheVariants as faults
 use Rattle.snapshot.proofs.Apart.{outputs_once}
@@ -76,7 +76,7 @@ coins_missing b (first ∷ others) s is (h, have) spells holds =
     omega (arith, fees, coins, all, less)
 
 -- FAULTS AT THE END ARE THOSE OF NO STATE
-pub end_refuses : (b : Begun) (fault : SnapshotFault) → IsEndFault b fault → IfAtFault fault (IsNoSnapshot b)
+pub end_refuses : (b : Begun) (fault : SnapshotFault) → IsEndFault b fault → UnlessOutOfMemory fault (IsNoText b)
 end_refuses b faults.Unfinished is = λ read s have spells holds. unfinished b b.front read s refl is have spells
 end_refuses b faults.CoinsMissing is = λ read s have spells holds. coins_missing b read s is have spells holds
 end_refuses b faults.NotAPart is = absurd is

@@ -8,7 +8,7 @@ use Rattle.model.specs.Transaction.{Input, Output}
 use Rattle.snapshot.specs.Snapshot.{Snapshot, Front, front_of, pair_text, texts_of, IsPair, HasNoRoom, IsPart, SpellsSnapshot}
 use Rattle.snapshot.specs.Begun.{Begun, coin_in, IsReadTo, HasRead}
 use Rattle.snapshot.specs.Rising.{IsNotAfter}
-use Rattle.snapshot.specs.Faults.{IsFirstFault, IsNoPart, Reaches, HadRoom, ComesTo, IsLaterFault, IsFaultAfter, IsPartFault, IfAtFault, BeginsNoSnapshot, IsOfNetwork}
+use Rattle.snapshot.specs.Faults.{IsFirstFault, IsNoPart, Reaches, HadRoom, ComesTo, IsLaterFault, IsFaultAfter, IsPartFault, UnlessOutOfMemory, BeginsNoText, IsOfNetwork}
 use Rattle.snapshot.specs.declared.fault.SnapshotFault.{SnapshotFault}
 use Rattle.snapshot.specs.declared.fault.SnapshotFault.TheVariants as faults
 use Rattle.snapshot.proofs.Filling.{Pairs, pair_some}
@@ -19,7 +19,7 @@ use Rattle.snapshot.proofs.Resuming.{resumes, coins_of_both, no_some}
 
 -- ---- the first part
 
-first_refuses : (b : Begun) (part : List ℕ) (fault : SnapshotFault) → IsFirstFault b.supply b.digest part fault → (s : Snapshot) (more : List (List ℕ)) → SpellsSnapshot s (part ∷ more) → IsOfNetwork b s → IfAtFault fault ⊥
+first_refuses : (b : Begun) (part : List ℕ) (fault : SnapshotFault) → IsFirstFault b.supply b.digest part fault → (s : Snapshot) (more : List (List ℕ)) → SpellsSnapshot s (part ∷ more) → IsOfNetwork b s → UnlessOutOfMemory fault ⊥
 first_refuses b part faults.NotAPart is s more spells holds = is (front_of s) (record { is_front = spells.shape; spelled = spells.text.0 })
 first_refuses b part faults.CoinsOverSupply is s more spells holds =
     let same = ap (λ (h : Front). h.fees) (one_front is.front (front_of s) part is.says.spelled spells.text.0) in
@@ -145,7 +145,7 @@ not_over b h part s on holds comes =
     let all : coin_in (finite.entries s.utxo) + s.fees ≡ b.supply = holds.supply in
     omega (arith, coins, some, fees, over, all)
 
-later_refuses : (b : Begun) (h : Front) (part : List ℕ) (s : Snapshot) (fault : SnapshotFault) → IsLaterFault b.supply b.size h (finite.entries b.utxo) part fault → GoesOn b h part s → IsOfNetwork b s → IfAtFault fault ⊥
+later_refuses : (b : Begun) (h : Front) (part : List ℕ) (s : Snapshot) (fault : SnapshotFault) → IsLaterFault b.supply b.size h (finite.entries b.utxo) part fault → GoesOn b h part s → IsOfNetwork b s → UnlessOutOfMemory fault ⊥
 later_refuses b h part s faults.NotAPart is on holds = no_part b h part s on is
 later_refuses b h part s faults.OtherNetwork is on holds = is
 later_refuses b h part s faults.RoomLeft is on holds = had_room b h part s on is
@@ -158,7 +158,7 @@ later_refuses b h part s faults.OutOfMemory is on holds = tt
 
 -- ---- both
 
-after_refuses : (b : Begun) (front : Option Front) (part : List ℕ) (fault : SnapshotFault) → b.front ≡ front → IsFaultAfter front b part fault → (read more : List (List ℕ)) (s : Snapshot) → HasRead b read → SpellsSnapshot s (read ++ part ∷ more) → IsOfNetwork b s → IfAtFault fault ⊥
+after_refuses : (b : Begun) (front : Option Front) (part : List ℕ) (fault : SnapshotFault) → b.front ≡ front → IsFaultAfter front b part fault → (read more : List (List ℕ)) (s : Snapshot) → HasRead b read → SpellsSnapshot s (read ++ part ∷ more) → IsOfNetwork b s → UnlessOutOfMemory fault ⊥
 after_refuses b None part fault was is [] more s have spells holds = first_refuses b part fault is s more spells holds
 after_refuses b None part fault was is (first ∷ others) more s (h, have) spells holds = absurd (no_some h (sym was ∙ have.front))
 after_refuses b (Some h) part fault was is [] more s have spells holds = absurd (no_some h (sym have.front ∙ was))
@@ -169,7 +169,7 @@ after_refuses b (Some h) part fault was is (first ∷ others) more s (g, have) s
     some_is : (h g : Front) → (let A : Type 0 = Option Front in let x : A = Some h in let y : A = Some g in x ≡ y) → h ≡ g
     some_is h g e = cc
 
-lifted : (fault : SnapshotFault) {A : Type 0} (P : A → Type 0) → ((a : A) → P a → IfAtFault fault ⊥) → IfAtFault fault ((a : A) → P a → ⊥)
+lifted : (fault : SnapshotFault) {A : Type 0} (P : A → Type 0) → ((a : A) → P a → UnlessOutOfMemory fault ⊥) → UnlessOutOfMemory fault ((a : A) → P a → ⊥)
 lifted faults.NotAPart P h = h
 lifted faults.OtherNetwork P h = h
 lifted faults.RoomLeft P h = h
@@ -186,7 +186,7 @@ record Text (b : Begun) (part : List ℕ) (x : List (List ℕ) × (List (List �
   spells : SpellsSnapshot x.1.1 (x.0 ++ part ∷ x.1.0)
   holds : IsOfNetwork b x.1.1
 
-unlifted : (fault : SnapshotFault) (b : Begun) (part : List ℕ) → IfAtFault fault ((x : List (List ℕ) × (List (List ℕ) × Snapshot)) → Text b part x → ⊥) → IfAtFault fault (BeginsNoSnapshot b part)
+unlifted : (fault : SnapshotFault) (b : Begun) (part : List ℕ) → UnlessOutOfMemory fault ((x : List (List ℕ) × (List (List ℕ) × Snapshot)) → Text b part x → ⊥) → UnlessOutOfMemory fault (BeginsNoText b part)
 unlifted faults.NotAPart b part h = λ read more s have spells holds. h (read, (more, s)) (record { have = have; spells = spells; holds = holds })
 unlifted faults.OtherNetwork b part h = λ read more s have spells holds. h (read, (more, s)) (record { have = have; spells = spells; holds = holds })
 unlifted faults.RoomLeft b part h = λ read more s have spells holds. h (read, (more, s)) (record { have = have; spells = spells; holds = holds })
@@ -198,7 +198,7 @@ unlifted faults.CoinsMissing b part h = λ read more s have spells holds. h (rea
 unlifted faults.OutOfMemory b part h = tt
 
 -- PARTS WITH FAULTS BEGIN NO STATE'S TEXT
-pub fault_refuses : (b : Begun) (part : List ℕ) (fault : SnapshotFault) → IsPartFault b part fault → IfAtFault fault (BeginsNoSnapshot b part)
+pub fault_refuses : (b : Begun) (part : List ℕ) (fault : SnapshotFault) → IsPartFault b part fault → UnlessOutOfMemory fault (BeginsNoText b part)
 fault_refuses b part fault is =
     unlifted fault b part (lifted fault (Text b part) (λ x t. after_refuses b b.front part fault refl is x.0 x.1.0 x.1.1 t.have t.spells t.holds))
 
@@ -208,6 +208,6 @@ fault_refuses b part fault is =
 pub told : {A : Type 0} (r : Result A SnapshotFault) (b : Begun) (part : List ℕ) (front : Option Front) → b.front ≡ front → IfErr r (IsFaultAfter front b part) → IfErr r (IsPartFault b part)
 told r b part front is fault = subst (λ (o : Option Front). IfErr r (IsFaultAfter o b part)) (sym is) fault
 
-pub refused : {A : Type 0} (r : Result A SnapshotFault) (b : Begun) (part : List ℕ) → IfErr r (IsPartFault b part) → IfErr r (λ fault. IfAtFault fault (BeginsNoSnapshot b part))
+pub refused : {A : Type 0} (r : Result A SnapshotFault) (b : Begun) (part : List ℕ) → IfErr r (IsPartFault b part) → IfErr r (λ fault. UnlessOutOfMemory fault (BeginsNoText b part))
 refused (Ok x) b part fault = tt
 refused (Err f) b part fault = fault_refuses b part f fault

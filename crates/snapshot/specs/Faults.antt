@@ -18,7 +18,7 @@ pub record SaysFront (part : List ℕ) (h : Front) : Type 0 where
   pub is_front : IsFront h
   pub spelled : Spells (item_of_front h) part
 
--- it says of more fees than there is lovelace
+-- it says that the fees are more than the lovelace that there is
 pub record HasFeesOver (supply : ℕ) (part : List ℕ) : Type 0 where
   pub front : Front
   pub says : SaysFront part front
@@ -30,7 +30,7 @@ pub record HasOtherDigest (digest : List ℕ) (part : List ℕ) : Type 0 where
   pub says : SaysFront part front
   pub other : front.digest ≢ digest
 
--- it is the first part of no state's text, or one of another network's, or has fees over the supply
+-- it is the first part of no state's text, or that of a state of another network, or its fees are over the supply
 abbrev pub IsFirstFault : (supply : ℕ) → (digest : List ℕ) → (part : List ℕ) → SnapshotFault → Type 0
 IsFirstFault supply digest part faults.NotAPart = (h : Front) → SaysFront part h → ⊥
 IsFirstFault supply digest part faults.OtherNetwork = HasOtherDigest digest part
@@ -48,7 +48,7 @@ IsFirstFault supply digest part faults.OutOfMemory = ⊥
 abbrev pub BeginsWithNone : List ℕ → Type 0
 BeginsWithNone bytes = (pair : Input × Output) (rest : List ℕ) → IsPair pair → bytes ≡ pair_text pair ++ rest → ⊥
 
--- the texts of some pairs stand in front, and then something else
+-- the texts of pairs stand first, or of none, and then something else
 pub record HasStray (part : List ℕ) : Type 0 where
   pub here : List (Input × Output)
   pub rest : List ℕ
@@ -61,7 +61,7 @@ pub record HasStray (part : List ℕ) : Type 0 where
 abbrev pub IsNoPart : List ℕ → Type 0
 IsNoPart part = (part ≡ []) ⊎ ((part_limit < length part) ⊎ HasStray part)
 
--- the texts of these pairs stand in front, and then that of this one
+-- the texts of these pairs stand first, and then that of this one
 pub record Reaches (part : List ℕ) (here : List (Input × Output)) (next : Input × Output) : Type 0 where
   pub rest : List ℕ
   pub text : part ≡ texts_of here ++ (pair_text next ++ rest)
@@ -82,7 +82,8 @@ pub record ComesTo (part : List ℕ) (P : (here : List (Input × Output)) → (n
   pub reaches : Reaches part here next
   pub holds : P here next
 
--- something that is wrong with a part that comes after these outputs, of which this many were announced
+-- what is wrong with a part that comes after these outputs, where the first part said this, there is so much lovelace,
+-- and the last part with outputs had so many bytes
 abbrev pub IsLaterFault : (supply size : ℕ) → Front → (pairs : List (Input × Output)) → (part : List ℕ) → SnapshotFault
     → Type 0
 IsLaterFault supply size h pairs part faults.NotAPart = IsNoPart part
@@ -136,16 +137,16 @@ IsEndFault b faults.OutOfMemory = ⊥
 -- ---- what follows from a fault
 
 -- a fact that holds unless memory ran out
-abbrev pub IfAtFault : SnapshotFault → Type 0 → Type 0
-IfAtFault faults.NotAPart P = P
-IfAtFault faults.OtherNetwork P = P
-IfAtFault faults.RoomLeft P = P
-IfAtFault faults.WrongOrder P = P
-IfAtFault faults.TooMany P = P
-IfAtFault faults.CoinsOverSupply P = P
-IfAtFault faults.Unfinished P = P
-IfAtFault faults.CoinsMissing P = P
-IfAtFault faults.OutOfMemory P = Unit {0}
+abbrev pub UnlessOutOfMemory : SnapshotFault → Type 0 → Type 0
+UnlessOutOfMemory faults.NotAPart P = P
+UnlessOutOfMemory faults.OtherNetwork P = P
+UnlessOutOfMemory faults.RoomLeft P = P
+UnlessOutOfMemory faults.WrongOrder P = P
+UnlessOutOfMemory faults.TooMany P = P
+UnlessOutOfMemory faults.CoinsOverSupply P = P
+UnlessOutOfMemory faults.Unfinished P = P
+UnlessOutOfMemory faults.CoinsMissing P = P
+UnlessOutOfMemory faults.OutOfMemory P = Unit {0}
 
 -- the state is one of the network: it has its digest, and holds the supply
 pub record IsOfNetwork (b : Begun) (s : Snapshot) : Type 0 where
@@ -153,11 +154,11 @@ pub record IsOfNetwork (b : Begun) (s : Snapshot) : Type 0 where
   pub supply : HoldsSupply b.supply s
 
 -- with this part after those that were read no text of a state of the network begins
-abbrev pub BeginsNoSnapshot : Begun → (part : List ℕ) → Type 0
-BeginsNoSnapshot b part =
+abbrev pub BeginsNoText : Begun → (part : List ℕ) → Type 0
+BeginsNoText b part =
     (read more : List (List ℕ)) (s : Snapshot) → HasRead b read → SpellsSnapshot s (read ++ part ∷ more)
     → IsOfNetwork b s → ⊥
 
 -- the parts that were read are the text of no state of the network
-abbrev pub IsNoSnapshot : Begun → Type 0
-IsNoSnapshot b = (read : List (List ℕ)) (s : Snapshot) → HasRead b read → SpellsSnapshot s read → IsOfNetwork b s → ⊥
+abbrev pub IsNoText : Begun → Type 0
+IsNoText b = (read : List (List ℕ)) (s : Snapshot) → HasRead b read → SpellsSnapshot s read → IsOfNetwork b s → ⊥

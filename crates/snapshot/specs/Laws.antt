@@ -16,7 +16,7 @@ use Rattle.snapshot.specs.Snapshot.{part_limit, pair_text}
 abbrev pub EachHasOneText : Type 0
 EachHasOneText = (s : Snapshot) (a b : List (List ℕ)) → SpellsSnapshot s a → SpellsSnapshot s b → a ≡ b
 
--- a text is that of one state
+-- a text is that of one state at most
 abbrev pub EachIsOneSnapshot : Type 0
 EachIsOneSnapshot = (s t : Snapshot) (parts : List (List ℕ)) → SpellsSnapshot s parts → SpellsSnapshot t parts → s ≡ t
 
@@ -25,7 +25,8 @@ pub record FitsAPart (pair : Input × Output) : Type 0 where
   pub is_pair : IsPair pair
   pub within : length (pair_text pair) ≤ part_limit
 
--- a state whose numbers and lengths are in range, of which no output is too long for a part, has a text
+-- a state where a chain may end, whose numbers and lengths are in range, of which no output is too long for a part, has
+-- a text
 abbrev pub EachHasAText : Type 0
 EachHasAText =
     (s : Snapshot) → IsFront (front_of s) → HasText (item_of_front (front_of s))
@@ -35,9 +36,10 @@ EachHasAText =
 abbrev pub ending : (digest : List ℕ) → (chain : List Block) → Ledger → Snapshot
 ending digest chain m = record { tip = tip_after genesis_tip chain; fees = m.fees; digest = digest; utxo = m.utxo }
 
--- each valid chain ends where a chain may end, with as much lovelace as the genesis granted
-abbrev pub EachChainHasASnapshot : Type 0
-EachChainHasASnapshot =
+-- A valid chain whose blocks are in range ends where a chain may end, and its state holds as much lovelace as the
+-- genesis granted.
+abbrev pub EndsOfChains : Type 0
+EndsOfChains =
     (network : Network) (chain : List Block) (m : Ledger) (digest : List ℕ) → IsValidChain network chain
     → AllByRecursion IsBlock chain → ledger_of network chain ≡ Some m → length digest ≡ hash_size
     → IsFront (front_of (ending digest chain m)) × HoldsSupply (supply_of network.genesis) (ending digest chain m)

@@ -16,7 +16,8 @@ begun_of r = record {
   size = r.size;
 }
 
--- the outputs that are read behind a first part are no more than it announced, and no more lovelace than there is
+-- the first part has the digest of the network; the outputs behind it are no more than it announced, and with the fees
+-- hold no more lovelace than there is
 pub record FitBehind (supply : ℕ) (digest : List ℕ) (front : Front) (utxo : Utxo) : Type 0 where
   pub digest_is : front.digest ≡ digest
   pub counted : length (finite.entries utxo) ≤ front.count
@@ -27,5 +28,5 @@ abbrev pub Fit : (supply : ℕ) → (digest : List ℕ) → Option Front → Utx
 Fit supply digest None utxo = finite.entries utxo ≡ []
 Fit supply digest (Some front) utxo = FitBehind supply digest front utxo
 
-abbrev pub KeepsWithin : Inside → Type 0
-KeepsWithin r = Fit r.supply r.digest.bytes (option_map front_view r.front) r.outputs
+abbrev pub KeepsFit : Inside → Type 0
+KeepsFit r = Fit r.supply r.digest.bytes (option_map front_view r.front) r.outputs

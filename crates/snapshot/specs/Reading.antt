@@ -1,5 +1,5 @@
 -- Reading the parts of a state's text from left to right: each reading gives what stands first and the bytes after it,
--- or None where no such part stands there.
+-- or None where no such text stands there.
 use Rattle.std.specs.Prelude.{ℕ, List, Option}
 use Rattle.cbor.specs.Reading.{head_at, fixed_at}
 use Rattle.cbor.specs.Shapes.{Reading, as_at, optional_at, both_at, array_at}
@@ -13,18 +13,18 @@ use Rattle.snapshot.specs.Snapshot.{Front}
 unfoldable pub hash_at : Reading (Option (List ℕ))
 hash_at bytes = optional_at (fixed_at hash_size) bytes
 
--- where a chain ends with these parts
+-- where a chain ends with these members
 abbrev pub tip_with : ℕ × (ℕ × Option (List ℕ)) → Tip
-tip_with parts = record { number = parts.0; slot = parts.1.0; hash = parts.1.1 }
+tip_with members = record { number = members.0; slot = members.1.0; hash = members.1.1 }
 
 -- where a chain ends: an array of the number, the slot and the hash
 unfoldable pub tip_at : Reading Tip
 tip_at bytes = as_at tip_with (array_at 3 (both_at (head_at 0) (both_at (head_at 0) hash_at))) bytes
 
--- what the first part says, of these parts
+-- what the first part says, of these members
 abbrev pub front_with : Tip × (ℕ × (List ℕ × ℕ)) → Front
-front_with parts =
-    record { tip = parts.0; fees = parts.1.0; digest = parts.1.1.0; count = parts.1.1.1 }
+front_with members =
+    record { tip = members.0; fees = members.1.0; digest = members.1.1.0; count = members.1.1.1 }
 
 -- what the first part says: an array of where the chain ends, the fees, the digest and the number of outputs
 unfoldable pub front_at : Reading Front

@@ -1,5 +1,5 @@
--- THE TEXT OF A LEDGER'S STATE (this project's own): where a chain ends, the fees, the digest of the network's
--- parameters and the unspent outputs, as deterministic CBOR (RFC 8949, 4.2.1) in parts of at most 1 MiB. The first part
+-- THE TEXT OF A LEDGER'S STATE (this project's own): where a chain ends, the fees, the digest of what its network
+-- agrees on and the unspent outputs, as deterministic CBOR (RFC 8949, 4.2.1) in parts of at most 1 MiB. The first part
 -- is one array, which also says how many outputs there are. Each part after it is a sequence (RFC 8742) of the outputs
 -- with their inputs, in the order of the inputs, as many as it has room for. So a state has no more than one list of
 -- parts.
@@ -17,7 +17,7 @@ use Rattle.model.specs.Utxo.{Utxo, outputs_of, coin_of}
 abbrev pub part_limit : ℕ
 part_limit = 1048576
 
--- where the chain ends, the fees so far, 32 bytes by which the network is told from others, and what is unspent
+-- where the chain ends, the fees so far, the digest of what its network agrees on, 32 bytes, and what is unspent
 pub record Snapshot : Type 0 where
   pub tip : Tip
   pub fees : ℕ

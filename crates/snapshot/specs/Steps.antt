@@ -37,7 +37,7 @@ IsNoPair bytes faults.CoinsOverSupply = ⊥
 IsNoPair bytes faults.Unfinished = ⊥
 IsNoPair bytes faults.CoinsMissing = ⊥
 
--- the output that stands first was put after the others, of which there are neither too many nor too much
+-- the output that stands first was put after the others, of which there are not too many, nor too much lovelace
 pub record IsOneRead (h : Front) (supply : ℕ) (before now : List (Input × Output)) (bytes rest : List ℕ)
     : Type 0 where
   pub pair : Input × Output

@@ -33,7 +33,8 @@ pub record IsNext (old new : ToWrite) (part : List ℕ) : Type 0 where
   pub only : (parts : List (List ℕ)) → AreLeft old parts
       → (more : List (List ℕ)) × (parts ≡ part ∷ more) × AreLeft new more
 
--- the part has the first of these outputs, and those that are left come after them
+-- the part has the first of these outputs, or none, those that are left come after them, and it is no longer than a
+-- part may be
 pub record IsFilled (before now : List (Input × Output)) (part : List ℕ) : Type 0 where
   pub here : List (Input × Output)
   pub split : before ≡ here ++ now

@@ -2,7 +2,7 @@
 
 ghost use Rattle.std.specs.Prelude.{◌≡◌};
 ghost use Rattle.cbor.specs.declared.fault.CborFault.TheVariants as cbor;
-ghost use Rattle.snapshot.specs.declared.fault.SnapshotFault.TheVariants as state;
+ghost use Rattle.snapshot.specs.declared.fault.SnapshotFault.TheVariants as faults;
 ghost use Rattle.snapshot.specs.declared.fault.WriteFault.TheVariants as write;
 
 use cbor::CborFault;
@@ -29,14 +29,14 @@ pub enum SnapshotFault {
     /// There are more outputs than the first part announced.
     #[error("there are more outputs than announced")]
     TooMany,
-    /// The outputs and the fees are more lovelace than there is.
-    #[error("the outputs and the fees are more lovelace than there is")]
+    /// The outputs and the fees hold more lovelace than there is.
+    #[error("the outputs and the fees hold more lovelace than there is")]
     CoinsOverSupply,
     /// The first part is missing, or outputs that it announced.
     #[error("the text is not finished")]
     Unfinished,
-    /// The outputs and the fees are less lovelace than there is.
-    #[error("the outputs and the fees are less lovelace than there is")]
+    /// The outputs and the fees hold less lovelace than there is.
+    #[error("the outputs and the fees hold less lovelace than there is")]
     CoinsMissing,
     /// Memory ran out.
     #[error("out of memory")]
@@ -55,7 +55,7 @@ pub enum WriteFault {
 }
 
 impl From<AllocError> for SnapshotFault {
-    ghost from_gives = { λ _ e. e ≡ state.OutOfMemory };
+    ghost from_gives = { λ _ e. e ≡ faults.OutOfMemory };
 
     fn from(_error: AllocError) -> SnapshotFault {
         SnapshotFault::OutOfMemory

@@ -21,7 +21,7 @@ pub struct Front {
     pub tip: Tip,
     /// The fees so far, in lovelace.
     pub fees: u64,
-    /// What the network agrees on.
+    /// The digest of what the network agrees on.
     pub digest: GenesisHash,
     /// How many outputs follow.
     pub count: u64,
@@ -108,7 +108,8 @@ impl Front {
         }
     }
 
-    /// What the bytes say, all of them, as the first part of a state's text. None where they are none. Constant time.
+    /// What the bytes say, all of them, as the first part of a state's text. None where they are no first part.
+    /// Constant time.
     pub fn of_part(part: &[u8]) -> Option<Front>
         ensures found { IfSome result (λ front. SaysFront part.now (front_view front)) }
         ensures none { IfNone result ((said : Said) → SaysFront part.now said → ⊥) }
@@ -123,7 +124,7 @@ impl Front {
         Some(front)
     }
 
-    /// Writes what the first part says. At Err a part of that may stand there.
+    /// Writes what the first part says. At Err some of its bytes may stand there.
     fn write(&self, out: &mut Vec<u8>) -> Result<(), AllocError>
         ensures ok { OnOk result (out.new.items ≡ out.old.items ++ text_of (item_of_front (front_view self.now))) }
         ensures has_text { OnOk result (HasText (item_of_front (front_view self.now))) }

@@ -1,6 +1,7 @@
-//! The text of a ledger's state: where a chain ends, the fees, the digest of what its network agrees on, and the
-//! unspent outputs. It is deterministic CBOR (RFC 8949, section 4.2.1) in parts of at most 1 MiB, and no state has two
-//! lists of parts, so that two texts can be compared byte by byte.
+//! Snapshots, and their texts. A snapshot is a ledger's state at the end of a chain: where that ends, the fees, the
+//! digest of what its network agrees on, and the unspent outputs. Its text is deterministic CBOR (RFC 8949, section
+//! 4.2.1) in parts of at most 1 MiB, and no state has two lists of parts, so that two texts can be compared byte by
+//! byte.
 //!
 //! The first part is one array: where the chain ends, the fees, the digest, and how many outputs follow. Each part
 //! after it is a sequence (RFC 8742) of outputs with the inputs that would spend them, `[input, output]`, in the order
@@ -31,13 +32,12 @@ mod laws;
 mod outputs;
 mod pair;
 mod reader;
+mod shown;
 mod snapshot;
 mod writer;
 
 pub use fault::{SnapshotFault, WriteFault};
-pub use laws::{
-    each_chain_has_a_snapshot, each_has_a_text, each_has_one_text, each_is_one_snapshot,
-};
+pub use laws::{each_has_a_text, each_has_one_text, each_is_one_snapshot, ends_of_chains};
 pub use pair::PART_LIMIT;
 pub use reader::SnapshotReader;
 pub use snapshot::{GenesisHash, GenesisKind, Snapshot};

@@ -50,9 +50,9 @@ fn are_in_range(input: &Input, output: &Output)
     let _nesting = output.value.nesting();
 }
 
-/// Writes the input and the output after their number. At Err a part of that may stand there.
+/// Writes the input and the output after their number. At Err some of its bytes may stand there.
 #[tactic(auto, unfolding(crate::specs::Snapshot::pair_text))]
-fn write_parts(out: &mut Vec<u8>, input: &Input, output: &Output) -> Result<(), AllocError>
+fn write_members(out: &mut Vec<u8>, input: &Input, output: &Output) -> Result<(), AllocError>
     ensures ok { OnOk result (out.new.items ≡ out.old.items ++ pair_text (input_of input.now, output_of output.now)) }
     ensures keeps { Keeps out.old.items out.new.items }
     ensures full { OnErr result (vec_capacity out.old < vec_len out.old +
@@ -79,7 +79,7 @@ pub fn put_pair(part: &mut Vec<u8>, input: &Input, output: &Output) -> bool
 {
     let start = part.len();
     are_in_range(input, output);
-    let Ok(()) = write_parts(part, input, output) else {
+    let Ok(()) = write_members(part, input, output) else {
         part.truncate(start);
         return false;
     };

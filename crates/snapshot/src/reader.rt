@@ -6,8 +6,8 @@ ghost use Rattle.std.specs.FinMap as finite;
 ghost use Rattle.snapshot.specs.Snapshot.{SpellsSnapshot};
 ghost use Rattle.snapshot.specs.Begun.{coin_in, HasRead};
 ghost use Rattle.snapshot.specs.View.{front_view, snapshot_view};
-ghost use Rattle.snapshot.specs.Faults.{IsFirstFault, IsLaterFault, IsPartFault, IsEndFault, IfAtFault};
-ghost use Rattle.snapshot.specs.Faults.{BeginsNoSnapshot, IsNoSnapshot, IsOfNetwork};
+ghost use Rattle.snapshot.specs.Faults.{IsFirstFault, IsLaterFault, IsPartFault, IsEndFault, UnlessOutOfMemory};
+ghost use Rattle.snapshot.specs.Faults.{BeginsNoText, IsNoText, IsOfNetwork};
 ghost use Rattle.snapshot.specs.Steps.{HasFirstSize, IsNoPair, IsOneRead, IsOneFault, IsRead, IsOutputsFault};
 
 use crate::fault::SnapshotFault;
@@ -99,9 +99,9 @@ fn read_outputs(
 pub struct SnapshotReader {
     alloc: Global,
     /// How much lovelace there is.
-    supply: u64,
+    pub(crate) supply: u64,
     /// The digest of what the network agrees on.
-    digest: GenesisHash,
+    pub(crate) digest: GenesisHash,
     /// What the first part said.
     front: Option<Front>,
     /// The outputs so far.
@@ -117,16 +117,16 @@ impl Model for SnapshotReader {
 
     ghost coded = { coded_begun };
 
-    ghost use Rattle.snapshot.specs.ReaderView.{begun_of, KeepsWithin};
+    ghost use Rattle.snapshot.specs.ReaderView.{begun_of, KeepsFit};
 
     ghost view = { begun_of };
 
-    ghost invariant = { KeepsWithin };
+    ghost invariant = { KeepsFit };
 }
 
 impl SnapshotReader {
-    /// A reader that has read nothing, of a state of the network that has so much lovelace, which is what its genesis
-    /// grants, and this digest of what it agrees on. Takes no memory.
+    /// A reader that has read nothing, of a state of one network: that with this digest of what it agrees on, and with
+    /// so much lovelace, which is what its genesis grants. Takes no memory.
     pub fn new(alloc: Global, supply: u64, digest: GenesisHash) -> SnapshotReader
         ensures read { HasRead result [] }
         ensures supply { result.supply ≡ supply }
@@ -190,12 +190,12 @@ impl SnapshotReader {
         Ok(())
     }
 
-    /// Reads the next part. Ok where it is one: its outputs come after the others, and are no more than announced, and
-    /// no more lovelace than there is. Err where no text of a state of this network begins so, for what is told:
-    /// `NotAPart`, `CoinsOverSupply`, of the first part also `OtherNetwork`, and of a later one `RoomLeft`,
-    /// `WrongOrder` and `TooMany`; and OutOfMemory, which is never told of the first part. With an Err the reader is as
-    /// it was. Linear in the bytes, and for each output the logarithm of the number of all; outputs of earlier parts
-    /// are not copied.
+    /// Reads the next part. Ok where it is one: the first has the digest of the network, and the outputs of a later one
+    /// come after the others, are no more than announced, and hold with the fees no more lovelace than there is. Err
+    /// where no text of a state of this network begins so, for what is told: `NotAPart`, `CoinsOverSupply`, of the
+    /// first part also `OtherNetwork`, and of a later one `RoomLeft`, `WrongOrder` and `TooMany`; and OutOfMemory,
+    /// which is never told of the first part. With an Err the reader is as it was. Linear in the bytes, and for each
+    /// output the logarithm of the number of all; outputs of earlier parts are not copied.
     pub fn push(&mut self, part: &[u8]) -> Result<(), SnapshotFault>
         ensures read { OnOk result ((parts : List (List ℕ)) →
             HasRead self.old parts → HasRead self.new (parts ++ part.now ∷ [])) }
@@ -203,7 +203,7 @@ impl SnapshotReader {
         ensures digest { self.new.digest ≡ self.old.digest }
         ensures err { OnErr result (self.new ≡ self.old) }
         ensures fault { IfErr result (IsPartFault self.old part.now) }
-        ensures refused { IfErr result (λ fault. IfAtFault fault (BeginsNoSnapshot self.old part.now)) }
+        ensures refused { IfErr result (λ fault. UnlessOutOfMemory fault (BeginsNoText self.old part.now)) }
     {
         let Some(front) = self.front else {
             return self.push_front(part);
@@ -211,7 +211,7 @@ impl SnapshotReader {
         self.push_outputs(&front, part)
     }
 
-    /// What the first part said, where all that it announced was read.
+    /// What the first part said, where all that it announced was read, and holds with the fees what there is.
     fn whole(&self) -> Result<Front, SnapshotFault>
         ensures front { IfOk result (λ front. self.now.front ≡ Some (front_view front)) }
         ensures counted { IfOk result (λ front. finite.len self.now.utxo ≡ front.count) }
@@ -231,14 +231,14 @@ impl SnapshotReader {
     }
 
     /// The state whose text the parts are that were read. Err `Unfinished` where the first part is missing or outputs
-    /// that it announced, and `CoinsMissing` where the outputs and the fees are less lovelace than there is: each says
+    /// that it announced, and `CoinsMissing` where the outputs and the fees hold less lovelace than there is: each says
     /// that the parts are no text of a state of this network. Constant time, and no memory.
     pub fn finish(self) -> Result<Snapshot, SnapshotFault>
         ensures spelled { IfOk result (λ state. (parts : List (List ℕ)) →
             HasRead self parts → SpellsSnapshot (snapshot_view state) parts) }
         ensures network { IfOk result (λ state. IsOfNetwork self (snapshot_view state)) }
         ensures fault { IfErr result (IsEndFault self) }
-        ensures refused { IfErr result (λ fault. IfAtFault fault (IsNoSnapshot self)) }
+        ensures refused { IfErr result (λ fault. UnlessOutOfMemory fault (IsNoText self)) }
     {
         match self.whole() {
             Err(fault) => Err(fault),

@@ -146,8 +146,8 @@ impl<'a> SnapshotWriter<'a> {
     /// The next part, or None where all are written. Of a state that has a text, the parts so far are a beginning of
     /// its one list of parts, and at None they are all of it. Err `TooLong` where the text of the next output has more
     /// than 1 MiB by itself: the state has no text. OutOfMemory where there is no memory for one more part: 1 MiB, or
-    /// 106 bytes for the first; never where all are written. With an Err the writer is as it was. Linear in the bytes
-    /// of the part, and for each output in it the logarithm of the number of all.
+    /// less than 200 bytes for the first; never where all are written. With an Err the writer is as it was. Linear in
+    /// the bytes of the part, and for each output in it the logarithm of the number of all.
     pub fn next_part(&mut self) -> Result<Option<Vec<u8>>, WriteFault>
         ensures part { IfOk result (λ r. IfSome r (λ part. IsNext self.old self.new part.items)) }
         ensures ended { IfOk result (λ r. IfNone r (AreLeft self.old [])) }

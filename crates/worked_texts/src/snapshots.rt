@@ -2,19 +2,19 @@
 
 use super::fixture::{MEMORY, boxed, check};
 use block::Tip;
-use ident::{KeyHash, TxId};
+use ident::{BlockHash, KeyHash, TxId};
 use snapshot::{GenesisHash, SnapshotFault, SnapshotReader, SnapshotWriter};
 use std::process::Abort;
 use tx::{Address, Credential, Input, Output};
 use utxo_rules::Utxo;
 use value::Value;
 
-/// The digest of the network: 32 bytes 11.
+/// The digest of the network: 32 bytes 0x11.
 fn digest() -> GenesisHash {
     GenesisHash::from_bytes([0x11; 32])
 }
 
-/// What the first part says: genesis, no fees, 32 bytes 11, and so many outputs, fewer than 24.
+/// What the first part says: genesis, no fees, 32 bytes 0x11, and so many outputs, fewer than 24.
 fn first_part(rt: &(impl Abort + AllocGlobal), count: u8) -> Vec<u8> {
     let mut part = Vec::new(rt.alloc());
     let front = [0x84, 0x83, 0x00, 0x00, 0xf6, 0x00, 0x58, 0x20];
@@ -24,8 +24,8 @@ fn first_part(rt: &(impl Abort + AllocGlobal), count: u8) -> Vec<u8> {
     part
 }
 
-/// Appends the output of index 0 of the transaction of 32 such bytes, at the key of 32 bytes 33 on network 0, of less
-/// than 24 lovelace.
+/// Appends the output of index 0 of the transaction of 32 such bytes, at the key whose hash is 32 bytes 0x33, on
+/// network 0, of less than 24 lovelace.
 fn put_pair(rt: &impl Abort, part: &mut Vec<u8>, id: u8, coin: u8) {
     part.extend_from_slice(&[0x82, 0x82, 0x58, 0x20])
         .expect(rt, MEMORY);
@@ -84,7 +84,7 @@ fn ended(reader: Box<SnapshotReader>) -> Option<SnapshotFault> {
     Box::into_inner(reader).finish().err()
 }
 
-/// What a reader that read the first part, which announced so many outputs, says of two outputs.
+/// What a reader that read the first part, which announced so many outputs, says of two outputs, or at the end.
 fn told(
     rt: &(impl Abort + AllocGlobal),
     supply: u64,
@@ -191,7 +191,7 @@ fn faults_of_outputs(rt: HostRuntime) {
     );
 }
 
-// What is no first part, or that of another network, and no later one; and after each refusal the reader goes on.
+// What is no first part, and no later one; after each refusal the reader goes on.
 #[test]
 fn faults_of_parts(rt: HostRuntime) {
     let first = first_part(&rt, 2);
@@ -227,6 +227,76 @@ fn faults_of_parts(rt: HostRuntime) {
         &rt,
         "a snapshot",
         ended(reader) == Some(SnapshotFault::Unfinished),
+    );
+}
+
+/// What the first part says at a chain's end: block 2 in slot 24, whose hash is 32 bytes 0x44, 3 lovelace of fees, 32
+/// bytes 0x11, and two outputs.
+fn later_part(rt: &(impl Abort + AllocGlobal)) -> Vec<u8> {
+    let mut part = Vec::new(rt.alloc());
+    let front = [0x84, 0x83, 0x02, 0x18, 0x18, 0x58, 0x20];
+    part.extend_from_slice(&front).expect(rt, MEMORY);
+    part.extend_from_slice(&[0x44; 32]).expect(rt, MEMORY);
+    part.extend_from_slice(&[0x03, 0x58, 0x20])
+        .expect(rt, MEMORY);
+    part.extend_from_slice(&[0x11; 32]).expect(rt, MEMORY);
+    part.push(0x02).expect(rt, MEMORY);
+    part
+}
+
+/// Where that chain ends.
+fn end() -> Tip {
+    Tip {
+        number: 2,
+        slot: 24,
+        hash: Some(BlockHash::from_bytes([0x44; 32])),
+    }
+}
+
+// The state at the end of a chain is written and read, with its fees, and each output at its input.
+#[test]
+fn a_state_at_the_end_of_a_chain(rt: HostRuntime) {
+    let mut utxo = boxed(&rt, Utxo::new(rt.alloc()));
+    insert(&rt, &mut utxo, [0x22; 32], 5);
+    insert(&rt, &mut utxo, [0x23; 32], 7);
+    let writer = SnapshotWriter::new(rt.alloc(), end(), 3, digest(), &utxo);
+    let mut writer = writer.expect(&rt, "where a chain may end");
+    let first = later_part(&rt);
+    writes(&rt, &mut writer, &first);
+    let mut reader = reader(&rt, 15, digest());
+    let outputs = two_pairs(&rt, 0x22, 0x23);
+    let read = pushed(&mut reader, &first).is_none() && pushed(&mut reader, &outputs).is_none();
+    check(&rt, "a snapshot", read);
+    let state = boxed(&rt, Box::into_inner(reader).finish().expect(&rt, "a state"));
+    check(&rt, "its end", state.tip == end() && state.fees == 3);
+    check(
+        &rt,
+        "its outputs",
+        has(&state.utxo, 0x22, 5) && has(&state.utxo, 0x23, 7),
+    );
+}
+
+/// The outputs have one of so much lovelace at index 0 of the transaction of these bytes.
+fn has(utxo: &Utxo, id: u8, coin: u64) -> bool {
+    let input = Input {
+        transaction: TxId::from_bytes([id; 32]),
+        index: 0,
+    };
+    match utxo.get(&input) {
+        Some(output) => output.value.coin() == coin,
+        None => false,
+    }
+}
+
+// Fees over the supply are refused at the first part.
+#[test]
+fn fees_over_the_supply(rt: HostRuntime) {
+    let mut reader = reader(&rt, 2, digest());
+    let told = pushed(&mut reader, &later_part(&rt));
+    check(
+        &rt,
+        "a snapshot",
+        told == Some(SnapshotFault::CoinsOverSupply),
     );
 }
 
