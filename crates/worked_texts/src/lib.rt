@@ -33,8 +33,6 @@ mod seen_blocks;
 #[cfg(test)]
 mod shown;
 #[cfg(test)]
-mod snapshots;
-#[cfg(test)]
 mod sums;
 #[cfg(test)]
 mod transaction_making;
